@@ -1,0 +1,125 @@
+-- Laws of `odd`, `bits`, `bit` and `packed`, and the loops over the bits of a word.
+use Prim.Native.Nat.{ℕ, zero, suc, _+_, _-_, _*_, _/_, _%_, _^_, _≤_, _<_, max}
+use mathlib.Core.Path.{_≡_, refl, sym, ap, ap₂, _∙_}
+use mathlib.Core.Bool.{Bool, true, false, xor, _||_}
+use mathlib.Core.List.{List, [], _∷_, _++_}
+use mathlib.Core.Logic.{⊎-elim}
+use native.Mathlib.Nat.{two-pow-succ, pow-suc, pow-succ', div-div-eq-div-mul, div-one, div-eq-of-lt, mod-lt, suc-add, mul-assoc}
+use native.Mathlib.Numerals.{add-one}
+use native.Mathlib.Omega.{arith}
+use borrow.Author.Tests.{eqb-true, eqb-false}
+use lib.Bits.{bitOr, or-step}
+use lib.Dec.{eqb}
+use lib.ListN.{length, getD, drop}
+use lib.Pow.{pow-pos, split}
+use lib.Seq.{drop-nil}
+use Rattle.lists.specs.Bits.{odd, bits, bit, packed}
+use Rattle.lists.proofs.BoolLaws.{below-or}
+
+pub odd-bit : (x : ℕ) → bit (odd x) ≡ x % 2
+odd-bit x = go (odd x) refl
+  where
+    go : (b : Bool) → odd x ≡ b → bit b ≡ x % 2
+    go true e = sym (eqb-true (x % 2) 1 e)
+    go false e = let n : x % 2 ≡ 1 → ⊥ = eqb-false (x % 2) 1 e in omega arith
+
+pub bit-odd : (b : Bool) → odd (bit b) ≡ b
+bit-odd true = refl
+bit-odd false = refl
+
+pub bit-lt : (b : Bool) → bit b < 2
+bit-lt true = omega arith
+bit-lt false = omega arith
+
+-- the value of a literal: one bit, and another that says whether to turn it round
+pub odd-xor : (x y : ℕ) → odd ((x % 2 + y % 2) % 2) ≡ xor (odd x) (odd y)
+unfolding xor
+odd-xor x y = ap₂ (λ (a b : ℕ). odd ((a + b) % 2)) (sym (odd-bit x)) (sym (odd-bit y)) ∙ go (odd x) (odd y)
+  where
+    go : (a b : Bool) → odd ((bit a + bit b) % 2) ≡ xor a b
+    go true true = refl
+    go true false = refl
+    go false true = refl
+    go false false = refl
+
+pub odd-or : (a b : ℕ) → odd (bitOr a b) ≡ (odd a || odd b)
+odd-or a b =
+    let m : bitOr a b % 2 ≡ max (a % 2) (b % 2) = omega (arith, or-step a b) in
+    rw m (ap₂ (λ (x y : ℕ). eqb (max x y) 1) (sym (odd-bit a)) (sym (odd-bit b)) ∙ go (odd a) (odd b))
+  where
+    go : (a b : Bool) → eqb (max (bit a) (bit b)) 1 ≡ (a || b)
+    go true true = refl
+    go true false = refl
+    go false true = refl
+    go false false = refl
+
+pub bits-length : (n x : ℕ) → length (bits n x) ≡ n
+bits-length zero x = refl
+bits-length (suc n) x = ap suc (bits-length n (x / 2))
+
+pub bits-at : (n x k : ℕ) → k < n → getD (bits n x) k false ≡ odd (x / 2 ^ k)
+bits-at zero x k h = absurd (omega arith)
+bits-at (suc n) x zero h = rw (div-one x)
+bits-at (suc n) x (suc k) h = bits-at n (x / 2) k (omega arith) ∙ rw (div-div-eq-div-mul x 2 (2 ^ k), ← pow-succ' 2 k)
+
+pub bits-append : (n m x : ℕ) → bits (n + m) x ≡ bits n x ++ bits m (x / 2 ^ n)
+bits-append zero m x = let e : 0 + m ≡ m = omega arith in rw (e, div-one x)
+bits-append (suc n) m x = rw (suc-add n m, bits-append n m (x / 2), div-div-eq-div-mul x 2 (2 ^ n), ← pow-succ' 2 n)
+
+-- a loop upward over n bits, where the code has x >> k: the first one, the bits from bit k on, none left
+pub bits-start : (n x : ℕ) → bits (n - 0) (x / 2 ^ 0) ≡ bits n x
+bits-start n x = let e : n - 0 ≡ n = omega arith in rw (e, div-one x)
+
+pub bits-more : (n x k : ℕ) → k < n → bits (n - k) (x / 2 ^ k) ≡ odd (x / 2 ^ k) ∷ bits (n - (k + 1)) (x / 2 ^ (k + 1))
+bits-more n x k h =
+    let e : n - k ≡ suc (n - (k + 1)) = omega arith in
+    let p : x / 2 ^ (k + 1) ≡ x / 2 ^ k / 2 = rw (add-one k, pow-suc 2 k) (sym (div-div-eq-div-mul x (2 ^ k) 2)) in
+    rw (e, p)
+
+pub bits-end : (n x k : ℕ) → n ≤ k → bits (n - k) x ≡ []
+bits-end n x k h = let e : n - k ≡ 0 = omega arith in rw e
+
+pub packed-lt : (bs : List Bool) → packed bs < 2 ^ length bs
+packed-lt [] = omega arith
+packed-lt (true ∷ bs) = rw (two-pow-succ (length bs)) (omega (arith, packed-lt bs))
+packed-lt (false ∷ bs) = rw (two-pow-succ (length bs)) (omega (arith, packed-lt bs))
+
+pub bits-packed : (bs : List Bool) → bits (length bs) (packed bs) ≡ bs
+bits-packed [] = refl
+bits-packed (b ∷ bs) =
+    let p : (bit b + 2 * packed bs) % 2 ≡ bit b % 2 = omega arith in
+    let q : (bit b + 2 * packed bs) / 2 ≡ packed bs = omega (arith, bit-lt b) in
+    rw (p, q, bits-packed bs, bit-odd b)
+
+pub packed-bits : (n x : ℕ) → x < 2 ^ n → packed (bits n x) ≡ x
+packed-bits zero x h = let k : x < 1 = h in omega arith
+packed-bits (suc n) x h =
+    let k : x < 2 ^ n + 2 ^ n = rw (two-pow-succ n) at h in
+    rw (odd-bit x, packed-bits n (x / 2) (omega arith)) (omega arith)
+
+pub bits-same : (n x y : ℕ) → x < 2 ^ n → y < 2 ^ n → bits n x ≡ bits n y → x ≡ y
+bits-same n x y h k e = sym (packed-bits n x h) ∙ ap packed e ∙ packed-bits n y k
+
+pub packed-append : (xs ys : List Bool) → packed (xs ++ ys) ≡ packed xs + 2 ^ length xs * packed ys
+packed-append [] ys = omega arith
+packed-append (b ∷ xs) ys = rw (packed-append xs ys, pow-succ' 2 (length xs), mul-assoc 2 (2 ^ length xs) (packed ys)) (omega arith)
+
+-- a loop that packs bits from the highest down: one bit more, at place k, and at the place k - 1
+pub packed-more : (bs : List Bool) (k : ℕ) → packed (drop k bs) ≡ bit (getD bs k false) + 2 * packed (drop (k + 1) bs)
+packed-more [] k = rw (drop-nil k, drop-nil (k + 1))
+packed-more (b ∷ bs) zero = refl
+packed-more (b ∷ bs) (suc k) = rw (suc-add k 1) (packed-more bs k)
+
+pub packed-down : (bs : List Bool) (k : ℕ) → 0 < k → packed (drop (k - 1) bs) ≡ bit (getD bs (k - 1) false) + 2 * packed (drop k bs)
+packed-down bs k h = let e : k - 1 + 1 ≡ k = omega arith in rw e at (packed-more bs (k - 1))
+
+-- x has no bit above the first n (the other way is `div-eq-of-lt` of `native.Mathlib.Nat`)
+module _ (x n : ℕ) where
+  pub fits : x / 2 ^ n ≡ 0 → x < 2 ^ n
+  fits h =
+      let s : 0 * 2 ^ n + x % 2 ^ n ≡ x = rw h at (split x n) in
+      let r : x % 2 ^ n < 2 ^ n = mod-lt x (pow-pos n) in
+      omega arith
+
+  pub fits-not : (x / 2 ^ n ≡ 0 → ⊥) → 2 ^ n ≤ x
+  fits-not h = ⊎-elim (λ k. absurd (h (div-eq-of-lt k))) (λ k. k) (below-or x (2 ^ n))

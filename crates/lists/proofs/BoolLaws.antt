@@ -1,0 +1,44 @@
+-- What a test made of tests says of them, and which way a test goes. (`Bool·not-not`, `and-true`, .. are in `mathlib.Core.Bool`.)
+use Prim.Native.Nat.{ℕ, _≤_, _<_}
+use mathlib.Core.Path.{_≡_, refl, sym, _∙_}
+use mathlib.Core.Bool.{Bool, true, false, _&&_, _||_, true≢false}
+use mathlib.Core.Logic.{_⊎_, inl, inr}
+use native.Mathlib.Decide.{decLt}
+use native.Mathlib.Omega.{arith}
+
+pub true-false : {X : Type 0} {b : Bool} → b ≡ true → b ≡ false → X
+true-false h k = absurd (true≢false (sym h ∙ k))
+
+pub to-false : (b : Bool) → (b ≡ true → ⊥) → b ≡ false
+to-false true h = absurd (h refl)
+to-false false h = refl
+
+pub true-or-false : (b : Bool) → (b ≡ true) ⊎ (b ≡ false)
+true-or-false true = inl refl
+true-or-false false = inr refl
+
+pub and-left : (a b : Bool) → (a && b) ≡ true → a ≡ true
+and-left true b h = refl
+and-left false b h = h
+
+pub and-right : (a b : Bool) → (a && b) ≡ true → b ≡ true
+and-right true b h = h
+and-right false b h = true-false h refl
+
+pub and-both : (a b : Bool) → a ≡ true → b ≡ true → (a && b) ≡ true
+and-both a b h k = rw (h, k)
+
+pub or-left : (a b : Bool) → (a || b) ≡ false → a ≡ false
+or-left true b h = h
+or-left false b h = refl
+
+pub or-right : (a b : Bool) → (a || b) ≡ false → b ≡ false
+or-right true b h = true-false refl h
+or-right false b h = h
+
+pub below-or : (a b : ℕ) → (a < b) ⊎ (b ≤ a)
+below-or a b = go (decLt a b)
+  where
+    go : Dec (a < b) → (a < b) ⊎ (b ≤ a)
+    go (yes h) = inl h
+    go (no h) = inr (omega arith)

@@ -1,0 +1,10 @@
+pub mod BoolLaws
+pub mod RestLaws
+pub mod PartLaws
+pub mod TestLaws
+pub mod WordLaws
+pub mod BitLaws
+pub mod ZeroLaws
+pub mod BitSetLaws
+pub mod OnceLaws
+pub mod Examples

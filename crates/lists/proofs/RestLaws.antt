@@ -1,0 +1,26 @@
+-- The rest of a list at a loop's place, in the code's `i + 1`, and a list copied element by element. (The end of a loop is `drop-of-length-le` of `lib.ListN`.)
+use Prim.Native.Nat.{ℕ, _+_, _≤_, _<_}
+use mathlib.Core.Path.{_≡_, sym, _∙_}
+use mathlib.Core.List.{List, [], _∷_, _++_}
+use native.Mathlib.Nat.{add-zero}
+use native.Mathlib.Numerals.{add-one}
+use lib.ListN.{length, getD, take, drop, set}
+use lib.Seq.{drop-cons, take-suc, take-suc-set, take-all, getD-drop}
+
+pub rest-head : {A : Type 0} (l : List A) (i : ℕ) (d : A) → getD (drop i l) 0 d ≡ getD l i d
+rest-head l i d = rw add-zero at (getD-drop i l 0 d)
+
+module _ {A : Type 0} (l : List A) (i : ℕ) (d : A) (h : i < length l) where
+  pub rest-more : drop i l ≡ getD l i d ∷ drop (i + 1) l
+  rest-more = rw (add-one i) (drop-cons l i d h)
+
+  pub take-next : take (i + 1) l ≡ take i l ++ getD l i d ∷ []
+  take-next = rw (add-one i) (take-suc l i d h)
+
+-- r becomes a copy of l; its first i elements are copied
+module _ {A : Type 0} (r l : List A) (i : ℕ) (same : take i r ≡ take i l) where
+  pub copy-more : (v d : A) → v ≡ getD l i d → i < length r → i < length l → take (i + 1) (set r i v) ≡ take (i + 1) l
+  copy-more v d e h k = rw (add-one, take-suc-set r i v h, take-suc l i d k, same, e)
+
+  pub copy-end : length r ≤ i → length l ≤ i → r ≡ l
+  copy-end h k = sym (take-all i r h) ∙ same ∙ take-all i l k

@@ -1,0 +1,139 @@
+-- Laws of `all`, `any`, `Each` and `every`, and the loops that compute them.
+use Prim.Native.Nat.{ℕ, zero, suc, _+_, _-_, _≤_, _<_}
+use mathlib.Core.Path.{_≡_, refl, sym, _∙_}
+use mathlib.Core.Bool.{Bool, true, false, not, _&&_, _||_, and-assoc, or-assoc}
+use mathlib.Core.List.{List, [], _∷_, _++_, map}
+use native.Mathlib.Omega.{arith}
+use lib.ListN.{length, getD, take, drop, drop-of-length-le}
+use Rattle.lists.specs.Parts.{part}
+use Rattle.lists.specs.Tests.{all, any, Each, every}
+use Rattle.lists.proofs.BoolLaws.{true-false, and-left, and-right}
+use Rattle.lists.proofs.RestLaws.{rest-more}
+
+module _ {A : Type 0} (p : A → Bool) where
+  pub all-append : (xs ys : List A) → all p (xs ++ ys) ≡ (all p xs && all p ys)
+  all-append [] ys = refl
+  all-append (x ∷ xs) ys = rw (all-append xs ys) (sym (and-assoc (p x) (all p xs) (all p ys)))
+
+  pub any-append : (xs ys : List A) → any p (xs ++ ys) ≡ (any p xs || any p ys)
+  any-append [] ys = refl
+  any-append (x ∷ xs) ys = rw (any-append xs ys) (sym (or-assoc (p x) (any p xs) (any p ys)))
+
+  pub all-at : (l : List A) (i : ℕ) (d : A) → all p l ≡ true → i < length l → p (getD l i d) ≡ true
+  all-at [] i d h k = absurd (omega arith)
+  all-at (x ∷ l) zero d h k = and-left (p x) (all p l) h
+  all-at (x ∷ l) (suc i) d h k = all-at l i d (and-right (p x) (all p l) h) (omega arith)
+
+  pub all-take : (n : ℕ) (l : List A) → all p l ≡ true → all p (take n l) ≡ true
+  all-take zero l h = refl
+  all-take (suc n) [] h = refl
+  all-take (suc n) (x ∷ l) h = rw (and-left (p x) (all p l) h, all-take n l (and-right (p x) (all p l) h))
+
+  pub all-drop : (n : ℕ) (l : List A) → all p l ≡ true → all p (drop n l) ≡ true
+  all-drop zero l h = h
+  all-drop (suc n) [] h = refl
+  all-drop (suc n) (x ∷ l) h = all-drop n l (and-right (p x) (all p l) h)
+
+  pub all-part : (l : List A) (a e : ℕ) → all p l ≡ true → all p (part l a e) ≡ true
+  all-part l a e h = all-take (e - a) (drop a l) (all-drop a l h)
+
+  -- all fail, exactly where none passes (`not-true` of `borrow.Author.Tests` reads it back)
+  pub not-any : (l : List A) → all (λ x. not (p x)) l ≡ not (any p l)
+  not-any [] = refl
+  not-any (x ∷ l) = rw (not-any l) (go (p x) (any p l))
+    where
+      go : (a b : Bool) → (not a && not b) ≡ not (a || b)
+      go true b = refl
+      go false b = refl
+
+  pub each-of-all : (l : List A) → all p l ≡ true → Each (λ x. p x ≡ true) l
+  each-of-all [] h = tt
+  each-of-all (x ∷ l) h = (and-left (p x) (all p l) h, each-of-all l (and-right (p x) (all p l) h))
+
+  pub all-of-each : (l : List A) → Each (λ x. p x ≡ true) l → all p l ≡ true
+  all-of-each [] e = refl
+  all-of-each (x ∷ l) e = rw (e .0, all-of-each l (e .1))
+
+module _ {A : Type 0} (p q : A → Bool) (same : (x : A) → p x ≡ q x) where
+  pub all-cong : (l : List A) → all p l ≡ all q l
+  all-cong [] = refl
+  all-cong (x ∷ l) = rw (same x, all-cong l)
+
+  pub any-cong : (l : List A) → any p l ≡ any q l
+  any-cong [] = refl
+  any-cong (x ∷ l) = rw (same x, any-cong l)
+
+module _ {A B : Type 0} (f : A → B) where
+  pub all-map : (p : B → Bool) (l : List A) → all p (map f l) ≡ all (λ x. p (f x)) l
+  all-map p [] = refl
+  all-map p (x ∷ l) = rw (all-map p l)
+
+  pub any-map : (p : B → Bool) (l : List A) → any p (map f l) ≡ any (λ x. p (f x)) l
+  any-map p [] = refl
+  any-map p (x ∷ l) = rw (any-map p l)
+
+  pub each-map : (P : B → Type 0) (l : List A) → Each (λ x. P (f x)) l → Each P (map f l)
+  each-map P [] e = tt
+  each-map P (x ∷ l) e = (e .0, each-map P l (e .1))
+
+-- a loop that asks for all: r is what it has to answer, and its answer so far is true
+module _ {A : Type 0} (p : A → Bool) (l : List A) (i : ℕ) (r : Bool) (k : r ≡ all p (drop i l)) where
+  pub all-stop : (d : A) → i < length l → p (getD l i d) ≡ false → false ≡ r
+  all-stop d h e = sym (k ∙ rw (rest-more l i d h, e))
+
+  pub all-more : (d : A) → i < length l → p (getD l i d) ≡ true → r ≡ all p (drop (i + 1) l)
+  all-more d h e = k ∙ rw (rest-more l i d h, e)
+
+  pub all-end : length l ≤ i → true ≡ r
+  all-end h = sym (k ∙ rw (drop-of-length-le l h))
+
+-- a loop that asks for one: its answer so far is false
+module _ {A : Type 0} (p : A → Bool) (l : List A) (i : ℕ) (r : Bool) (k : r ≡ any p (drop i l)) where
+  pub any-stop : (d : A) → i < length l → p (getD l i d) ≡ true → true ≡ r
+  any-stop d h e = sym (k ∙ rw (rest-more l i d h, e))
+
+  pub any-more : (d : A) → i < length l → p (getD l i d) ≡ false → r ≡ any p (drop (i + 1) l)
+  any-more d h e = k ∙ rw (rest-more l i d h, e)
+
+  pub any-end : length l ≤ i → false ≡ r
+  any-end h = sym (k ∙ rw (drop-of-length-le l h))
+
+module _ {A : Type 0} (P : A → Type 0) where
+  pub each-append : (xs ys : List A) → Each P xs → Each P ys → Each P (xs ++ ys)
+  each-append [] ys e f = f
+  each-append (x ∷ xs) ys e f = (e .0, each-append xs ys (e .1) f)
+
+  pub each-split : (xs ys : List A) → Each P (xs ++ ys) → Each P xs × Each P ys
+  each-split [] ys e = (tt, e)
+  each-split (x ∷ xs) ys e = let s = each-split xs ys (e .1) in ((e .0, s .0), s .1)
+
+  pub each-at : (l : List A) (i : ℕ) (d : A) → Each P l → i < length l → P (getD l i d)
+  each-at [] i d e h = absurd (omega arith)
+  each-at (x ∷ l) zero d e h = e .0
+  each-at (x ∷ l) (suc i) d e h = each-at l i d (e .1) (omega arith)
+
+  pub each-so : (Q : A → Type 0) → ((x : A) → P x → Q x) → (l : List A) → Each P l → Each Q l
+  each-so Q f [] e = tt
+  each-so Q f (x ∷ l) e = (f x (e .0), each-so Q f l (e .1))
+
+-- every test of the list passes: for a list that is written out, the product of their equations
+abbrev pub Passes : List Bool → Type 0
+Passes bs = Each (λ b. b ≡ true) bs
+
+pub every-facts : (bs : List Bool) → every bs ≡ true → Passes bs
+unfolding every
+every-facts [] h = tt
+every-facts (b ∷ bs) h = (and-left b (every bs) h, every-facts bs (and-right b (every bs) h))
+
+pub every-holds : (bs : List Bool) → Passes bs → every bs ≡ true
+unfolding every
+every-holds [] e = refl
+every-holds (b ∷ bs) e = rw (e .0, every-holds bs (e .1))
+
+-- test i fails; it computes where the list and i are written out
+pub every-fails : (bs : List Bool) (i : ℕ) → getD bs i true ≡ false → every bs ≡ false
+unfolding every
+every-fails [] i h = true-false refl h
+every-fails (b ∷ bs) zero h = rw h
+every-fails (true ∷ bs) (suc i) h = every-fails bs i h
+every-fails (false ∷ bs) (suc i) h = refl

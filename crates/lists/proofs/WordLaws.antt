@@ -1,0 +1,131 @@
+-- Laws of `pairsOf`, `triplesOf` and `wordsOf`, and the loops over flat words.
+use Prim.Native.Nat.{ℕ, zero, suc, _+_, _*_, _/_, _%_, _≤_, _<_}
+use mathlib.Core.Path.{_≡_, refl, sym, _∙_}
+use mathlib.Core.List.{List, [], _∷_, _++_, append-assoc, append-nil}
+use native.Mathlib.Nat.{mul-suc}
+use native.Mathlib.Omega.{arith}
+use lib.ListN.{length, getD, take, drop, length-append, length-drop, drop-of-length-le}
+use lib.Seq.{take-nil, drop-nil}
+use Rattle.lists.specs.Words.{pairsOf, triplesOf, wordsOf}
+use Rattle.lists.proofs.RestLaws.{rest-head, rest-more, take-next}
+
+twice : (k : ℕ) → 2 * suc k ≡ suc (suc (2 * k))
+twice k = omega arith
+
+thrice : (k : ℕ) → 3 * suc k ≡ suc (suc (suc (3 * k)))
+thrice k = omega arith
+
+module _ {A B : Type 0} (make : A → A → B) where
+  pub pairs-count : (ws : List A) → length (pairsOf make ws) ≡ length ws / 2
+  pairs-count [] = refl
+  pairs-count (x ∷ []) = refl
+  pairs-count (x ∷ y ∷ ws) = rw (pairs-count ws) (omega arith)
+
+  pub pairs-append : (xs ys : List A) → length xs % 2 ≡ 0 → pairsOf make (xs ++ ys) ≡ pairsOf make xs ++ pairsOf make ys
+  pairs-append [] ys h = refl
+  pairs-append (x ∷ []) ys h = absurd (omega arith)
+  pairs-append (x ∷ y ∷ xs) ys h = rw (pairs-append xs ys (omega arith))
+
+  pub pairs-drop : (k : ℕ) (ws : List A) → drop k (pairsOf make ws) ≡ pairsOf make (drop (2 * k) ws)
+  pairs-drop zero ws = refl
+  pairs-drop (suc k) [] = rw (twice k)
+  pairs-drop (suc k) (x ∷ []) = rw (twice k, drop-nil (suc (2 * k)))
+  pairs-drop (suc k) (x ∷ y ∷ ws) = rw (twice k) (pairs-drop k ws)
+
+  pub pairs-take : (k : ℕ) (ws : List A) → take k (pairsOf make ws) ≡ pairsOf make (take (2 * k) ws)
+  pairs-take zero ws = refl
+  pairs-take (suc k) [] = rw (twice k)
+  pairs-take (suc k) (x ∷ []) = rw (twice k, take-nil (suc (2 * k)))
+  pairs-take (suc k) (x ∷ y ∷ ws) = rw (twice k, pairs-take k ws)
+
+  pub pairs-back : (words : B → List A) → ((x : B) → length (words x) ≡ 2) → ((x : B) → pairsOf make (words x) ≡ x ∷ []) → (l : List B) → pairsOf make (wordsOf words l) ≡ l
+  pairs-back words n e [] = refl
+  pairs-back words n e (x ∷ l) = pairs-append (words x) (wordsOf words l) (rw (n x) refl) ∙ rw (e x, pairs-back words n e l)
+
+  module _ (ws : List A) where
+    -- for code that keeps the place itself
+    pub pairs-step : (at : ℕ) (d : A) → at + 1 < length ws
+        → pairsOf make (drop at ws) ≡ make (getD ws at d) (getD ws (at + 1) d) ∷ pairsOf make (drop (at + 2) ws)
+    pairs-step at d h =
+        let n : at + 1 + 1 ≡ at + 2 = omega arith in
+        rw (rest-more ws at d (omega arith), rest-more ws (at + 1) d h, n)
+
+    -- no whole pair is left
+    pub pairs-end : (at : ℕ) → length ws ≤ at + 1 → pairsOf make (drop at ws) ≡ []
+    pairs-end at h = drop-of-length-le (pairsOf make (drop at ws)) {i = 0} (omega (arith, pairs-count (drop at ws), length-drop at ws))
+
+    pub pairs-more : (i : ℕ) (d : A) → 2 * i + 1 < length ws
+        → pairsOf make (drop (2 * i) ws) ≡ make (getD ws (2 * i) d) (getD ws (2 * i + 1) d) ∷ pairsOf make (drop (2 * (i + 1)) ws)
+    pairs-more i d h = let n : 2 * (i + 1) ≡ 2 * i + 2 = omega arith in rw n (pairs-step (2 * i) d h)
+
+    pub pairs-at : (i : ℕ) (d : A) (b : B) → 2 * i + 1 < length ws → getD (pairsOf make ws) i b ≡ make (getD ws (2 * i) d) (getD ws (2 * i + 1) d)
+    pairs-at i d b h = sym (rest-head (pairsOf make ws) i b) ∙ rw (pairs-drop i ws, pairs-more i d h)
+
+module _ {A B : Type 0} (make : A → A → A → B) where
+  pub triples-count : (ws : List A) → length (triplesOf make ws) ≡ length ws / 3
+  triples-count [] = refl
+  triples-count (x ∷ []) = refl
+  triples-count (x ∷ y ∷ []) = refl
+  triples-count (x ∷ y ∷ z ∷ ws) = rw (triples-count ws) (omega arith)
+
+  pub triples-append : (xs ys : List A) → length xs % 3 ≡ 0 → triplesOf make (xs ++ ys) ≡ triplesOf make xs ++ triplesOf make ys
+  triples-append [] ys h = refl
+  triples-append (x ∷ []) ys h = absurd (omega arith)
+  triples-append (x ∷ y ∷ []) ys h = absurd (omega arith)
+  triples-append (x ∷ y ∷ z ∷ xs) ys h = rw (triples-append xs ys (omega arith))
+
+  pub triples-drop : (k : ℕ) (ws : List A) → drop k (triplesOf make ws) ≡ triplesOf make (drop (3 * k) ws)
+  triples-drop zero ws = refl
+  triples-drop (suc k) [] = rw (thrice k)
+  triples-drop (suc k) (x ∷ []) = rw (thrice k)
+  triples-drop (suc k) (x ∷ y ∷ []) = rw (thrice k)
+  triples-drop (suc k) (x ∷ y ∷ z ∷ ws) = rw (thrice k) (triples-drop k ws)
+
+  -- the first k triples need the first 3 * k words alone
+  pub triples-take : (k : ℕ) (ws : List A) → take k (triplesOf make ws) ≡ triplesOf make (take (3 * k) ws)
+  triples-take zero ws = refl
+  triples-take (suc k) [] = rw (thrice k)
+  triples-take (suc k) (x ∷ []) = rw (thrice k)
+  triples-take (suc k) (x ∷ y ∷ []) = rw (thrice k)
+  triples-take (suc k) (x ∷ y ∷ z ∷ ws) = rw (thrice k, triples-take k ws)
+
+  pub triples-back : (words : B → List A) → ((x : B) → length (words x) ≡ 3) → ((x : B) → triplesOf make (words x) ≡ x ∷ []) → (l : List B) → triplesOf make (wordsOf words l) ≡ l
+  triples-back words n e [] = refl
+  triples-back words n e (x ∷ l) = triples-append (words x) (wordsOf words l) (rw (n x) refl) ∙ rw (e x, triples-back words n e l)
+
+  module _ (ws : List A) where
+    -- for code that keeps the place itself
+    pub triples-step : (at : ℕ) (d : A) → at + 2 < length ws
+        → triplesOf make (drop at ws) ≡ make (getD ws at d) (getD ws (at + 1) d) (getD ws (at + 2) d) ∷ triplesOf make (drop (at + 3) ws)
+    triples-step at d h =
+        let n : at + 1 + 1 ≡ at + 2 = omega arith in
+        let m : at + 2 + 1 ≡ at + 3 = omega arith in
+        rw (rest-more ws at d (omega arith), rest-more ws (at + 1) d (omega arith), n, rest-more ws (at + 2) d h, m)
+
+    -- no whole triple is left
+    pub triples-end : (at : ℕ) → length ws ≤ at + 2 → triplesOf make (drop at ws) ≡ []
+    triples-end at h = drop-of-length-le (triplesOf make (drop at ws)) {i = 0} (omega (arith, triples-count (drop at ws), length-drop at ws))
+
+    pub triples-more : (i : ℕ) (d : A) → 3 * i + 2 < length ws
+        → triplesOf make (drop (3 * i) ws) ≡ make (getD ws (3 * i) d) (getD ws (3 * i + 1) d) (getD ws (3 * i + 2) d) ∷ triplesOf make (drop (3 * (i + 1)) ws)
+    triples-more i d h = let n : 3 * (i + 1) ≡ 3 * i + 3 = omega arith in rw n (triples-step (3 * i) d h)
+
+    pub triples-at : (i : ℕ) (d : A) (b : B) → 3 * i + 2 < length ws
+        → getD (triplesOf make ws) i b ≡ make (getD ws (3 * i) d) (getD ws (3 * i + 1) d) (getD ws (3 * i + 2) d)
+    triples-at i d b h = sym (rest-head (triplesOf make ws) i b) ∙ rw (triples-drop i ws, triples-more i d h)
+
+module _ {A B : Type 0} (words : B → List A) where
+  pub words-append : (xs ys : List B) → wordsOf words (xs ++ ys) ≡ wordsOf words xs ++ wordsOf words ys
+  words-append [] ys = refl
+  words-append (x ∷ xs) ys = rw (words-append xs ys) (sym (append-assoc (words x) (wordsOf words xs) (wordsOf words ys)))
+
+  pub words-length : (n : ℕ) → ((x : B) → length (words x) ≡ n) → (l : List B) → length (wordsOf words l) ≡ n * length l
+  words-length n e [] = omega arith
+  words-length n e (x ∷ l) = length-append (words x) (wordsOf words l) ∙ rw (e x, words-length n e l, mul-suc n (length l)) (omega arith)
+
+  module _ (l : List B) (i : ℕ) (d : B) (h : i < length l) where
+    pub words-more : wordsOf words (drop i l) ≡ words (getD l i d) ++ wordsOf words (drop (i + 1) l)
+    words-more = rw (rest-more l i d h)
+
+    pub words-next : wordsOf words (take (i + 1) l) ≡ wordsOf words (take i l) ++ words (getD l i d)
+    words-next = rw (take-next l i d h, words-append (take i l) (getD l i d ∷ []), append-nil (words (getD l i d)))

@@ -1,0 +1,26 @@
+-- Which numbers stand in a list (01, items 4 and 5: each variable is defined once, an i or l is named once), and sets of numbers as bits of words.
+use Prim.Native.Nat.{ℕ, _/_, _%_, _^_}
+use mathlib.Core.Bool.{Bool, true, false, not, _&&_, _||_}
+use mathlib.Core.List.{List, [], _∷_}
+use lib.Bits.{bitOr}
+use lib.Dec.{eqb}
+use lib.ListN.{getD, set}
+use Rattle.lists.specs.Bits.{odd}
+
+-- x is an element
+abbrev pub member : ℕ → List ℕ → Bool
+member x [] = false
+member x (y ∷ ys) = eqb x y || member x ys
+
+-- no element stands twice
+abbrev pub distinct : List ℕ → Bool
+distinct [] = true
+distinct (x ∷ xs) = not (member x xs) && distinct xs
+
+-- k is in the set: bit k of the words, 64 bits in each; false past their end
+unfoldable pub holds : List ℕ → ℕ → Bool
+holds ws k = odd (getD ws (k / 64) 0 / 2 ^ (k % 64))
+
+-- the words with bit k set; unchanged where k is past their end
+unfoldable pub withBit : List ℕ → ℕ → List ℕ
+withBit ws k = set ws (k / 64) (bitOr (getD ws (k / 64) 0) (2 ^ (k % 64)))
