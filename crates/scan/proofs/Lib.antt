@@ -1,0 +1,5 @@
+pub mod SpanLaws
+pub mod BlockLaws
+pub mod AllowedLaws
+pub mod SameLaws
+pub mod Examples

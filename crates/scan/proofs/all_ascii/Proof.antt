@@ -1,0 +1,64 @@
+use Prim.Native.Nat.{_-_}
+use mathlib.Core.Path.{_≡_}
+use native.Mathlib.Omega.{arith}
+use borrow.Author.Needs.{needs}
+use lib.ListN.{length, drop}
+use Rattle.lists.specs.Tests.{all}
+use Rattle.lists.proofs.TestLaws.{all-end}
+use Rattle.scan.specs.Allowed.{isAscii}
+use Rattle.scan.proofs.BlockLaws.{block-more, block-stop}
+use Rattle.scan.proofs.all_ascii.Statement.{statement}
+use Rattle.scan.proofs.all_ascii.Tie as tie
+
+abbrev Inv-loop : tie.InvT-loop
+Inv-loop s at₀ at = all isAscii s ≡ all isAscii (drop at s)
+
+abbrev μ-loop : tie.MeasureT-loop
+μ-loop s at₀ at = length s - at
+
+loop-holds : tie.Need-loop-holds Inv-loop μ-loop
+loop-holds c = search needs
+
+block-end-requires : tie.Need-block-end-requires Inv-loop μ-loop
+block-end-requires c κs = search needs
+
+sub-block-ascii : tie.Need-sub-block-ascii Inv-loop μ-loop
+sub-block-ascii c = search needs
+
+part-block-ascii-start : tie.Need-part-block-ascii-start Inv-loop μ-loop
+part-block-ascii-start c = search needs
+
+part-block-ascii-end : tie.Need-part-block-ascii-end Inv-loop μ-loop
+part-block-ascii-end c = search needs
+
+block-ascii-requires : tie.Need-block-ascii-requires Inv-loop μ-loop
+block-ascii-requires c κs = search needs
+
+loop-less : tie.Need-loop-less Inv-loop μ-loop
+loop-less c = search needs
+
+loop-again : tie.Need-loop-again Inv-loop μ-loop
+loop-again c = block-more isAscii _ (c .before .before .before .before .before .loop .at) (c .before .before .before .block-end .result) (omega arith) _ (c .before .block-ascii .ensures) _ (c .before .before .before .before .before .loop .inv) (c .if1 .taken)
+
+returns : tie.Need-returns Inv-loop μ-loop
+returns c = block-stop isAscii _ (c .before .before .before .before .before .loop .at) (c .before .before .before .block-end .result) (omega arith) _ (c .before .block-ascii .ensures) _ (c .before .before .before .before .before .loop .inv) (c .if1 .left)
+
+returns-2 : tie.Need-returns-2 Inv-loop μ-loop
+returns-2 c = search all-end
+
+pub all-ascii-spec : {M : Type 1} → statement M
+all-ascii-spec =
+    tie.close
+    (tie.spec
+    Inv-loop
+    μ-loop
+    loop-holds
+    block-end-requires
+    sub-block-ascii
+    part-block-ascii-start
+    part-block-ascii-end
+    block-ascii-requires
+    loop-less
+    loop-again
+    returns
+    returns-2)

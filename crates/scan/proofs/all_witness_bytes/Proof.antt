@@ -1,0 +1,64 @@
+use Prim.Native.Nat.{_-_}
+use mathlib.Core.Path.{_≡_}
+use native.Mathlib.Omega.{arith}
+use borrow.Author.Needs.{needs}
+use lib.ListN.{length, drop}
+use Rattle.lists.specs.Tests.{all}
+use Rattle.lists.proofs.TestLaws.{all-end}
+use Rattle.scan.specs.Allowed.{isWitnessByte}
+use Rattle.scan.proofs.BlockLaws.{block-more, block-stop}
+use Rattle.scan.proofs.all_witness_bytes.Statement.{statement}
+use Rattle.scan.proofs.all_witness_bytes.Tie as tie
+
+abbrev Inv-loop : tie.InvT-loop
+Inv-loop s at₀ at = all isWitnessByte s ≡ all isWitnessByte (drop at s)
+
+abbrev μ-loop : tie.MeasureT-loop
+μ-loop s at₀ at = length s - at
+
+loop-holds : tie.Need-loop-holds Inv-loop μ-loop
+loop-holds c = search needs
+
+block-end-requires : tie.Need-block-end-requires Inv-loop μ-loop
+block-end-requires c κs = search needs
+
+sub-block-witness : tie.Need-sub-block-witness Inv-loop μ-loop
+sub-block-witness c = search needs
+
+part-block-witness-start : tie.Need-part-block-witness-start Inv-loop μ-loop
+part-block-witness-start c = search needs
+
+part-block-witness-end : tie.Need-part-block-witness-end Inv-loop μ-loop
+part-block-witness-end c = search needs
+
+block-witness-requires : tie.Need-block-witness-requires Inv-loop μ-loop
+block-witness-requires c κs = search needs
+
+loop-less : tie.Need-loop-less Inv-loop μ-loop
+loop-less c = search needs
+
+loop-again : tie.Need-loop-again Inv-loop μ-loop
+loop-again c = block-more isWitnessByte _ (c .before .before .before .before .before .loop .at) (c .before .before .before .block-end .result) (omega arith) _ (c .before .block-witness .ensures) _ (c .before .before .before .before .before .loop .inv) (c .if1 .taken)
+
+returns : tie.Need-returns Inv-loop μ-loop
+returns c = block-stop isWitnessByte _ (c .before .before .before .before .before .loop .at) (c .before .before .before .block-end .result) (omega arith) _ (c .before .block-witness .ensures) _ (c .before .before .before .before .before .loop .inv) (c .if1 .left)
+
+returns-2 : tie.Need-returns-2 Inv-loop μ-loop
+returns-2 c = search all-end
+
+pub all-witness-bytes-spec : {M : Type 1} → statement M
+all-witness-bytes-spec =
+    tie.close
+    (tie.spec
+    Inv-loop
+    μ-loop
+    loop-holds
+    block-end-requires
+    sub-block-witness
+    part-block-witness-start
+    part-block-witness-end
+    block-witness-requires
+    loop-less
+    loop-again
+    returns
+    returns-2)

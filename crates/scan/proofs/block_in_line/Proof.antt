@@ -1,0 +1,55 @@
+use Prim.Native.Nat.{_-_}
+use mathlib.Core.Bool.{cond}
+use borrow.Author.Needs.{needs}
+use lib.Dec.{eqb}
+use lib.ListN.{length}
+use Rattle.scan.proofs.AllowedLaws.{in-line-rank}
+use Rattle.scan.specs.Spans.{inLine}
+use Rattle.scan.proofs.BlockLaws.{Highest, highest-none, highest-more, highest-end}
+use Rattle.scan.proofs.block_in_line.Statement.{statement}
+use Rattle.scan.proofs.block_in_line.Tie as tie
+
+abbrev Inv-loop : tie.InvT-loop
+Inv-loop s most₀ i₀ most i = Highest inLine 0 s most i
+
+abbrev μ-loop : tie.MeasureT-loop
+μ-loop s most₀ i₀ most i = length s - i
+
+loop-holds : tie.Need-loop-holds Inv-loop μ-loop
+loop-holds c = highest-none inLine (λ b. cond (eqb b 10) 1 0) 0 in-line-rank _
+
+shared-slice-read-line-feed : tie.Need-shared-slice-read-line-feed Inv-loop μ-loop
+shared-slice-read-line-feed c = search needs
+
+line-feed-requires : tie.Need-line-feed-requires Inv-loop μ-loop
+line-feed-requires c κs = search needs
+
+larger-requires : tie.Need-larger-requires Inv-loop μ-loop
+larger-requires c κs = search needs
+
+add-i : tie.Need-add-i Inv-loop μ-loop
+add-i c = search needs
+
+loop-less : tie.Need-loop-less Inv-loop μ-loop
+loop-less c = search needs
+
+loop-again : tie.Need-loop-again Inv-loop μ-loop
+loop-again c = highest-more inLine (λ b. cond (eqb b 10) 1 0) 0 in-line-rank _ _ _ (c .before .before .before .before .loop .inv) _ _ (search needs) (c .before .line-feed .ensures) (c .larger .ensures)
+
+returns : tie.Need-returns Inv-loop μ-loop
+returns c = highest-end inLine (λ b. cond (eqb b 10) 1 0) 0 in-line-rank _ _ _ (c .before .loop .inv) (search needs)
+
+pub block-in-line-spec : {M : Type 1} → statement M
+block-in-line-spec =
+    tie.close
+    (tie.spec
+    Inv-loop
+    μ-loop
+    loop-holds
+    shared-slice-read-line-feed
+    line-feed-requires
+    larger-requires
+    add-i
+    loop-less
+    loop-again
+    returns)
