@@ -1,0 +1,7 @@
+pub mod DigitLaws
+pub mod NumberLaws
+pub mod LineLaws
+pub mod FieldLaws
+pub mod LiteralLaws
+pub mod TextLaws
+pub mod Examples

@@ -1,0 +1,81 @@
+use Prim.Native.Nat.{_-_, _<_, _^_}
+use mathlib.Core.Path.{sym, _≡_}
+use borrow.Author.Needs.{needs}
+use lib.ListN.{length, drop}
+use Rattle.text.proofs.DigitLaws.{at-low, at-high, at-over, at-end, at-digit, digits-start, digits-none}
+use Rattle.text.specs.Numbers.{digitsOf, digitsAfter}
+use Rattle.text.proofs.digits.Statement.{statement}
+use Rattle.text.proofs.digits.Tie as tie
+
+abbrev Inv-loop : tie.InvT-loop
+Inv-loop f at v₀ i₀ v i = (v < 2 ^ 64) × (digitsOf (drop at f) ≡ digitsAfter v (drop i f))
+
+abbrev μ-loop : tie.MeasureT-loop
+μ-loop f at v₀ i₀ v i = length f - i
+
+returns : tie.Need-returns Inv-loop μ-loop
+returns c = sym (digits-none _ _ (c .if1 .taken))
+
+loop-holds : tie.Need-loop-holds Inv-loop μ-loop
+loop-holds c = (search needs, digits-start _ _ (c .if1 .left))
+
+shared-slice-read-b : tie.Need-shared-slice-read-b Inv-loop μ-loop
+shared-slice-read-b c = search needs
+
+returns-2 : tie.Need-returns-2 Inv-loop μ-loop
+returns-2 c = search at-low
+
+returns-3 : tie.Need-returns-3 Inv-loop μ-loop
+returns-3 c = search at-high
+
+wide-requires : tie.Need-wide-requires Inv-loop μ-loop
+wide-requires c κs = search needs
+
+sub-d : tie.Need-sub-d Inv-loop μ-loop
+sub-d c = search needs
+
+sub-if4 : tie.Need-sub-if4 Inv-loop μ-loop
+sub-if4 c = search needs
+
+returns-4 : tie.Need-returns-4 Inv-loop μ-loop
+returns-4 c = search at-over
+
+mul-v : tie.Need-mul-v Inv-loop μ-loop
+mul-v c = search needs
+
+add-v : tie.Need-add-v Inv-loop μ-loop
+add-v c = search needs
+
+add-i : tie.Need-add-i Inv-loop μ-loop
+add-i c = search needs
+
+loop-less : tie.Need-loop-less Inv-loop μ-loop
+loop-less c = search needs
+
+loop-again : tie.Need-loop-again Inv-loop μ-loop
+loop-again c = (search needs, search at-digit)
+
+returns-5 : tie.Need-returns-5 Inv-loop μ-loop
+returns-5 c = search at-end
+
+pub digits-spec : {M : Type 1} → statement M
+digits-spec =
+    tie.close
+    (tie.spec
+    Inv-loop
+    μ-loop
+    returns
+    loop-holds
+    shared-slice-read-b
+    returns-2
+    returns-3
+    wide-requires
+    sub-d
+    sub-if4
+    returns-4
+    mul-v
+    add-v
+    add-i
+    loop-less
+    loop-again
+    returns-5)
