@@ -1,0 +1,7 @@
+-- Laws of the digits, laws for the functions' proofs, and worked examples.
+pub mod DecimalLaws
+pub mod FigureLaws
+pub mod ReadLaws
+pub mod WritingLaws
+pub mod BackLaws
+pub mod Examples
