@@ -1,0 +1,42 @@
+//! The words of the command line.
+
+use crate::compare::{Layer, Settings, text};
+
+pub const USAGE: &str = "usage: differential [text] [--seed N] [--cases N] [--self-test]
+  text         numbers, lines, fields, literals, text checks, decimal digits (the default)
+  --seed N     seed of the random inputs (default 1)
+  --cases N    random inputs a group (default 100000)
+  --self-test  compare deliberately wrong variants instead; succeeds when all are found";
+
+pub struct Arguments {
+    pub layer: Layer,
+    pub settings: Settings,
+    pub self_test: bool,
+}
+
+/// Reads the words, or says what is wrong with them.
+pub fn read(mut words: impl Iterator<Item = String>) -> Result<Arguments, String> {
+    let mut arguments = Arguments {
+        layer: text::LAYER,
+        settings: Settings {
+            seed: 1,
+            cases: 100_000,
+        },
+        self_test: false,
+    };
+    while let Some(word) = words.next() {
+        match word.as_str() {
+            "text" => arguments.layer = text::LAYER,
+            "--seed" => arguments.settings.seed = number(&word, words.next())?,
+            "--cases" => arguments.settings.cases = number(&word, words.next())?,
+            "--self-test" => arguments.self_test = true,
+            _ => return Err(format!("unknown word '{word}'")),
+        }
+    }
+    Ok(arguments)
+}
+
+fn number<T: std::str::FromStr>(option: &str, word: Option<String>) -> Result<T, String> {
+    word.and_then(|word| word.parse().ok())
+        .ok_or_else(|| format!("{option} needs a number"))
+}

@@ -1,0 +1,146 @@
+//! Texts to compare on: all short ones over an alphabet, and random ones.
+
+use crate::random::Random;
+
+/// Bytes that tell rules of numbers, lines and fields apart.
+pub const TELLING: [u8; 18] = [
+    b'0', b'1', b'7', b'9', b'+', b'-', b' ', 9, 10, 11, 13, b'/', b':', b'a', 0, 28, 31, 127,
+];
+
+/// A smaller alphabet, for texts of lines.
+const LINES: [u8; 11] = [b'0', b'1', b'9', b'+', b' ', 9, 10, 11, 13, 28, b'a'];
+
+/// The smallest one, for longer texts of lines. All its bytes are in `LINES`.
+const FEW: [u8; 6] = [b'0', b'1', b'+', b' ', 10, 13];
+
+/// Calls `each` with all texts over an alphabet of at most so many bytes.
+pub fn all_texts(alphabet: &[u8], longest: usize, mut each: impl FnMut(&[u8])) {
+    let mut text = Vec::with_capacity(longest);
+    extend_all(alphabet, longest, &mut text, &mut each);
+}
+
+fn extend_all(alphabet: &[u8], left: usize, text: &mut Vec<u8>, each: &mut impl FnMut(&[u8])) {
+    each(text);
+    if left == 0 {
+        return;
+    }
+    for &byte in alphabet {
+        text.push(byte);
+        extend_all(alphabet, left - 1, text, each);
+        text.pop();
+    }
+}
+
+/// The short texts that every group of line readers uses, each once: of up to 5 bytes over a small
+/// alphabet, of 6 and 7 over the smallest, and of up to 4 telling bytes.
+pub fn all_line_texts(mut each: impl FnMut(&[u8])) {
+    all_texts(&LINES, 5, &mut each);
+    all_texts(&FEW, 7, |text| {
+        if text.len() > 5 {
+            each(text);
+        }
+    });
+    all_texts(&TELLING, 4, |text| {
+        if text.iter().any(|byte| !LINES.contains(byte)) {
+            each(text);
+        }
+    });
+}
+
+/// The text as a `str`, where it is one that the published readers can meet.
+pub fn ascii(text: &[u8]) -> Option<&str> {
+    if text.is_ascii() {
+        std::str::from_utf8(text).ok()
+    } else {
+        None
+    }
+}
+
+/// A number as texts have it, or nearly: plus signs, leading zeros, up to 60 digits, seldom more.
+pub fn random_number(random: &mut Random) -> Vec<u8> {
+    let mut number = Vec::new();
+    if random.once_in(3) {
+        number.push(b'+');
+    }
+    if random.once_in(2) {
+        let zeros = if random.once_in(500) { 5_000 } else { 40 };
+        number.resize(number.len() + random.below(zeros), b'0');
+    }
+    if random.once_in(3) {
+        number.extend(random.wide().to_string().bytes());
+    } else {
+        for _ in 0..random.below(22) {
+            number.push(b'0' + random.below(10) as u8);
+        }
+    }
+    if random.once_in(8) {
+        damage(random, &mut number);
+    }
+    number
+}
+
+/// Lines of fields, each line ended by byte 10, often with other blanks around; seldom many lines.
+pub fn random_text(random: &mut Random) -> Vec<u8> {
+    let mut text = Vec::new();
+    let lines = if random.once_in(1_000) { 3_000 } else { 9 };
+    for _ in 0..random.below(lines) {
+        random_line(random, &mut text);
+        text.push(10);
+    }
+    if random.once_in(4) {
+        text.pop();
+    }
+    if random.once_in(2) {
+        for _ in 0..=random.below(4) {
+            damage(random, &mut text);
+        }
+    }
+    text
+}
+
+/// Mostly one field, so that most lines hold a literal.
+fn random_line(random: &mut Random, text: &mut Vec<u8>) {
+    let fields = random.choose(&[0, 1, 1, 1, 1, 1, 2, 3]);
+    for field in 0..fields {
+        if field > 0 || random.once_in(6) {
+            random_blanks(random, text);
+        }
+        if random.once_in(3) {
+            text.extend(random_number(random));
+        } else {
+            text.extend(random.below(2_000).to_string().bytes());
+        }
+    }
+    if random.once_in(6) {
+        random_blanks(random, text);
+    }
+}
+
+fn random_blanks(random: &mut Random, text: &mut Vec<u8>) {
+    for _ in 0..=random.below(3) {
+        text.push(random.choose(&[b' ', b' ', b' ', 9, 11, 12, 13]));
+    }
+}
+
+/// Changes, adds or removes one byte, or cuts the rest off.
+pub fn damage(random: &mut Random, text: &mut Vec<u8>) {
+    let place = random.below(text.len() + 1);
+    let byte = random_byte(random);
+    match random.below(8) {
+        0 => text.truncate(place),
+        1 | 2 if place < text.len() => {
+            text.remove(place);
+        }
+        3..=5 if place < text.len() => text[place] = byte,
+        _ => text.insert(place, byte),
+    }
+}
+
+/// A telling byte mostly, at times any byte below 128, seldom any byte.
+fn random_byte(random: &mut Random) -> u8 {
+    match random.below(16) {
+        0 => random.below(256) as u8,
+        1..=3 => random.below(128) as u8,
+        _ => random.choose(&TELLING),
+    }
+}

@@ -1,0 +1,49 @@
+//! Compares the proved library with the published Rust that it ports.
+
+#[cfg(published)]
+mod arguments;
+#[cfg(published)]
+mod compare;
+#[cfg(published)]
+mod oracle;
+#[cfg(published)]
+mod ours;
+#[cfg(published)]
+mod random;
+#[cfg(published)]
+mod reading;
+#[cfg(published)]
+mod subject;
+#[cfg(published)]
+mod tally;
+#[cfg(published)]
+mod unsat_proof;
+
+use std::process::ExitCode;
+
+#[cfg(published)]
+fn main() -> ExitCode {
+    let arguments = match arguments::read(std::env::args().skip(1)) {
+        Ok(arguments) => arguments,
+        Err(error) => {
+            eprintln!("{error}\n{}", arguments::USAGE);
+            return ExitCode::from(2);
+        }
+    };
+    let good = if arguments.self_test {
+        arguments.layer.self_test(&arguments.settings)
+    } else {
+        arguments.layer.compare(&arguments.settings)
+    };
+    if good {
+        ExitCode::SUCCESS
+    } else {
+        ExitCode::FAILURE
+    }
+}
+
+#[cfg(not(published))]
+fn main() -> ExitCode {
+    println!("the published Rust files are absent: nothing was compared");
+    ExitCode::SUCCESS
+}
