@@ -1,14 +1,10 @@
--- Worked examples of the definitions.
+-- Worked examples of the definitions. (`decimal-zero` of DecimalLaws is the first.)
 use mathlib.Core.Path.{_≡_, refl}
 use mathlib.Core.List.{[], _∷_}
 use Rattle.decimal.specs.declared.Written.the-variants.{Next, NoRoom}
 use Rattle.decimal.specs.Decimal.{decimal}
 use Rattle.decimal.specs.Printed.{numberLine, textOf}
 use Rattle.decimal.specs.Writing.{written, writtenAt}
-
-pub zero-written : decimal 0 ≡ 48 ∷ []
-unfolding decimal
-zero-written = refl
 
 pub two-digits : decimal 10 ≡ 49 ∷ 48 ∷ []
 unfolding decimal

@@ -1,7 +1,7 @@
 -- What a test made of tests says of them, and which way a test goes. (`Bool·not-not`, `and-true`, .. are in `mathlib.Core.Bool`.)
 use Prim.Native.Nat.{ℕ, _≤_, _<_}
 use mathlib.Core.Path.{_≡_, refl, sym, _∙_}
-use mathlib.Core.Bool.{Bool, true, false, _&&_, _||_, true≢false}
+use mathlib.Core.Bool.{Bool, true, false, not, _&&_, _||_, true≢false}
 use mathlib.Core.Logic.{_⊎_, inl, inr}
 use native.Mathlib.Decide.{decLt}
 use native.Mathlib.Omega.{arith}
@@ -16,6 +16,16 @@ to-false false h = refl
 pub true-or-false : (b : Bool) → (b ≡ true) ⊎ (b ≡ false)
 true-or-false true = inl refl
 true-or-false false = inr refl
+
+-- a function's answer r is q: what the code's test of r says of q
+pub told : (q r t : Bool) → r ≡ q → r ≡ t → q ≡ t
+told q r t e h = sym e ∙ h
+
+pub told-true : (q r : Bool) → r ≡ q → r ≡ false → not q ≡ true
+told-true q r e h = rw (told q r false e h)
+
+pub told-false : (q r : Bool) → r ≡ q → r ≡ true → not q ≡ false
+told-false q r e h = rw (told q r true e h)
 
 pub and-left : (a b : Bool) → (a && b) ≡ true → a ≡ true
 and-left true b h = refl

@@ -60,6 +60,12 @@ module _ {A : Type 0} (s : List A) where
         let m : a + (e - a) ≡ e = omega arith in
         sym (rw n (take-add (e - a) (c - e) (drop a s) ∙ rw (drop-drop (e - a) a s, m)))
 
+    -- the rest of a list: a part in front, and what follows it
+    pub part-rest : a ≤ e → drop a s ≡ part s a e ++ drop e s
+    part-rest h =
+        let n : a + (e - a) ≡ e = omega arith in
+        sym (ap (λ (x : List A). part s a e ++ x) (sym (drop-drop (e - a) a s ∙ rw n)) ∙ take-append-drop (e - a) (drop a s))
+
 module _ {A : Type 0} (o c : List A) where
   pub put-front : put o 0 c ≡ front o c
   put-front = rw (zero-add (length c))

@@ -1,17 +1,16 @@
 -- A loop that looks at every byte of a block and keeps the highest rank, and loops over blocks.
-use Prim.Native.Nat.{ℕ, suc, _+_, _-_, _≤_, _<_, max}
+use Prim.Native.Nat.{ℕ, suc, _+_, _≤_, _<_, max}
 use mathlib.Core.Path.{_≡_, refl, sym, ap, _∙_}
 use mathlib.Core.Bool.{Bool, true, false, cond, _&&_, and-assoc, and-true}
 use mathlib.Core.List.{[], _∷_, _++_}
 use native.Mathlib.Omega.{arith}
 use borrow.Author.Tests.{le-leb, lt-leb, leb-true, leb-false}
 use lib.Dec.{leb}
-use lib.ListN.{length, getD, take, drop, take-append-drop, drop-of-length-le}
-use lib.Seq.{drop-drop}
+use lib.ListN.{length, getD, take, drop, drop-of-length-le}
 use Rattle.lists.specs.Parts.{Bytes, part}
 use Rattle.lists.specs.Tests.{all}
 use Rattle.lists.proofs.BoolLaws.{and-left, and-right}
-use Rattle.lists.proofs.PartLaws.{drop-take, part-length}
+use Rattle.lists.proofs.PartLaws.{drop-take, part-length, part-rest}
 use Rattle.lists.proofs.RestLaws.{rest-more}
 use Rattle.lists.proofs.TestLaws.{all-append}
 use Rattle.scan.specs.Spans.{span}
@@ -49,14 +48,9 @@ module _ (p : ℕ → Bool) (rank : ℕ → ℕ) (top : ℕ) (ranked : (b : ℕ)
 
 -- ---- one block after the other
 
-split : (l : Bytes) (at e : ℕ) → at ≤ e → drop at l ≡ part l at e ++ drop e l
-split l at e h =
-    let n : at + (e - at) ≡ e = omega arith in
-    sym (ap (λ (x : Bytes). part l at e ++ x) (sym (drop-drop (e - at) at l ∙ rw n)) ∙ take-append-drop (e - at) (drop at l))
-
 module _ (p : ℕ → Bool) (l : Bytes) (at e : ℕ) (h : at ≤ e) (q : Bool) (block : q ≡ all p (part l at e)) where
   halves : all p (drop at l) ≡ (q && all p (drop e l))
-  halves = ap (all p) (split l at e h) ∙ all-append p (part l at e) (drop e l) ∙ rw (← block)
+  halves = ap (all p) (part-rest l at e h) ∙ all-append p (part l at e) (drop e l) ∙ rw (← block)
 
   pub block-more : (r : Bool) → r ≡ all p (drop at l) → q ≡ true → r ≡ all p (drop e l)
   block-more r k t = k ∙ halves ∙ rw t
@@ -67,10 +61,6 @@ module _ (p : ℕ → Bool) (l : Bytes) (at e : ℕ) (h : at ≤ e) (q : Bool) (
 -- ---- a span over a block
 
 module _ (p : ℕ → Bool) where
-  all-span : (xs ys : Bytes) → all p xs ≡ true → span p (xs ++ ys) ≡ length xs + span p ys
-  all-span [] ys h = omega arith
-  all-span (x ∷ xs) ys h = rw (and-left (p x) (all p xs) h, all-span xs ys (and-right (p x) (all p xs) h)) (omega arith)
-
   stops-at : (x : ℕ) (xs ys : Bytes) → (span p xs < length xs → span p (xs ++ ys) ≡ span p xs) → (q : Bool)
       → cond q (suc (span p xs)) 0 < suc (length xs) → cond q (suc (span p (xs ++ ys))) 0 ≡ cond q (suc (span p xs)) 0
   stops-at x xs ys ih true h = ap suc (ih (omega arith))
@@ -89,11 +79,15 @@ module _ (p : ℕ → Bool) where
   passes [] ys h = omega arith
   passes (x ∷ xs) ys h = passes-at x xs ys (passes xs ys) (p x) h
 
+  whole : (xs : Bytes) → all p xs ≡ true → span p xs ≡ length xs
+  whole [] h = refl
+  whole (x ∷ xs) h = rw (and-left (p x) (all p xs) h, whole xs (and-right (p x) (all p xs) h))
+
 module _ (p : ℕ → Bool) (s : Bytes) (at e : ℕ) where
   -- a block whose bytes all pass is part of the span
   pub span-block : at ≤ e → e ≤ length s → (q : Bool) → q ≡ all p (part s at e) → q ≡ true → (n : ℕ) → at + span p (drop at s) ≡ n → e + span p (drop e s) ≡ n
   span-block h g q block t n k =
-      let m : span p (drop at s) ≡ length (part s at e) + span p (drop e s) = ap (span p) (split s at e h) ∙ all-span p (part s at e) (drop e s) (sym block ∙ t) in
+      let m : span p (drop at s) ≡ length (part s at e) + span p (drop e s) = ap (span p) (part-rest s at e h) ∙ passes p (part s at e) (drop e s) (whole p (part s at e) (sym block ∙ t)) in
       omega (arith, m, part-length s at e g)
 
   -- the span of what stands in front of e
@@ -104,11 +98,11 @@ module _ (p : ℕ → Bool) (s : Bytes) (at e : ℕ) where
     pub span-near : at ≤ e → i < e → i ≡ at + span p (drop at s)
     span-near h l =
         let m : span p (part s at e ++ drop e s) ≡ span p (part s at e) = stops p (part s at e) (drop e s) (omega (arith, inside h, part-length s at e g)) in
-        inside h ∙ ap (λ (x : ℕ). at + x) (sym (ap (span p) (split s at e h) ∙ m))
+        inside h ∙ ap (λ (x : ℕ). at + x) (sym (ap (span p) (part-rest s at e h) ∙ m))
 
     pub span-far : at ≤ e → e ≤ i → i + span p (drop i s) ≡ at + span p (drop at s)
     span-far h l =
         let n : span p (part s at e) ≡ length (part s at e) = omega (arith, inside h, part-length s at e g, span-le p (part s at e)) in
-        let m : span p (drop at s) ≡ length (part s at e) + span p (drop e s) = ap (span p) (split s at e h) ∙ passes p (part s at e) (drop e s) n in
+        let m : span p (drop at s) ≡ length (part s at e) + span p (drop e s) = ap (span p) (part-rest s at e h) ∙ passes p (part s at e) (drop e s) n in
         let z : i ≡ e = omega (arith, inside h, n, part-length s at e g) in
         rw z (omega (arith, m, part-length s at e g))

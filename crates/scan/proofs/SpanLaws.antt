@@ -2,7 +2,7 @@
 use Prim.Native.Nat.{ℕ, suc, _+_, _≤_, _<_}
 use mathlib.Core.Path.{_≡_, refl, sym, _∙_}
 use mathlib.Core.List.{List, [], _∷_}
-use mathlib.Core.Bool.{Bool, true, false, cond, not}
+use mathlib.Core.Bool.{Bool, true, false, cond}
 use native.Mathlib.Numerals.{add-one}
 use native.Mathlib.Omega.{arith}
 use borrow.Author.Tests.{eq-eqb, ne-eqb}
@@ -40,24 +40,12 @@ module _ (p : ℕ → Bool) (s : List ℕ) (i n : ℕ) where
   pub span-over : n ≡ i + span p (drop i s) → length s ≤ i → i ≡ n
   span-over k h = sym (k ∙ span-end p s i h)
 
--- what a test of the code says of `inLine`, or of a function whose answer is r
+-- what a test of the code says of `inLine`
 pub line-goes : (b : ℕ) → (b ≡ 10 → ⊥) → inLine b ≡ true
 line-goes b h = simp (ne-eqb b 10 h)
 
 pub line-stops : (b : ℕ) → b ≡ 10 → inLine b ≡ false
 line-stops b h = simp (eq-eqb b 10 h)
-
-pub told : (q r t : Bool) → r ≡ q → r ≡ t → q ≡ t
-told q r t e h = cc
-
-pub told-not : (q r t : Bool) → r ≡ q → r ≡ t → not q ≡ not t
-told-not q r t e h = cc
-
-pub told-true : (q r : Bool) → r ≡ q → r ≡ false → not q ≡ true
-told-true q r e h = told-not q r false e h
-
-pub told-false : (q r : Bool) → r ≡ q → r ≡ true → not q ≡ false
-told-false q r e h = told-not q r true e h
 
 -- the byte at which a span ends does not satisfy p
 stop-at : (p : ℕ → Bool) (b : ℕ) (bs : List ℕ) → (span p bs < length bs → p (getD bs (span p bs) 0) ≡ false)
@@ -77,10 +65,10 @@ module _ (p : ℕ → Bool) (s : List ℕ) (at : ℕ) where
   span-ends h = rw getD-drop at (stop p (drop at s) (omega (arith, length-drop at s)))
 
 -- all bytes of a span pass
-passes-at : (p : ℕ → Bool) (b : ℕ) (bs : List ℕ) → all p (take (span p bs) bs) ≡ true → (q : Bool) → p b ≡ q → all p (take (cond q (suc (span p bs)) 0) (b ∷ bs)) ≡ true
-passes-at p b bs ih true e = rw e ih
-passes-at p b bs ih false e = refl
+all-at : (p : ℕ → Bool) (b : ℕ) (bs : List ℕ) → all p (take (span p bs) bs) ≡ true → (q : Bool) → p b ≡ q → all p (take (cond q (suc (span p bs)) 0) (b ∷ bs)) ≡ true
+all-at p b bs ih true e = rw e ih
+all-at p b bs ih false e = refl
 
 pub span-passes : (p : ℕ → Bool) (t : List ℕ) → all p (take (span p t) t) ≡ true
 span-passes p [] = refl
-span-passes p (b ∷ bs) = passes-at p b bs (span-passes p bs) (p b) refl
+span-passes p (b ∷ bs) = all-at p b bs (span-passes p bs) (p b) refl

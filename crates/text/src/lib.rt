@@ -51,6 +51,7 @@ pub enum Literal {
     Refused { next: Cursor },
 }
 
+// A byte as a wider number.
 fn wide(x: u8) -> u64
     ensures { λ r. ⌜ r ≡ x ⌝ }
 {

@@ -2,7 +2,8 @@ use Prim.Native.Nat.{_+_, _-_}
 use mathlib.Core.Path.{_≡_}
 use borrow.Author.Needs.{needs}
 use lib.ListN.{length, drop}
-use Rattle.scan.proofs.SpanLaws.{told-true, told-false, span-again, span-stop, span-over}
+use Rattle.lists.proofs.BoolLaws.{told-true, told-false}
+use Rattle.scan.proofs.SpanLaws.{span-again, span-stop, span-over}
 use Rattle.scan.specs.Spans.{span}
 use Rattle.text.specs.Fields.{inField}
 use Rattle.text.proofs.field_end.Statement.{statement}

@@ -3,12 +3,12 @@
 use super::inputs::{all_line_texts, all_texts, ascii, random_text};
 use crate::compare::{Group, Run};
 use crate::reading;
-use crate::subject::Part;
+use crate::subject::{Part, Subject};
 use crate::tally::{Answers, shown};
 
 pub const SHORT: Group = Group {
     name: "lines: short texts, every place",
-    run: |run| all_line_texts(|text| check_lines(run, text)),
+    run: |run| all_line_texts(|text| LINES.check_all(run, text)),
 };
 
 pub const RANDOM: Group = Group {
@@ -16,7 +16,7 @@ pub const RANDOM: Group = Group {
     run: |run| {
         for _ in 0..run.cases {
             let text = random_text(&mut run.random);
-            walk_lines(run, &text);
+            LINES.walk(run, &text);
         }
     },
 };
@@ -26,11 +26,11 @@ pub const LONG: Group = Group {
     run: |run| {
         for length in 0..=300 {
             let text = vec![b'a'; length];
-            check_line(run, &text, 0);
+            LINES.check(run, &text, 0);
             for place in 0..length {
                 let mut broken = text.clone();
                 broken[place] = 10;
-                walk_lines(run, &broken);
+                LINES.walk(run, &broken);
             }
         }
     },
@@ -38,12 +38,12 @@ pub const LONG: Group = Group {
 
 pub const FIELDS_SHORT: Group = Group {
     name: "fields: short texts, every place",
-    run: |run| all_line_texts(|text| check_fields(run, text)),
+    run: |run| all_line_texts(|text| FIELDS.check_all(run, text)),
 };
 
 pub const FIELDS_EACH_BYTE: Group = Group {
     name: "fields: each of the 256 bytes around fields",
-    run: |run| each_byte(|line| check_fields(run, line)),
+    run: |run| each_byte(|line| FIELDS.check_all(run, line)),
 };
 
 pub const FIELDS_RANDOM: Group = Group {
@@ -51,7 +51,7 @@ pub const FIELDS_RANDOM: Group = Group {
     run: |run| {
         for _ in 0..run.cases {
             let text = random_text(&mut run.random);
-            walk_fields(run, &text);
+            FIELDS.walk(run, &text);
         }
     },
 };
@@ -98,30 +98,53 @@ fn places(text: &[u8]) -> impl Iterator<Item = usize> + use<> {
     (0..text.len() + 3).chain([usize::MAX - 1, usize::MAX])
 }
 
-fn check_lines(run: &mut Run, text: &[u8]) {
-    for at in places(text) {
-        check_line(run, text, at);
-    }
+/// What finds a part of a text, a line or a field, from a place on: of the library, std and the reading.
+struct Finder {
+    ours: fn(&Subject) -> fn(&[u8], usize) -> Option<Part>,
+    rust: fn(&str, usize) -> Option<Part>,
+    reading: fn(&[u8], usize) -> Option<Part>,
 }
 
-fn walk_lines(run: &mut Run, text: &[u8]) {
-    let mut at = 0;
-    while let Some(part) = check_line(run, text, at) {
-        at = part.next;
-    }
-}
+const LINES: Finder = Finder {
+    ours: |subject| subject.line,
+    rust: std_line,
+    reading: reading::line,
+};
 
-/// Says where the line is by the reading.
-fn check_line(run: &mut Run, text: &[u8], at: usize) -> Option<Part> {
-    let part = reading::line(text, at);
-    let answers = Answers {
-        ours: (run.ours.line)(text, at),
-        rust: rest_of(text, at).map(|rest| std_line(rest, at)),
-        reading: part,
-    };
-    run.tally
-        .check(answers, || format!("{} at {at}", shown(text)));
-    part
+const FIELDS: Finder = Finder {
+    ours: |subject| subject.field,
+    rust: std_field,
+    reading: reading::field,
+};
+
+impl Finder {
+    /// From every place.
+    fn check_all(&self, run: &mut Run, text: &[u8]) {
+        for at in places(text) {
+            self.check(run, text, at);
+        }
+    }
+
+    /// One part after the other, from the start.
+    fn walk(&self, run: &mut Run, text: &[u8]) {
+        let mut at = 0;
+        while let Some(part) = self.check(run, text, at) {
+            at = part.next;
+        }
+    }
+
+    /// Says where the part is by the reading.
+    fn check(&self, run: &mut Run, text: &[u8], at: usize) -> Option<Part> {
+        let part = (self.reading)(text, at);
+        let answers = Answers {
+            ours: (self.ours)(&run.ours)(text, at),
+            rust: rest_of(text, at).map(|rest| (self.rust)(rest, at)),
+            reading: part,
+        };
+        run.tally
+            .check(answers, || format!("{} at {at}", shown(text)));
+        part
+    }
 }
 
 /// The first of `lines`. It drops a byte 13 before byte 10, which the port keeps: byte 13
@@ -137,32 +160,6 @@ fn std_line(rest: &str, at: usize) -> Option<Part> {
         end,
         next: end + ended,
     })
-}
-
-fn check_fields(run: &mut Run, line: &[u8]) {
-    for at in places(line) {
-        check_field(run, line, at);
-    }
-}
-
-fn walk_fields(run: &mut Run, line: &[u8]) {
-    let mut at = 0;
-    while let Some(part) = check_field(run, line, at) {
-        at = part.next;
-    }
-}
-
-/// Says where the field is by the reading.
-fn check_field(run: &mut Run, line: &[u8], at: usize) -> Option<Part> {
-    let part = reading::field(line, at);
-    let answers = Answers {
-        ours: (run.ours.field)(line, at),
-        rust: rest_of(line, at).map(|rest| std_field(rest, at)),
-        reading: part,
-    };
-    run.tally
-        .check(answers, || format!("{} at {at}", shown(line)));
-    part
 }
 
 fn std_field(rest: &str, at: usize) -> Option<Part> {
