@@ -98,11 +98,14 @@ fn places(text: &[u8]) -> impl Iterator<Item = usize> + use<> {
     (0..text.len() + 3).chain([usize::MAX - 1, usize::MAX])
 }
 
-/// What finds a part of a text, a line or a field, from a place on: of the library, std and the reading.
+/// Finds a part of a text, a line or a field, from a place on.
+type Find = fn(&[u8], usize) -> Option<Part>;
+
+/// What finds such parts: of the library, of std, and of the reading.
 struct Finder {
-    ours: fn(&Subject) -> fn(&[u8], usize) -> Option<Part>,
+    ours: fn(&Subject) -> Find,
     rust: fn(&str, usize) -> Option<Part>,
-    reading: fn(&[u8], usize) -> Option<Part>,
+    reading: Find,
 }
 
 const LINES: Finder = Finder {
