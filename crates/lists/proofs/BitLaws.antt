@@ -1,17 +1,17 @@
 -- Laws of `odd`, `bits`, `bit` and `packed`, and the loops over the bits of a word.
 use Prim.Native.Nat.{ℕ, zero, suc, _+_, _-_, _*_, _/_, _%_, _^_, _≤_, _<_, max}
 use mathlib.Core.Path.{_≡_, refl, sym, ap, ap₂, _∙_}
-use mathlib.Core.Bool.{Bool, true, false, xor, _||_}
+use mathlib.Core.Bool.{Bool, true, false, xor, _&&_, _||_}
 use mathlib.Core.List.{List, [], _∷_, _++_}
 use mathlib.Core.Logic.{⊎-elim}
-use native.Mathlib.Nat.{two-pow-succ, pow-suc, pow-succ', div-div-eq-div-mul, div-one, div-eq-of-lt, mod-lt, suc-add, mul-assoc}
+use native.Mathlib.Nat.{two-pow-succ, pow-suc, pow-succ', div-div-eq-div-mul, div-one, div-eq-of-lt, mod-lt, suc-add, mul-assoc, lt-of-lt-of-le}
 use native.Mathlib.Numerals.{add-one}
 use native.Mathlib.Omega.{arith}
-use borrow.Author.Tests.{eqb-true, eqb-false}
+use borrow.Author.Tests.{eqb-true, eqb-false, lt-ltb, le-ltb}
 use lib.Bits.{bitOr, or-step}
-use lib.Dec.{eqb}
-use lib.ListN.{length, getD, drop}
-use lib.Pow.{pow-pos, split}
+use lib.Dec.{eqb, ltb}
+use lib.ListN.{length, getD, take, drop}
+use lib.Pow.{pow-pos, pow-mono, split}
 use lib.Seq.{drop-nil}
 use Rattle.lists.specs.Bits.{odd, bits, bit, packed}
 use Rattle.lists.proofs.BoolLaws.{below-or}
@@ -30,6 +30,19 @@ bit-odd false = refl
 pub bit-lt : (b : Bool) → bit b < 2
 bit-lt true = omega arith
 bit-lt false = omega arith
+
+-- a product of bits is their conjunction
+pub product-odd : (a b : Bool) → odd (bit a * bit b) ≡ (a && b)
+product-odd true true = refl
+product-odd true false = refl
+product-odd false true = refl
+product-odd false false = refl
+
+pub product-lt : (a b : Bool) (x y : ℕ) → x ≡ bit a → y ≡ bit b → x * y < 2
+product-lt true true x y e f = rw (e, f) (omega arith)
+product-lt true false x y e f = rw (e, f) (omega arith)
+product-lt false true x y e f = rw (e, f) (omega arith)
+product-lt false false x y e f = rw (e, f) (omega arith)
 
 -- the value of a literal: one bit, and another that says whether to turn it round
 pub odd-xor : (x y : ℕ) → odd ((x % 2 + y % 2) % 2) ≡ xor (odd x) (odd y)
@@ -104,6 +117,18 @@ pub packed-append : (xs ys : List Bool) → packed (xs ++ ys) ≡ packed xs + 2 
 packed-append [] ys = omega arith
 packed-append (b ∷ xs) ys = rw (packed-append xs ys, pow-succ' 2 (length xs), mul-assoc 2 (2 ^ length xs) (packed ys)) (omega arith)
 
+-- a number in two parts: the n lowest bits, and the others
+pub packed-halves : (n : ℕ) (bs : List Bool) → packed (take n bs) + 2 ^ n * packed (drop n bs) ≡ packed bs
+packed-halves zero bs = omega arith
+packed-halves (suc n) [] = omega arith
+packed-halves (suc n) (b ∷ bs) = rw (← packed-halves n bs, pow-succ' 2 n, mul-assoc 2 (2 ^ n) (packed (drop n bs))) (omega arith)
+
+pub packed-at : (bs : List Bool) (k : ℕ) → k < length bs → odd (packed bs / 2 ^ k) ≡ getD bs k false
+packed-at bs k h = sym (bits-at (length bs) (packed bs) k h) ∙ rw (bits-packed bs)
+
+pub packed-under : (bs : List Bool) (n : ℕ) → length bs ≤ n → packed bs < 2 ^ n
+packed-under bs n h = lt-of-lt-of-le (packed-lt bs) (pow-mono h)
+
 -- a loop that packs bits from the highest down: one bit more, at place k, and at the place k - 1
 pub packed-more : (bs : List Bool) (k : ℕ) → packed (drop k bs) ≡ bit (getD bs k false) + 2 * packed (drop (k + 1) bs)
 packed-more [] k = rw (drop-nil k, drop-nil (k + 1))
@@ -123,3 +148,11 @@ module _ (x n : ℕ) where
 
   pub fits-not : (x / 2 ^ n ≡ 0 → ⊥) → 2 ^ n ≤ x
   fits-not h = ⊎-elim (λ k. absurd (h (div-eq-of-lt k))) (λ k. k) (below-or x (2 ^ n))
+
+  -- as the code tests it
+  pub fits-test : eqb (x / 2 ^ n) 0 ≡ ltb x (2 ^ n)
+  fits-test = go (eqb (x / 2 ^ n) 0) refl
+    where
+      go : (b : Bool) → eqb (x / 2 ^ n) 0 ≡ b → b ≡ ltb x (2 ^ n)
+      go true e = sym (lt-ltb x (2 ^ n) (fits (eqb-true (x / 2 ^ n) 0 e)))
+      go false e = sym (le-ltb x (2 ^ n) (fits-not (eqb-false (x / 2 ^ n) 0 e)))

@@ -1,13 +1,15 @@
 -- Laws of `holds` and `withBit`: sets of numbers kept as bits, 64 in each word.
 use Prim.Native.Nat.{ℕ, suc, _+_, _-_, _*_, _/_, _%_, _^_, _≤_, _<_}
 use mathlib.Core.Path.{_≡_, refl, sym, ap, _∙_}
-use mathlib.Core.Bool.{true, false, _||_, or-true, or-false}
+use mathlib.Core.Bool.{Bool, true, false, not, _||_, or-true, or-false}
 use mathlib.Core.List.{List}
 use mathlib.Core.Logic.{⊎-elim}
 use native.Mathlib.Decide.{ℕ-discrete}
 use native.Mathlib.Nat.{one-mul, zero-div, mod-eq-of-lt, div-eq-of-lt, pow-succ'}
 use native.Mathlib.Omega.{arith}
+use borrow.Author.Tests.{eqb-true, eqb-false, eq-eqb, ne-eqb}
 use lib.Bits.{bitOr, or-shr}
+use lib.Dec.{eqb}
 use lib.ListN.{length, getD, length-set, List·getD-eq-default}
 use lib.Pow.{pow-lt, pow-add, shl-shr}
 use lib.Seq.{set-out, getD-set-same, getD-set-other}
@@ -18,6 +20,13 @@ use Rattle.lists.proofs.BitLaws.{odd-or}
 use Rattle.lists.proofs.BoolLaws.{below-or}
 use Rattle.lists.proofs.ZeroLaws.{zeros-at}
 
+even-odd : (x : ℕ) → eqb (x % 2) 0 ≡ not (odd x)
+even-odd x = go (odd x) refl
+  where
+    go : (b : Bool) → odd x ≡ b → eqb (x % 2) 0 ≡ not b
+    go true e = let h : x % 2 ≡ 1 = eqb-true (x % 2) 1 e in ne-eqb (x % 2) 0 (omega arith)
+    go false e = let h : x % 2 ≡ 1 → ⊥ = eqb-false (x % 2) 1 e in eq-eqb (x % 2) 0 (omega arith)
+
 module _ (ws : List ℕ) (k : ℕ) where
   pub holds-outside : length ws ≤ k / 64 → false ≡ holds ws k
   unfolding holds
@@ -26,6 +35,14 @@ module _ (ws : List ℕ) (k : ℕ) where
   pub mark-outside : length ws ≤ k / 64 → ws ≡ withBit ws k
   unfolding withBit
   mark-outside h = sym (set-out ws (k / 64) (bitOr (getD ws (k / 64) 0) (2 ^ (k % 64))) h)
+
+  pub free-outside : length ws ≤ k / 64 → true ≡ not (holds ws k)
+  free-outside h = ap not (holds-outside h)
+
+  -- what the code tests
+  pub free-bit : eqb (getD ws (k / 64) 0 / 2 ^ (k % 64) % 2) 0 ≡ not (holds ws k)
+  unfolding holds
+  free-bit = even-odd (getD ws (k / 64) 0 / 2 ^ (k % 64))
 
   pub with-length : length (withBit ws k) ≡ length ws
   unfolding withBit

@@ -1,7 +1,7 @@
 -- What a test made of tests says of them, and which way a test goes. (`Bool·not-not`, `and-true`, .. are in `mathlib.Core.Bool`.)
 use Prim.Native.Nat.{ℕ, _≤_, _<_}
 use mathlib.Core.Path.{_≡_, refl, sym, _∙_}
-use mathlib.Core.Bool.{Bool, true, false, not, _&&_, _||_, true≢false}
+use mathlib.Core.Bool.{Bool, true, false, not, _&&_, _||_, xor, cond, true≢false}
 use mathlib.Core.Logic.{_⊎_, inl, inr}
 use native.Mathlib.Decide.{decLt}
 use native.Mathlib.Omega.{arith}
@@ -52,3 +52,11 @@ below-or a b = go (decLt a b)
     go : Dec (a < b) → (a < b) ⊎ (b ≤ a)
     go (yes h) = inl h
     go (no h) = inr (omega arith)
+
+-- a bit, turned round where the other one is set
+pub xor-turns : (a b : Bool) → xor a b ≡ cond b (not a) a
+unfolding xor
+xor-turns true true = refl
+xor-turns true false = refl
+xor-turns false true = refl
+xor-turns false false = refl

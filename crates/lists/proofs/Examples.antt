@@ -7,7 +7,7 @@ use Rattle.lists.specs.Answer.{Answer, got, refused, unless, accepted, a
 use Rattle.lists.specs.Parts.{part, put, front}
 use Rattle.lists.specs.Words.{pairsOf, triplesOf}
 use Rattle.lists.specs.Bits.{bits, packed}
-use Rattle.lists.specs.Sets.{distinct, holds, withBit}
+use Rattle.lists.specs.Sets.{distinct, rising, holds, withBit}
 
 -- first one wins: 3 before 4, and 4 where 3 does not apply
 abbrev pub tried : (three four : Answer ℕ) → Answer ℕ
@@ -57,6 +57,10 @@ twice = refl
 
 pub once : distinct (3 ∷ 1 ∷ 2 ∷ []) ≡ true
 once = refl
+
+-- strictly: an equal neighbour does not rise
+pub rises : (rising [] ≡ true) × (rising (3 ∷ []) ≡ true) × (rising (0 ∷ 3 ∷ 7 ∷ []) ≡ true) × (rising (0 ∷ 3 ∷ 3 ∷ []) ≡ false) × (rising (3 ∷ 0 ∷ 7 ∷ []) ≡ false)
+rises = (refl, refl, refl, refl, refl)
 
 -- bit 64 is the lowest of the second word
 pub second-word : withBit (0 ∷ 0 ∷ []) 64 ≡ 0 ∷ 1 ∷ []

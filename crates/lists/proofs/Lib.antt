@@ -1,10 +1,15 @@
 pub mod BoolLaws
+pub mod AnswerLaws
 pub mod RestLaws
 pub mod PartLaws
 pub mod TestLaws
+pub mod MapLaws
 pub mod WordLaws
 pub mod BitLaws
 pub mod ZeroLaws
 pub mod BitSetLaws
 pub mod OnceLaws
+pub mod DistinctLaws
+pub mod CountLaws
+pub mod RisingLaws
 pub mod Examples

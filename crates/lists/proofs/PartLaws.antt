@@ -1,12 +1,12 @@
 -- Laws of `part`, `put` and `front`, and `Grown`: a lent list that is written from its front on.
-use Prim.Native.Nat.{ℕ, zero, suc, _+_, _-_, _≤_, _<_}
+use Prim.Native.Nat.{ℕ, zero, suc, _+_, _-_, _≤_, _<_, min}
 use mathlib.Core.Path.{_≡_, refl, sym, ap, _∙_}
 use mathlib.Core.List.{List, [], _∷_, _++_, append-assoc}
 use native.Mathlib.Nat.{add-zero, zero-add, add-assoc, sub-zero}
 use native.Mathlib.Numerals.{add-one, add-two}
 use native.Mathlib.Omega.{arith}
 use borrow.Rule.Slice.PartMut.{putMid, postOf}
-use lib.ListN.{length, getD, take, drop, set, length-append, length-set, length-take, length-drop, take-append-drop, List·getD-append}
+use lib.ListN.{length, getD, take, drop, set, length-append, length-set, length-take, length-drop, take-append-drop, drop-of-length-le, List·getD-append}
 use lib.Seq.{take-all, take-at, drop-at, take-add, take-take, drop-drop, take-append-le, drop-append-le, drop-append-add, take-nil, getD-take, getD-drop, length-take-le, set-split, sets-eq}
 use Rattle.lists.specs.Parts.{part, put, front}
 use Rattle.lists.proofs.RestLaws.{rest-head, rest-more, take-next}
@@ -16,6 +16,20 @@ drop-take zero n l = rw (sub-zero n)
 drop-take (suc a) zero l = let e : 0 - suc a ≡ 0 = omega arith in rw e
 drop-take (suc a) (suc n) [] = sym (take-nil (suc n - suc a))
 drop-take (suc a) (suc n) (x ∷ l) = let e : suc n - suc a ≡ n - a = omega arith in rw e (drop-take a n l)
+
+pub take-min : {A : Type 0} (a n : ℕ) (l : List A) → take a (take n l) ≡ take (min a n) l
+take-min zero n l = let e : min 0 n ≡ 0 = omega arith in rw e
+take-min (suc a) zero l = let e : min (suc a) 0 ≡ 0 = omega arith in rw e
+take-min (suc a) (suc n) [] = let e : min (suc a) (suc n) ≡ suc (min a n) = omega arith in rw e
+take-min (suc a) (suc n) (x ∷ l) = let e : min (suc a) (suc n) ≡ suc (min a n) = omega arith in rw (e, take-min a n l)
+
+-- equal lists, cut at the same place
+module _ {A : Type 0} (a b c d : List A) (h : length a ≡ length b) (e : a ++ c ≡ b ++ d) where
+  pub append-heads : a ≡ b
+  append-heads = sym (take-at a c (length a) refl) ∙ ap (take (length a)) e ∙ take-at b d (length a) (sym h)
+
+  pub append-tails : c ≡ d
+  append-tails = sym (drop-at a c (length a) refl) ∙ ap (drop (length a)) e ∙ drop-at b d (length a) (sym h)
 
 module _ {A : Type 0} (s : List A) where
   -- what `&s[..e]` holds
@@ -197,3 +211,14 @@ module _ {A : Type 0} (o₀ : List A) (at : ℕ) (c : List A) where
 
     pub copied-done : length c ≤ i → o ≡ put o₀ at c
     copied-done h = k .is ∙ ap (put o₀ at) (take-all i c h)
+
+-- a part that is cut off a lent slice, as far as there is any
+module _ {A : Type 0} (s : List A) (a e : ℕ) where
+  pub cut-none : e ≤ a → take 0 s ≡ part s a e
+  cut-none h = let n : e - a ≡ 0 = omega arith in rw n refl
+
+  pub cut-past : length s ≤ a → take 0 s ≡ part s a e
+  cut-past h = rw (drop-of-length-le s h) (sym (take-nil (e - a)))
+
+  pub cut-some : (r t : List A) → t ≡ part s a (length s) → r ≡ take (e - a) t → r ≡ part s a e
+  cut-some r t k q = q ∙ ap (take (e - a)) (k ∙ part-drop s a)

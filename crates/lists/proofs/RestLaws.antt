@@ -1,10 +1,10 @@
 -- The rest of a list at a loop's place, in the code's `i + 1`, and a list copied element by element. (The end of a loop is `drop-of-length-le` of `lib.ListN`.)
 use Prim.Native.Nat.{ℕ, _+_, _≤_, _<_}
 use mathlib.Core.Path.{_≡_, sym, _∙_}
-use mathlib.Core.List.{List, [], _∷_, _++_}
+use mathlib.Core.List.{List, [], _∷_, _++_, map}
 use native.Mathlib.Nat.{add-zero}
 use native.Mathlib.Numerals.{add-one}
-use lib.ListN.{length, getD, take, drop, set}
+use lib.ListN.{length, getD, take, drop, set, length-map, List·getD-map}
 use lib.Seq.{drop-cons, take-suc, take-suc-set, take-all, getD-drop}
 
 pub rest-head : {A : Type 0} (l : List A) (i : ℕ) (d : A) → getD (drop i l) 0 d ≡ getD l i d
@@ -24,3 +24,11 @@ module _ {A : Type 0} (r l : List A) (i : ℕ) (same : take i r ≡ take i l) wh
 
   pub copy-end : length r ≤ i → length l ≤ i → r ≡ l
   copy-end h k = sym (take-all i r h) ∙ same ∙ take-all i l k
+
+-- r becomes the image of l under f
+module _ {A B : Type 0} (f : A → B) (r : List B) (l : List A) (i : ℕ) (same : take i r ≡ take i (map f l)) where
+  pub map-more : (d : A) → i < length r → i < length l → take (i + 1) (set r i (f (getD l i d))) ≡ take (i + 1) (map f l)
+  map-more d h k = copy-more r (map f l) i same (f (getD l i d)) (f d) (sym (List·getD-map f l i d)) h (rw length-map k)
+
+  pub map-end : length r ≤ i → length l ≤ i → r ≡ map f l
+  map-end h k = copy-end r (map f l) i same h (rw length-map k)

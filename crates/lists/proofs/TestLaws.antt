@@ -76,6 +76,10 @@ module _ {A B : Type 0} (f : A → B) where
   each-map P [] e = tt
   each-map P (x ∷ l) e = (e .0, each-map P l (e .1))
 
+  pub each-of-map : (P : B → Type 0) (l : List A) → Each P (map f l) → Each (λ x. P (f x)) l
+  each-of-map P [] e = tt
+  each-of-map P (x ∷ l) e = (e .0, each-of-map P l (e .1))
+
 -- a loop that asks for all: r is what it has to answer, and its answer so far is true
 module _ {A : Type 0} (p : A → Bool) (l : List A) (i : ℕ) (r : Bool) (k : r ≡ all p (drop i l)) where
   pub all-stop : (d : A) → i < length l → p (getD l i d) ≡ false → false ≡ r
@@ -115,6 +119,19 @@ module _ {A : Type 0} (P : A → Type 0) where
   pub each-so : (Q : A → Type 0) → ((x : A) → P x → Q x) → (l : List A) → Each P l → Each Q l
   each-so Q f [] e = tt
   each-so Q f (x ∷ l) e = (f x (e .0), each-so Q f l (e .1))
+
+  pub each-take : (n : ℕ) (l : List A) → Each P l → Each P (take n l)
+  each-take zero l e = tt
+  each-take (suc n) [] e = tt
+  each-take (suc n) (x ∷ l) e = (e .0, each-take n l (e .1))
+
+  pub each-with : (Q R : A → Type 0) → ((x : A) → P x → Q x → R x) → (l : List A) → Each P l → Each Q l → Each R l
+  each-with Q R f [] e k = tt
+  each-with Q R f (x ∷ l) e k = (f x (e .0) (k .0), each-with Q R f l (e .1) (k .1))
+
+  pub each-any : ((x : A) → P x) → (l : List A) → Each P l
+  each-any f [] = tt
+  each-any f (x ∷ l) = (f x, each-any f l)
 
 -- every test of the list passes: for a list that is written out, the product of their equations
 abbrev pub Passes : List Bool → Type 0

@@ -1,10 +1,10 @@
 -- Lists of zeros of any length, and a slice that is cleared word by word.
 use Prim.Native.Nat.{ℕ, zero, suc, _+_, _≤_, _<_}
-use mathlib.Core.Path.{_≡_, refl, ap, _∙_}
-use mathlib.Core.List.{List, _++_, append-nil}
+use mathlib.Core.Path.{_≡_, refl, sym, ap, _∙_}
+use mathlib.Core.List.{List, _∷_, _++_, append-nil}
 use native.Mathlib.Omega.{arith}
 use borrow.Author.Fill.{fill-more}
-use lib.ListN.{length, getD, drop, set, length-set, length-replicate, drop-of-length-le}
+use lib.ListN.{length, getD, take, drop, set, length-set, length-replicate, drop-of-length-le}
 use Rattle.lists.specs.Parts.{zeros}
 
 pub zeros-length : (n : ℕ) → length (zeros n) ≡ n
@@ -14,6 +14,11 @@ pub zeros-at : (n k : ℕ) → _≡_ {A = ℕ} (getD (zeros n) k 0) 0
 zeros-at zero k = refl
 zeros-at (suc n) zero = refl
 zeros-at (suc n) (suc k) = zeros-at n k
+
+pub zeros-take : (k n : ℕ) → k ≤ n → take k (zeros n) ≡ zeros k
+zeros-take zero n h = refl
+zeros-take (suc k) zero h = absurd (omega arith)
+zeros-take (suc k) (suc n) h = ap (λ (l : List ℕ). 0 ∷ l) (zeros-take k n (omega arith))
 
 -- the words w₀ with the first i cleared
 pub record Clearing (w₀ w : List ℕ) (i : ℕ) : Type 0 where
@@ -37,3 +42,10 @@ module _ (w₀ w : List ℕ) (i : ℕ) (k : Clearing w₀ w i) where
   clearing-done h =
       let n : i ≡ length w₀ = omega arith in
       k .is ∙ rw (drop-of-length-le w₀ {i = i} (omega arith), append-nil, n)
+
+-- a work slice that is all 0 and as long as another
+pub zeros-kept : (w : List ℕ) (n k : ℕ) → w ≡ zeros n → n ≡ k → w ≡ zeros k
+zeros-kept w n k e q = e ∙ ap zeros q
+
+pub zeros-own : (w : List ℕ) (n : ℕ) → w ≡ zeros n → w ≡ zeros (length w)
+zeros-own w n e = zeros-kept w n (length w) e (sym (ap length e ∙ zeros-length n))

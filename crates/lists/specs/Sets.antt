@@ -1,9 +1,9 @@
--- Which numbers stand in a list (01, items 4 and 5: each variable is defined once, an i or l is named once), and sets of numbers as bits of words.
+-- Which numbers stand in a list (01, items 4 and 5: each variable is defined once, an i or l is named once), whether a list rises (13, 14), and sets of numbers as bits of words.
 use Prim.Native.Nat.{ℕ, _/_, _%_, _^_}
 use mathlib.Core.Bool.{Bool, true, false, not, _&&_, _||_}
 use mathlib.Core.List.{List, [], _∷_}
 use lib.Bits.{bitOr}
-use lib.Dec.{eqb}
+use lib.Dec.{eqb, ltb}
 use lib.ListN.{getD, set}
 use Rattle.lists.specs.Bits.{odd}
 
@@ -16,6 +16,12 @@ member x (y ∷ ys) = eqb x y || member x ys
 abbrev pub distinct : List ℕ → Bool
 distinct [] = true
 distinct (x ∷ xs) = not (member x xs) && distinct xs
+
+-- strictly rising: each element is below the next
+abbrev pub rising : List ℕ → Bool
+rising [] = true
+rising (x ∷ []) = true
+rising (x ∷ y ∷ l) = ltb x y && rising (y ∷ l)
 
 -- k is in the set: bit k of the words, 64 bits in each; false past their end
 unfoldable pub holds : List ℕ → ℕ → Bool

@@ -1,8 +1,16 @@
 // Small functions on words that every layer uses.
 ghost use mathlib.Core.Path.{_≡_};
-ghost use lib.ListN.{length};
-ghost use Rattle.lists.specs.Parts.{zeros};
+ghost use mathlib.Core.Bool.{not};
+ghost use lib.ListN.{length, getD, take};
+ghost use Rattle.lists.specs.Parts.{part, zeros};
 ghost use Rattle.lists.specs.Sets.{holds, withBit};
+
+// A word as an index.
+pub fn index(x: u64) -> usize
+    ensures { λ r. ⌜ r ≡ x ⌝ }
+{
+    x as usize
+}
 
 // Every word becomes 0.
 pub fn clear(work: &mut [u64])
@@ -37,4 +45,51 @@ pub fn mark(words: &mut [u64], k: usize)
         let w = words[at];
         words[at] = w | (one << (k % 64));
     }
+}
+
+// Sets bit k of the words, and says whether it was not set before.
+pub fn add(words: &mut [u64], k: usize) -> bool
+    ensures { λ r. ⌜ (r ≡ not (holds (now (words .entry)) k)) × (now (words .exit) ≡ withBit (now (words .entry)) k) ⌝ }
+{
+    let at = k / 64;
+    if at >= words.len() {
+        return true;
+    }
+    let one: u64 = 1;
+    let was = words[at];
+    words[at] = was | (one << (k % 64));
+    (was >> (k % 64)) % 2 == 0
+}
+
+// The first n words, or all where there are fewer.
+pub fn first(words: &[u64], n: usize) -> &[u64]
+    ensures { λ r. ⌜ now r ≡ take n (now (words .entry)) ⌝ }
+{
+    if n < words.len() {
+        return &words[..n];
+    }
+    words
+}
+
+// The words from place a up to place e, as far as there are any.
+pub fn cut(words: &[u64], a: usize, e: usize) -> &[u64]
+    ensures { λ r. ⌜ now r ≡ part (now (words .entry)) a e ⌝ }
+{
+    if e <= a {
+        return &words[..0];
+    }
+    if words.len() <= a {
+        return &words[..0];
+    }
+    first(&words[a..], e - a)
+}
+
+// Word k, or 0 where there is none.
+pub fn word(words: &[u64], k: usize) -> u64
+    ensures { λ r. ⌜ r ≡ getD (now (words .entry)) k 0 ⌝ }
+{
+    if k < words.len() {
+        return words[k];
+    }
+    0
 }

@@ -1,41 +1,31 @@
+use borrow.Author.Needs.{needs}
 use Rattle.lists.specs.Sets.{withBit}
 use Rattle.lists.proofs.BitSetLaws.{mark-outside, shifted-one}
-use borrow.Author.Needs.{needs}
 use Rattle.lists.proofs.mark.Statement.{statement}
 use Rattle.lists.proofs.mark.Tie as tie
-use Rattle.lists.proofs.mark.Reads as reads
-use Rattle.lists.proofs.mark.Lts as lts
 
--- src/lib.rt:37:17
 mul-w : tie.Need-mul-w
 mul-w c = search needs
 
--- src/lib.rt:37:17
 slice-read-w : tie.Need-slice-read-w
 slice-read-w c = search needs
 
--- src/lib.rt:38:26
 shl-words : tie.Need-shl-words
 shl-words c = search needs
 
--- src/lib.rt:38:9
 mul-words : tie.Need-mul-words
 mul-words c = search needs
 
--- src/lib.rt:38:9
 slice-write-words : tie.Need-slice-write-words
 slice-write-words c = search needs
 
--- src/lib.rt:31:1
 same-length : tie.Need-same-length
 same-length c = search needs
 
--- src/lib.rt:31:1
 returns : tie.Need-returns
 unfolding withBit
 returns c = simp shifted-one
 
--- src/lib.rt:31:1
 returns-2 : tie.Need-returns-2
 returns-2 c = search mark-outside
 
