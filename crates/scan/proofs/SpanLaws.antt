@@ -2,14 +2,14 @@
 use Prim.Native.Nat.{ℕ, suc, _+_, _≤_, _<_}
 use mathlib.Core.Path.{_≡_, refl, sym, _∙_}
 use mathlib.Core.List.{List, [], _∷_}
-use mathlib.Core.Bool.{Bool, true, false, cond}
+use mathlib.Core.Bool.{Bool, true, false, cond, and-false}
 use native.Mathlib.Numerals.{add-one}
 use native.Mathlib.Omega.{arith}
-use borrow.Author.Tests.{eq-eqb, ne-eqb}
+use borrow.Author.Tests.{eq-eqb, ne-eqb, le-leb, lt-leb}
 use lib.ListN.{take, length, getD, drop, drop-of-length-le, length-drop}
 use lib.Seq.{drop-cons, getD-drop}
 use Rattle.lists.specs.Tests.{all}
-use Rattle.scan.specs.Spans.{span, inLine}
+use Rattle.scan.specs.Spans.{span, inLine, between}
 
 le-at : (q : Bool) (m n : ℕ) → m ≤ n → cond q (suc m) 0 ≤ suc n
 le-at true m n h = omega arith
@@ -46,6 +46,17 @@ line-goes b h = simp (ne-eqb b 10 h)
 
 pub line-stops : (b : ℕ) → b ≡ 10 → inLine b ≡ false
 line-stops b h = simp (eq-eqb b 10 h)
+
+-- and of `between`
+module _ (low high b : ℕ) where
+  pub between-in : low ≤ b → b ≤ high → between low high b ≡ true
+  between-in h k = simp (le-leb low b h, le-leb b high k)
+
+  pub between-low : b < low → between low high b ≡ false
+  between-low h = simp (lt-leb low b h)
+
+  pub between-high : high < b → between low high b ≡ false
+  between-high h = simp (lt-leb b high h, and-false)
 
 -- the byte at which a span ends does not satisfy p
 stop-at : (p : ℕ → Bool) (b : ℕ) (bs : List ℕ) → (span p bs < length bs → p (getD bs (span p bs) 0) ≡ false)

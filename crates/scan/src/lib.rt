@@ -5,7 +5,7 @@ ghost use Prim.Native.Nat.{_+_, min, max};
 ghost use lib.Dec.{eqb};
 ghost use lib.ListN.{drop};
 ghost use Rattle.lists.specs.Tests.{all};
-ghost use Rattle.scan.specs.Spans.{span, inLine};
+ghost use Rattle.scan.specs.Spans.{span, inLine, between};
 ghost use Rattle.scan.specs.Allowed.{isAscii, isWitnessByte, endsIn10};
 ghost use Rattle.scan.specs.Same.{sameBytes, beginsWith};
 
@@ -99,6 +99,23 @@ pub fn line_end(s: &[u8], at: usize) -> usize
     }
     let j = blocks_in_line(s, i);
     first_line_feed(s, j)
+}
+
+// Where a run of bytes from low to high ends; a place past the end stays.
+pub fn run_end(s: &[u8], at: usize, low: u8, high: u8) -> usize
+    ensures { λ r. ⌜ r ≡ at + span (between low high) (drop at (now (s .entry))) ⌝ }
+{
+    let mut i = at;
+    while i < s.len() {
+        if s[i] < low {
+            return i;
+        }
+        if high < s[i] {
+            return i;
+        }
+        i += 1;
+    }
+    i
 }
 
 // A byte that a witness may not have becomes 255.

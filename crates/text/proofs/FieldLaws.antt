@@ -26,6 +26,9 @@ module _ (b : ℕ) where
   pub blank-space : b ≡ 32 → true ≡ isBlank b
   blank-space h = rw h
 
+  pub space-is-blank : b ≡ 32 → isBlank b ≡ true
+  space-is-blank h = sym (blank-space h)
+
   pub blank-low : b < 9 → false ≡ isBlank b
   blank-low h = simp (lt-leb 9 b h, ne-eqb b 32 (λ e. omega arith))
 

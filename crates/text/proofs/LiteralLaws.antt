@@ -1,8 +1,8 @@
 -- Laws of `takenAt` and `literalAt`: their cases for the code, and what they say of the numbers of a line and of the lines of a text.
 use Prim.Native.Nat.{ℕ, _≤_, _<_}
-use mathlib.Core.Path.{_≡_, refl, ap, sym, _∙_}
 use mathlib.Core.List.{List, [], _∷_}
 use mathlib.Core.Option.{Option, some, none}
+use mathlib.Core.Path.{_≡_, refl, ap, sym, _∙_}
 use lib.ListN.{length, drop}
 use Rattle.lists.specs.Parts.{Bytes, part}
 use Rattle.text.specs.declared.Reader.{Reader}
@@ -10,11 +10,8 @@ use Rattle.text.specs.declared.Cursor.{Cursor}
 use Rattle.text.specs.declared.Number.{Number}
 use Rattle.text.specs.declared.Number.the-variants.{Value, Unreadable}
 use Rattle.text.specs.declared.Field.{Field}
-use Rattle.text.specs.declared.Field.the-variants as field
 use Rattle.text.specs.declared.Line.{Line}
-use Rattle.text.specs.declared.Line.the-variants as line
 use Rattle.text.specs.declared.Taken.{Taken}
-use Rattle.text.specs.declared.Taken.the-variants as taken
 use Rattle.text.specs.declared.Literal.{Literal}
 use Rattle.text.specs.declared.Literal.the-variants.{Got, Refused}
 use Rattle.text.specs.Numbers.{numberOf}
@@ -23,6 +20,9 @@ use Rattle.text.specs.Fields.{fieldsOf, fieldAt}
 use Rattle.text.specs.Literals.{withNumber, numbersOf, oneOf, literalOf, takenNumber, takenField, takenAt, literalNumber, literalLine, literalAt}
 use Rattle.text.proofs.LineLaws.{lines-none, lines-some, line-moves, line-next-within}
 use Rattle.text.proofs.FieldLaws.{fields-none, fields-some}
+use Rattle.text.specs.declared.Field.the-variants as field
+use Rattle.text.specs.declared.Line.the-variants as line
+use Rattle.text.specs.declared.Taken.the-variants as taken
 
 -- ---- next_number
 
@@ -40,42 +40,64 @@ module _ (reader : Reader) (l : Bytes) (at : ℕ) (f : Field) (q : f ≡ fieldAt
     pub taken-got : (v : ℕ) → n ≡ Value v → taken.Got v e ≡ takenAt reader l at
     taken-got v u = ap (λ (x : Number). takenNumber x e) (sym u) ∙ taken-is
 
--- ---- what a caller that holds `t ≡ takenAt reader l at` and t's case learns of the numbers from that position on
+-- ---- what a caller that holds `t ≡ takenAt reader l at` and t's case learns of the fields and the numbers from that position on
+
+-- the next field writes the number v and ends at m
+pub record Writes (reader : Reader) (l : Bytes) (at v m : ℕ) : Type 0 where
+  pub field : Bytes
+  pub fields : fieldsOf (drop at l) ≡ field ∷ fieldsOf (drop m l)
+  pub value : numberOf reader field ≡ Value v
+
+-- there is a next field, and it writes no number
+pub record WritesNone (reader : Reader) (l : Bytes) (at : ℕ) : Type 0 where
+  pub field : Bytes
+  pub rest : List Bytes
+  pub fields : fieldsOf (drop at l) ≡ field ∷ rest
+  pub value : numberOf reader field ≡ Unreadable
 
 abbrev pub numbersFrom : Reader → Bytes → ℕ → Option (List ℕ)
 numbersFrom reader l at = numbersOf reader (fieldsOf (drop at l))
 
 module _ (reader : Reader) (l : Bytes) (at : ℕ) where
   Says : Taken → Type 0
-  Says taken.Missing = numbersFrom reader l at ≡ some []
-  Says taken.Unreadable = numbersFrom reader l at ≡ none
-  Says (taken.Got v m) = numbersFrom reader l at ≡ withNumber (Value v) (numbersFrom reader l m)
+  Says taken.Missing = fieldsOf (drop at l) ≡ []
+  Says taken.Unreadable = WritesNone reader l at
+  Says (taken.Got v m) = Writes reader l at v m
 
   number-says : (a e : ℕ) → fieldsOf (drop at l) ≡ part l a e ∷ fieldsOf (drop e l) → (n : Number) → numberOf reader (part l a e) ≡ n → Says (takenNumber n e)
   unfolding Says
-  number-says a e k (Value v) p = ap (numbersOf reader) k ∙ rw p
-  number-says a e k Unreadable p = ap (numbersOf reader) k ∙ rw p
+  number-says a e k (Value v) p = record { field = part l a e; fields = k; value = p }
+  number-says a e k Unreadable p = record { field = part l a e; rest = fieldsOf (drop e l); fields = k; value = p }
 
   field-says : (f : Field) → f ≡ fieldAt l at → Says (takenField reader l f)
   unfolding Says
   field-says (field.At a e) q = number-says a e (fields-some l at (field.At a e) q a e refl) (numberOf reader (part l a e)) refl
-  field-says field.None q = ap (numbersOf reader) (fields-none l at field.None q refl)
+  field-says field.None q = fields-none l at field.None q refl
 
   module _ (t : Taken) (q : t ≡ takenAt reader l at) where
     says : (u : Taken) → t ≡ u → Says u
     says u k = rw (sym q ∙ k) at (field-says (fieldAt l at) refl)
 
-    pub numbers-missing : t ≡ taken.Missing → numbersFrom reader l at ≡ some []
+    pub fields-missing : t ≡ taken.Missing → fieldsOf (drop at l) ≡ []
     unfolding Says
-    numbers-missing k = says taken.Missing k
+    fields-missing k = says taken.Missing k
+
+    pub fields-unreadable : t ≡ taken.Unreadable → WritesNone reader l at
+    unfolding Says
+    fields-unreadable k = says taken.Unreadable k
+
+    pub fields-got : (v m : ℕ) → t ≡ taken.Got v m → Writes reader l at v m
+    unfolding Says
+    fields-got v m k = says (taken.Got v m) k
+
+    pub numbers-missing : t ≡ taken.Missing → numbersFrom reader l at ≡ some []
+    numbers-missing k = ap (numbersOf reader) (fields-missing k)
 
     pub numbers-unreadable : t ≡ taken.Unreadable → numbersFrom reader l at ≡ none
-    unfolding Says
-    numbers-unreadable k = says taken.Unreadable k
+    numbers-unreadable k = let w = fields-unreadable k in ap (numbersOf reader) (w .fields) ∙ rw (w .value)
 
     pub numbers-got : (v m : ℕ) → t ≡ taken.Got v m → numbersFrom reader l at ≡ withNumber (Value v) (numbersFrom reader l m)
-    unfolding Says
-    numbers-got v m k = says (taken.Got v m) k
+    numbers-got v m k = let w = fields-got v m k in ap (numbersOf reader) (w .fields) ∙ rw (w .value)
 
 -- ---- take_literal
 

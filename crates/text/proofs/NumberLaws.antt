@@ -1,6 +1,6 @@
 -- Laws of `numberOf`: its cases for the code that reads numbers, and what callers may rely on.
 use Prim.Native.Nat.{ℕ, _^_, _≤_, _<_}
-use mathlib.Core.Path.{_≡_, refl}
+use mathlib.Core.Path.{_≡_, refl, ap, _∙_}
 use mathlib.Core.Bool.{Bool, true, false, cond, _&&_}
 use mathlib.Core.List.{[], _∷_}
 use native.Mathlib.Omega.{arith}
@@ -16,21 +16,23 @@ use Rattle.text.specs.declared.Number.{Number}
 use Rattle.text.specs.declared.Number.the-variants.{Value, Unreadable}
 use Rattle.text.specs.Numbers.{isDigit, tenfold, digitsAfter, digitsOf, unsigned, longZero, numberOf}
 
--- the transition reader: an empty field, a field with a plus sign, another
-pub usize-none : (f : Bytes) → length f ≡ 0 → Unreadable ≡ numberOf Transition f
-unfolding numberOf
-usize-none [] h = refl
-usize-none (b ∷ bs) h = absurd (omega arith)
+-- the plus sign: an empty field, a field with one, another
+pub sign-none : (f : Bytes) → length f ≡ 0 → drop 0 f ≡ unsigned f
+sign-none [] h = refl
+sign-none (b ∷ bs) h = absurd (omega arith)
 
-pub usize-plus : (f : Bytes) (r : Number) → (length f ≡ 0 → ⊥) → getD f 0 0 ≡ 43 → r ≡ digitsOf (drop 1 f) → r ≡ numberOf Transition f
-unfolding numberOf
-usize-plus [] r n h e = absurd (n refl)
-usize-plus (b ∷ bs) r n h e = simp (eq-eqb b 43 h) e
+pub sign-plus : (f : Bytes) → (length f ≡ 0 → ⊥) → getD f 0 0 ≡ 43 → drop 1 f ≡ unsigned f
+sign-plus [] n h = absurd (n refl)
+sign-plus (b ∷ bs) n h = simp (eq-eqb b 43 h)
 
-pub usize-plain : (f : Bytes) (r : Number) → (length f ≡ 0 → ⊥) → (getD f 0 0 ≡ 43 → ⊥) → r ≡ digitsOf (drop 0 f) → r ≡ numberOf Transition f
+pub sign-plain : (f : Bytes) → (length f ≡ 0 → ⊥) → (getD f 0 0 ≡ 43 → ⊥) → drop 0 f ≡ unsigned f
+sign-plain [] n h = absurd (n refl)
+sign-plain (b ∷ bs) n h = simp (ne-eqb b 43 h)
+
+-- the transition reader
+pub usize-digits : (f : Bytes) (r : Number) (at : ℕ) → drop at f ≡ unsigned f → r ≡ digitsOf (drop at f) → r ≡ numberOf Transition f
 unfolding numberOf
-usize-plain [] r n h e = absurd (n refl)
-usize-plain (b ∷ bs) r n h e = simp (ne-eqb b 43 h) e
+usize-digits f r at k e = e ∙ ap digitsOf k
 
 -- the witness reader: a field of at most one byte, a longer one that begins with 0, another
 pub number-short : (f : Bytes) (r : Number) → length f < 2 → r ≡ numberOf Transition f → r ≡ numberOf Witness f

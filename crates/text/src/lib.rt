@@ -2,7 +2,7 @@
 ghost use mathlib.Core.Path.{_≡_};
 ghost use Prim.Native.Nat.{_+_};
 ghost use lib.ListN.{drop};
-ghost use Rattle.text.specs.Numbers.{digitsOf, numberOf};
+ghost use Rattle.text.specs.Numbers.{digitsAfter, digitsOf, unsigned, numberOf};
 ghost use Rattle.scan.specs.Spans.{span};
 ghost use Rattle.text.specs.Lines.{lineAt};
 ghost use Rattle.text.specs.Fields.{isBlank, inField, fieldAt, firstField, hasHeaderWord};
@@ -58,6 +58,16 @@ fn wide(x: u8) -> u64
     x as u64
 }
 
+// Where the digits of f may be read from as from a position: in a long field past the zeros in front.
+fn zeros_end(f: &[u8], at: usize) -> usize
+    ensures { λ r. ⌜ digitsAfter 0 (drop r (now (f .entry))) ≡ digitsAfter 0 (drop at (now (f .entry))) ⌝ }
+{
+    if f.len() <= 32 {
+        return at;
+    }
+    scan::run_end(f, at, 48, 48)
+}
+
 // The digits of f from a position on.
 fn digits(f: &[u8], at: usize) -> Number
     ensures { λ r. ⌜ r ≡ digitsOf (drop at (now (f .entry))) ⌝ }
@@ -66,7 +76,7 @@ fn digits(f: &[u8], at: usize) -> Number
         return Number::Unreadable;
     }
     let mut v: u64 = 0;
-    let mut i = at;
+    let mut i = zeros_end(f, at);
     while i < f.len() {
         let b = f[i];
         if b < 48 {
@@ -85,17 +95,24 @@ fn digits(f: &[u8], at: usize) -> Number
     Number::Value(v)
 }
 
+// Where the digits of a field begin: one leading '+' is taken.
+fn sign_end(f: &[u8]) -> usize
+    ensures { λ r. ⌜ drop r (now (f .entry)) ≡ unsigned (now (f .entry)) ⌝ }
+{
+    if f.len() == 0 {
+        return 0;
+    }
+    if f[0] == 43 {
+        return 1;
+    }
+    0
+}
+
 // The transition reader's number.
 pub fn parse_usize(f: &[u8]) -> Number
     ensures { λ r. ⌜ r ≡ numberOf Reader.Transition (now (f .entry)) ⌝ }
 {
-    if f.len() == 0 {
-        return Number::Unreadable;
-    }
-    if f[0] == 43 {
-        return digits(f, 1);
-    }
-    digits(f, 0)
+    digits(f, sign_end(f))
 }
 
 // The witness reader's number: a longer one does not begin with '0'.
@@ -160,11 +177,16 @@ fn is_blank(b: u8) -> bool
     b <= 13
 }
 
+// The end of the blanks at a position; most are bytes 32.
 fn blanks_end(l: &[u8], at: usize) -> usize
     ensures { λ r. ⌜ r ≡ at + span isBlank (drop at (now (l .entry))) ⌝ }
 {
     let mut i = at;
     while i < l.len() {
+        if l[i] == 32 {
+            i += 1;
+            continue;
+        }
         if is_blank(l[i]) {
             i += 1;
         } else {

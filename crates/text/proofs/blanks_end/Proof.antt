@@ -1,11 +1,12 @@
 use Prim.Native.Nat.{_+_, _-_}
 use mathlib.Core.Path.{_≡_}
-use borrow.Author.Needs.{needs}
 use lib.ListN.{length, drop}
-use Rattle.lists.proofs.BoolLaws.{told}
-use Rattle.scan.proofs.SpanLaws.{span-again, span-stop, span-over}
-use Rattle.scan.specs.Spans.{span}
+use borrow.Author.Needs.{needs}
+use Rattle.text.proofs.FieldLaws.{space-is-blank}
 use Rattle.text.specs.Fields.{isBlank}
+use Rattle.scan.specs.Spans.{span}
+use Rattle.scan.proofs.SpanLaws.{span-again, span-stop, span-over}
+use Rattle.lists.proofs.BoolLaws.{told}
 use Rattle.text.proofs.blanks_end.Statement.{statement}
 use Rattle.text.proofs.blanks_end.Tie as tie
 
@@ -18,14 +19,8 @@ abbrev μ-loop : tie.MeasureT-loop
 loop-holds : tie.Need-loop-holds Inv-loop μ-loop
 loop-holds c = search needs
 
-shared-slice-read-is-blank : tie.Need-shared-slice-read-is-blank Inv-loop μ-loop
-shared-slice-read-is-blank c = search needs
-
-is-blank-requires : tie.Need-is-blank-requires Inv-loop μ-loop
-is-blank-requires c κs = search needs
-
-returns : tie.Need-returns Inv-loop μ-loop
-returns c = search (span-stop, told)
+shared-slice-read-if1 : tie.Need-shared-slice-read-if1 Inv-loop μ-loop
+shared-slice-read-if1 c = search needs
 
 add-i : tie.Need-add-i Inv-loop μ-loop
 add-i c = search needs
@@ -34,7 +29,25 @@ loop-less : tie.Need-loop-less Inv-loop μ-loop
 loop-less c = search needs
 
 loop-again : tie.Need-loop-again Inv-loop μ-loop
-loop-again c = search (span-again, told)
+loop-again c = search (span-again, space-is-blank)
+
+shared-slice-read-is-blank : tie.Need-shared-slice-read-is-blank Inv-loop μ-loop
+shared-slice-read-is-blank c = search needs
+
+is-blank-requires : tie.Need-is-blank-requires Inv-loop μ-loop
+is-blank-requires c κs = search needs
+
+add-i-2 : tie.Need-add-i-2 Inv-loop μ-loop
+add-i-2 c = search needs
+
+loop-less-2 : tie.Need-loop-less-2 Inv-loop μ-loop
+loop-less-2 c = search needs
+
+loop-again-2 : tie.Need-loop-again-2 Inv-loop μ-loop
+loop-again-2 c = span-again isBlank _ _ _ (c .before .before .before .before .before .before .loop .inv) (search needs) (told _ _ _ (c .before .is-blank .ensures) (c .if2 .taken))
+
+returns : tie.Need-returns Inv-loop μ-loop
+returns c = span-stop isBlank _ _ _ (c .before .before .before .before .before .before .loop .inv) (search needs) (told _ _ _ (c .before .is-blank .ensures) (c .if2 .left))
 
 returns-2 : tie.Need-returns-2 Inv-loop μ-loop
 returns-2 c = search span-over
@@ -46,10 +59,14 @@ blanks-end-spec =
     Inv-loop
     μ-loop
     loop-holds
-    shared-slice-read-is-blank
-    is-blank-requires
+    shared-slice-read-if1
     add-i
     loop-less
     loop-again
+    shared-slice-read-is-blank
+    is-blank-requires
+    add-i-2
+    loop-less-2
+    loop-again-2
     returns
     returns-2)

@@ -1,8 +1,8 @@
 use Prim.Native.Nat.{_-_, _<_, _^_}
 use mathlib.Core.Path.{sym, _≡_}
-use borrow.Author.Needs.{needs}
 use lib.ListN.{length, drop}
-use Rattle.text.proofs.DigitLaws.{at-low, at-high, at-over, at-end, at-digit, digits-start, digits-none}
+use borrow.Author.Needs.{needs}
+use Rattle.text.proofs.DigitLaws.{at-low, at-high, at-over, at-end, at-digit, digits-start-at, digits-none}
 use Rattle.text.specs.Numbers.{digitsOf, digitsAfter}
 use Rattle.text.proofs.digits.Statement.{statement}
 use Rattle.text.proofs.digits.Tie as tie
@@ -16,8 +16,11 @@ abbrev μ-loop : tie.MeasureT-loop
 returns : tie.Need-returns Inv-loop μ-loop
 returns c = sym (digits-none _ _ (c .if1 .taken))
 
+zeros-end-requires : tie.Need-zeros-end-requires Inv-loop μ-loop
+zeros-end-requires c κs = search needs
+
 loop-holds : tie.Need-loop-holds Inv-loop μ-loop
-loop-holds c = (search needs, digits-start _ _ (c .if1 .left))
+loop-holds c = (search needs, digits-start-at _ _ (c .before .if1 .left) (c .zeros-end .result) (c .zeros-end .ensures))
 
 shared-slice-read-b : tie.Need-shared-slice-read-b Inv-loop μ-loop
 shared-slice-read-b c = search needs
@@ -65,6 +68,7 @@ digits-spec =
     Inv-loop
     μ-loop
     returns
+    zeros-end-requires
     loop-holds
     shared-slice-read-b
     returns-2
