@@ -1,0 +1,65 @@
+use Prim.Native.Nat.{_-_}
+use mathlib.Core.List.{map}
+use mathlib.Core.Path.{_≡_}
+use native.Mathlib.Omega.{arith}
+use lib.ListN.{length-set, length, take}
+use borrow.Author.Needs.{needs}
+use Rattle.model.specs.Circuit.{noLatch, nextOf}
+use Rattle.lists.proofs.RestLaws.{map-more, map-end}
+use Rattle.model.proofs.nexts.Statement.{statement}
+use Rattle.model.proofs.nexts.Tie as tie
+
+abbrev Inv-loop : tie.InvT-loop
+Inv-loop latches r₀ i₀ r i = (length r ≡ 8) × (take i r ≡ take i (map nextOf latches))
+
+abbrev μ-loop : tie.MeasureT-loop
+μ-loop latches r₀ i₀ r i = 8 - i
+
+loop-holds : tie.Need-loop-holds Inv-loop μ-loop
+loop-holds c = search needs
+
+mul-l : tie.Need-mul-l Inv-loop μ-loop
+mul-l c = search needs
+
+array-copy-out-l : tie.Need-array-copy-out-l Inv-loop μ-loop
+array-copy-out-l c = search needs
+
+mul-r : tie.Need-mul-r Inv-loop μ-loop
+mul-r c = search needs
+
+array-write-r : tie.Need-array-write-r Inv-loop μ-loop
+array-write-r c = search needs
+
+add-i : tie.Need-add-i Inv-loop μ-loop
+add-i c = search needs
+
+loop-less : tie.Need-loop-less Inv-loop μ-loop
+loop-less c = search needs
+
+loop-again : tie.Need-loop-again Inv-loop μ-loop
+loop-again c = let l = c .before .before .loop in
+    let m = c .before .before .before .args .t1 in
+    let n : length m ≡ 8 = c .before .before .before .good .0 .1 .0 .1 in
+    (simp length-set (l .inv .0), map-more nextOf (l .r) m (l .i) (l .inv .1) noLatch (omega arith) (omega arith))
+
+returns : tie.Need-returns Inv-loop μ-loop
+returns c = let l = c .before .loop in
+    let m = c .before .before .args .t1 in
+    let n : length m ≡ 8 = c .before .before .good .0 .1 .0 .1 in
+    map-end nextOf (l .r) m (l .i) (l .inv .1) (omega arith) (omega arith)
+
+pub nexts-spec : {M : Type 1} → statement M
+nexts-spec =
+    tie.close
+    (tie.spec
+    Inv-loop
+    μ-loop
+    loop-holds
+    mul-l
+    array-copy-out-l
+    mul-r
+    array-write-r
+    add-i
+    loop-less
+    loop-again
+    returns)
