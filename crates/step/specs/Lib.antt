@@ -1,0 +1,4 @@
+-- Item 6 of 01: one step of a transition model.
+pub mod Step
+pub mod Stored
+pub mod Runnable
