@@ -1,15 +1,16 @@
 //! The words of the command line.
 
-use crate::compare::{Layer, Settings, text};
+use crate::compare::{Comparison, Settings, model, text};
 
-pub const USAGE: &str = "usage: differential [text] [--seed N] [--cases N] [--self-test]
+pub const USAGE: &str = "usage: differential [text|model] [--seed N] [--cases N] [--self-test]
   text         numbers, lines, fields, literals, text checks, decimal digits (the default)
+  model        the transition reader, the validation of records, the step
   --seed N     seed of the random inputs (default 1)
-  --cases N    random inputs a group (default 100000)
+  --cases N    random inputs a group (default 100000 for text, 20000 for model)
   --self-test  compare deliberately wrong variants instead; succeeds when all are found";
 
 pub struct Arguments {
-    pub layer: Layer,
+    pub layer: &'static dyn Comparison,
     pub settings: Settings,
     pub self_test: bool,
 }
@@ -17,18 +18,19 @@ pub struct Arguments {
 /// Reads the words, or says what is wrong with them.
 pub fn read(mut words: impl Iterator<Item = String>) -> Result<Arguments, String> {
     let mut arguments = Arguments {
-        layer: text::LAYER,
+        layer: &text::LAYER,
         settings: Settings {
             seed: 1,
-            cases: 100_000,
+            cases: None,
         },
         self_test: false,
     };
     while let Some(word) = words.next() {
         match word.as_str() {
-            "text" => arguments.layer = text::LAYER,
+            "text" => arguments.layer = &text::LAYER,
+            "model" => arguments.layer = &model::LAYER,
             "--seed" => arguments.settings.seed = number(&word, words.next())?,
-            "--cases" => arguments.settings.cases = number(&word, words.next())?,
+            "--cases" => arguments.settings.cases = Some(number(&word, words.next())?),
             "--self-test" => arguments.self_test = true,
             _ => return Err(format!("unknown word '{word}'")),
         }

@@ -1,52 +1,65 @@
 //! Runs groups of cases, and tries them on wrong variants.
 
+mod inputs;
+pub mod model;
 pub mod text;
 
 use crate::ours;
 use crate::random::Random;
-use crate::subject::Subject;
 use crate::tally::Tally;
 
 /// What a run is given.
 pub struct Settings {
     pub seed: u64,
-    /// How many random inputs a random group makes.
-    pub cases: usize,
+    /// How many random inputs a random group makes, where the layer's own number is not wanted.
+    pub cases: Option<usize>,
 }
 
-/// A named group of cases.
-pub struct Group {
+/// A named group of cases for a table of functions `S`.
+pub struct Group<S> {
     pub name: &'static str,
-    pub run: fn(&mut Run),
+    pub run: fn(&mut Run<S>),
 }
 
 /// A deliberately wrong variant, and the group that has to find it.
-pub struct Fault {
+pub struct Fault<S> {
     pub name: &'static str,
     pub group: &'static str,
-    pub spoil: fn(&mut Subject),
+    pub spoil: fn(&mut S),
 }
 
-/// One layer: its groups and the faults to try them on.
-pub struct Layer {
-    pub groups: &'static [Group],
-    pub faults: &'static [Fault],
+/// One layer: the functions that are compared, its groups, and the faults to try them on.
+pub struct Layer<S: 'static> {
+    pub ours: S,
+    /// How many random inputs a random group makes.
+    pub cases: usize,
+    pub groups: &'static [Group<S>],
+    pub faults: &'static [&'static [Fault<S>]],
 }
 
 /// A group being run.
-pub struct Run {
-    pub ours: Subject,
+pub struct Run<S> {
+    pub ours: S,
     pub cases: usize,
     pub random: Random,
     pub tally: Tally,
 }
 
-impl Group {
-    fn tally(&self, settings: &Settings, ours: Subject) -> Tally {
+/// A layer, whatever its functions are.
+pub trait Comparison: Sync {
+    /// Runs all groups. True where there is no difference, and something was compared.
+    fn compare(&self, settings: &Settings) -> bool;
+
+    /// Runs each fault's group on it. True where every fault is found, and each group finds one.
+    fn self_test(&self, settings: &Settings) -> bool;
+}
+
+impl<S> Group<S> {
+    fn tally(&self, seed: u64, cases: usize, ours: S) -> Tally {
         let mut run = Run {
             ours,
-            cases: settings.cases,
-            random: Random::new(settings.seed, self.name),
+            cases,
+            random: Random::new(seed, self.name),
             tally: Tally::default(),
         };
         (self.run)(&mut run);
@@ -54,14 +67,13 @@ impl Group {
     }
 }
 
-impl Layer {
-    /// Runs all groups. True where there is no difference, and something was compared.
-    pub fn compare(&self, settings: &Settings) -> bool {
-        announce(settings);
+impl<S: Copy + Sync> Comparison for Layer<S> {
+    fn compare(&self, settings: &Settings) -> bool {
+        let wanted = self.announce(settings);
         let mut cases = 0;
         let mut differences = 0;
         for group in self.groups {
-            let tally = group.tally(settings, ours::SUBJECT);
+            let tally = group.tally(settings.seed, wanted, self.ours);
             print_group(group.name, &tally);
             cases += tally.cases;
             differences += tally.differences;
@@ -70,33 +82,49 @@ impl Layer {
         differences == 0 && cases > 0
     }
 
-    /// Runs each fault's group on it. True where every fault is found, and each group finds one.
-    pub fn self_test(&self, settings: &Settings) -> bool {
-        announce(settings);
+    fn self_test(&self, settings: &Settings) -> bool {
+        let wanted = self.announce(settings);
         let mut unfound = 0;
-        for fault in self.faults {
-            let found = self.finds(settings, fault);
+        for fault in self.all_faults() {
+            let found = self.finds(settings.seed, wanted, fault);
             unfound += usize::from(!found);
         }
         for group in self.groups {
-            if !self.faults.iter().any(|fault| fault.group == group.name) {
+            if !self.all_faults().any(|fault| fault.group == group.name) {
                 println!("no fault is tried on the group '{}'", group.name);
                 unfound += 1;
             }
         }
-        let tried = self.faults.len();
+        let tried = self.all_faults().count();
         println!("self-test: {tried} wrong variants tried, {unfound} not found");
         unfound == 0
     }
+}
 
-    fn finds(&self, settings: &Settings, fault: &Fault) -> bool {
+impl<S: Copy> Layer<S> {
+    /// Says what is run, and returns how many random inputs a group makes.
+    fn announce(&self, settings: &Settings) -> usize {
+        let wanted = settings.cases.unwrap_or(self.cases);
+        println!(
+            "seed {}, {wanted} random inputs a group, ours is {}",
+            settings.seed,
+            ours::NAME
+        );
+        wanted
+    }
+
+    fn all_faults(&self) -> impl Iterator<Item = &'static Fault<S>> {
+        self.faults.iter().copied().flatten()
+    }
+
+    fn finds(&self, seed: u64, cases: usize, fault: &Fault<S>) -> bool {
         let Some(group) = self.groups.iter().find(|group| group.name == fault.group) else {
             println!("wrong variant '{}': no group '{}'", fault.name, fault.group);
             return false;
         };
-        let mut subject = ours::SUBJECT;
+        let mut subject = self.ours;
         (fault.spoil)(&mut subject);
-        let tally = group.tally(settings, subject);
+        let tally = group.tally(seed, cases, subject);
         println!(
             "wrong variant '{}': {} differences in {} cases of '{}'",
             fault.name, tally.differences, tally.cases, group.name
@@ -106,15 +134,6 @@ impl Layer {
         }
         tally.differences > 0
     }
-}
-
-fn announce(settings: &Settings) {
-    println!(
-        "seed {}, {} random inputs a group, ours is {}",
-        settings.seed,
-        settings.cases,
-        ours::NAME
-    );
 }
 
 fn print_group(name: &str, tally: &Tally) {

@@ -1,28 +1,10 @@
 //! Compares the proved library with the published Rust that it ports.
 
-#[cfg(published)]
-mod arguments;
-#[cfg(published)]
-mod compare;
-#[cfg(published)]
-mod oracle;
-#[cfg(published)]
-mod ours;
-#[cfg(published)]
-mod random;
-#[cfg(published)]
-mod reading;
-#[cfg(published)]
-mod subject;
-#[cfg(published)]
-mod tally;
-#[cfg(published)]
-mod unsat_proof;
-
 use std::process::ExitCode;
 
 #[cfg(published)]
 fn main() -> ExitCode {
+    use differential::arguments;
     let arguments = match arguments::read(std::env::args().skip(1)) {
         Ok(arguments) => arguments,
         Err(error) => {

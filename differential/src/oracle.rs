@@ -1,5 +1,7 @@
 //! The oracle: the published Rust, compiled unchanged, as `oracle::aiger` and `oracle::composed`.
 
+pub mod model;
+
 use crate::subject::Rule;
 use std::str::Lines;
 use std::sync::OnceLock;

@@ -1,5 +1,7 @@
 //! The proved library, behind safe functions. Its calls take any bytes, places and numbers.
 
+pub mod model;
+
 use crate::subject::Subject;
 
 #[cfg(not(feature = "stand-in"))]

@@ -1,6 +1,8 @@
 //! What is compared: one table of functions, filled by the library, by the reading of the
 //! requirements, or by a deliberately wrong variant.
 
+pub mod model;
+
 /// Which reader's number rule holds.
 #[derive(Clone, Copy, Debug, Eq, PartialEq)]
 pub enum Rule {

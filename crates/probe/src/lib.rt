@@ -10,6 +10,9 @@ ghost use Rattle.text.specs.Texts.{limited, goodText};
 ghost use Rattle.decimal.specs.Decimal.{decimal};
 ghost use Rattle.decimal.specs.Writing.{written, writtenAt};
 ghost use Rattle.probe.specs.Flat.{readerOf, flatNumber, flatLiteral, flatLine, flatField, flatWritten, cursorAt};
+
+mod models;
+
 use decimal::Written;
 use text::Cursor;
 use text::Field;

@@ -3,17 +3,24 @@
 mod checks;
 mod decimal;
 mod faults;
-mod inputs;
 mod lines;
 mod literals;
 mod numbers;
 mod words;
 
-use crate::compare::{Group, Layer};
+use crate::compare;
+use crate::ours;
+use crate::subject::Subject;
 
-pub const LAYER: Layer = Layer {
+type Run = compare::Run<Subject>;
+type Group = compare::Group<Subject>;
+type Fault = compare::Fault<Subject>;
+
+pub static LAYER: compare::Layer<Subject> = compare::Layer {
+    ours: ours::SUBJECT,
+    cases: 100_000,
     groups: &GROUPS,
-    faults: faults::FAULTS,
+    faults: &[faults::FAULTS],
 };
 
 const GROUPS: [Group; 24] = [

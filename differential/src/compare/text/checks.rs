@@ -1,7 +1,7 @@
 //! Reason 3: which texts a reader takes at all, against the first check of the published readers.
 
-use super::inputs::all_texts;
-use crate::compare::{Group, Run};
+use super::{Group, Run};
+use crate::compare::inputs::all_texts;
 use crate::reading::LONGEST_TEXT;
 use crate::subject::RULES;
 use crate::tally::{Answers, shown};

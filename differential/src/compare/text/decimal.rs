@@ -1,6 +1,6 @@
 //! Decimal digits: written into a lent buffer, counted, and read back.
 
-use crate::compare::{Group, Run};
+use super::{Group, Run};
 use crate::subject::{RULES, Written};
 use crate::tally::Answers;
 use crate::{oracle, reading};

@@ -1,7 +1,7 @@
 //! Deliberately wrong variants, each with one likely fault. The self-test has to find all of them.
 
+use super::Fault;
 use super::{checks, decimal, lines, literals, numbers, words};
-use crate::compare::Fault;
 use crate::ours::SUBJECT as OURS;
 use crate::reading;
 use crate::subject::{Part, Rule, Taken, Written};

@@ -1,7 +1,7 @@
 //! Item 2: lines and fields, against `lines` and `split_whitespace`, which the Rust uses.
 
-use super::inputs::{all_line_texts, all_texts, ascii, random_text};
-use crate::compare::{Group, Run};
+use super::{Group, Run};
+use crate::compare::inputs::{all_line_texts, all_texts, ascii, random_text};
 use crate::reading;
 use crate::subject::{Part, Subject};
 use crate::tally::{Answers, shown};

@@ -1,7 +1,7 @@
 //! Item 2: `take_literal`. Answers and places are compared after every call.
 
-use super::inputs::{all_line_texts, ascii, random_text};
-use crate::compare::{Group, Run};
+use super::{Group, Run};
+use crate::compare::inputs::{all_line_texts, ascii, random_text};
 use crate::subject::{RULES, Rule, Taken};
 use crate::tally::{Answers, shown};
 use crate::{oracle, reading};

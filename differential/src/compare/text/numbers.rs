@@ -1,7 +1,7 @@
 //! Item 1: the number reader, by both rules.
 
-use super::inputs::{TELLING, all_texts, ascii, damage, random_number};
-use crate::compare::{Group, Run};
+use super::{Group, Run};
+use crate::compare::inputs::{TELLING, all_texts, ascii, damage, random_number};
 use crate::subject::RULES;
 use crate::tally::{Answers, shown};
 use crate::{oracle, reading};

@@ -1,7 +1,7 @@
 //! Words compared with byte-string constants: `same` and `begins_with`.
 
-use super::inputs::{all_texts, damage};
-use crate::compare::{Group, Run};
+use super::{Group, Run};
+use crate::compare::inputs::{all_texts, damage};
 use crate::reading;
 use crate::tally::{Answers, shown};
 

@@ -19,15 +19,25 @@ pub fn all_texts(alphabet: &[u8], longest: usize, mut each: impl FnMut(&[u8])) {
     extend_all(alphabet, longest, &mut text, &mut each);
 }
 
-fn extend_all(alphabet: &[u8], left: usize, text: &mut Vec<u8>, each: &mut impl FnMut(&[u8])) {
-    each(text);
+/// Calls `each` with all lists of so many of the given items.
+pub fn all_words<T: Copy>(items: &[T], length: usize, mut each: impl FnMut(&[T])) {
+    let mut list = Vec::with_capacity(length);
+    extend_all(items, length, &mut list, &mut |list: &[T]| {
+        if list.len() == length {
+            each(list);
+        }
+    });
+}
+
+fn extend_all<T: Copy>(items: &[T], left: usize, list: &mut Vec<T>, each: &mut impl FnMut(&[T])) {
+    each(list);
     if left == 0 {
         return;
     }
-    for &byte in alphabet {
-        text.push(byte);
-        extend_all(alphabet, left - 1, text, each);
-        text.pop();
+    for &item in items {
+        list.push(item);
+        extend_all(items, left - 1, list, each);
+        list.pop();
     }
 }
 
@@ -116,7 +126,7 @@ fn random_line(random: &mut Random, text: &mut Vec<u8>) {
     }
 }
 
-fn random_blanks(random: &mut Random, text: &mut Vec<u8>) {
+pub fn random_blanks(random: &mut Random, text: &mut Vec<u8>) {
     for _ in 0..=random.below(3) {
         text.push(random.choose(&[b' ', b' ', b' ', 9, 11, 12, 13]));
     }

@@ -1,0 +1,197 @@
+//! The reader on all short texts of a kind.
+
+use super::check::{Lent, read};
+use super::{Group, K, Q, Run};
+use crate::compare::inputs::all_texts;
+
+pub const HEADERS: Group = Group {
+    name: "read: headers of all telling fields",
+    run: headers,
+};
+
+pub const HEADER_BYTES: Group = Group {
+    name: "read: all short ends of a header",
+    run: header_bytes,
+};
+
+pub const BODIES: Group = Group {
+    name: "read: all short texts after a header",
+    run: bodies,
+};
+
+pub const LITERALS: Group = Group {
+    name: "read: all literals of small circuits",
+    run: literals,
+};
+
+pub const EACH_BYTE: Group = Group {
+    name: "read: each byte at each place of K and Q",
+    run: each_byte,
+};
+
+/// Compares a text with enough lent.
+fn check(run: &mut Run, text: &[u8]) {
+    let lent = Lent::enough_for(&mut run.random, text);
+    read(run, text, &lent);
+}
+
+/// Five fields of a header, before lines that suffice for the smallest counts.
+fn headers(run: &mut Run) {
+    const FIELDS: [&str; 9] = ["0", "1", "2", "3", "+1", "00", "-1", "x", "9"];
+    for number in 0..FIELDS.len().pow(5) {
+        let mut rest = number;
+        let mut text = "aag".to_string();
+        for _ in 0..5 {
+            text.push(' ');
+            text.push_str(FIELDS[rest % FIELDS.len()]);
+            rest /= FIELDS.len();
+        }
+        text.push_str("\n2 1\n4 2 3\n6 2 4\n");
+        check(run, text.as_bytes());
+    }
+    for words in [
+        "", "aag", "aa", "aagg", "AAG", "aig", "aag1", "1 aag", " aag", "\taag", "\naag",
+    ] {
+        for counts in [
+            "",
+            " 1",
+            " 1 0 1 0",
+            " 1 0 1 0 0",
+            " 1 0 1 0 0 0",
+            " 1 0 1 0 0 x",
+            "1 0 1 0 0",
+        ] {
+            check(run, format!("{words}{counts}\n2 1\n").as_bytes());
+            check(run, format!("{words}{counts}").as_bytes());
+        }
+    }
+}
+
+fn header_bytes(run: &mut Run) {
+    for start in ["aag 1 0 1 ", "aag 2 0 1 0 ", "aag 1 0 ", "aa"] {
+        all_texts(&[b'0', b'1', b'+', b' ', 10, 13, b'g'], 5, |end| {
+            let text = [start.as_bytes(), end, b"\n2 1\n4 2 2\n"].concat();
+            check(run, &text);
+        });
+    }
+    all_texts(&[b'a', b'g', b' ', 9, 10, 13, 127, 128], 4, |text| {
+        check(run, text)
+    });
+}
+
+fn bodies(run: &mut Run) {
+    for start in [
+        "aag 1 0 1 0 0\n",
+        "aag 1 0 1 0 0\n2",
+        "aag 1 0 1 0 0\n2 ",
+        "aag 1 0 1 1 0\n2 2\n",
+        "aag 2 1 1 0 0\n2\n4",
+        "aag 2 0 1 0 1\n2 4\n4 2",
+    ] {
+        all_texts(
+            &[b'0', b'1', b'2', b'3', b'4', b'+', b' ', 10, 13],
+            5,
+            |end| {
+                let text = [start.as_bytes(), end].concat();
+                check(run, &text);
+            },
+        );
+    }
+}
+
+/// Every number of a circuit's lines at every value from 0 to past 2M + 1.
+fn literals(run: &mut Run) {
+    wild_literals(run);
+    const SHAPES: [(&str, usize, u64); 5] = [
+        ("aag 1 0 1 1 0\n# #\n#\n", 3, 6),
+        ("aag 2 1 1 1 0\n#\n# #\n#\n", 4, 8),
+        ("aag 2 0 1 0 1\n# #\n# # #\n", 5, 8),
+        ("aag 2 0 2 0 0\n# #\n# #\n", 4, 8),
+        ("aag 2 1 1 0 0\n#\n# # #\n", 4, 8),
+    ];
+    for (form, numbers, limit) in SHAPES {
+        for number in 0..limit.pow(numbers as u32) {
+            check(run, filled(form, number, limit).as_bytes());
+        }
+    }
+    for number in 0..8_u64.pow(6) {
+        // Variables 1 and 2 are kept, and all else is tried: two gates listed in either order.
+        let text = filled("aag 4 1 1 0 2\n2\n4 9\n# # #\n# # #\n", number, 8);
+        let even = text
+            .lines()
+            .skip(3)
+            .all(|line| matches!(line.as_bytes()[0], b'6' | b'0'));
+        if even || number % 7 == 0 {
+            check(run, text.as_bytes());
+        }
+    }
+}
+
+/// Each number of K and Q, after their headers, at values far from the others: 2^64 + 2 wraps to 2,
+/// and 2^65 + 4 to 4.
+fn wild_literals(run: &mut Run) {
+    const NUMBERS: [&str; 12] = [
+        "8",
+        "4294967298",
+        "9223372036854775807",
+        "9223372036854775808",
+        "18446744073709551614",
+        "18446744073709551615",
+        "18446744073709551616",
+        "18446744073709551618",
+        "36893488147419103236",
+        "000000000000000000000000000000000000000002",
+        "+0000000000000000000004",
+        "-2",
+    ];
+    for text in [K, Q] {
+        let text = std::str::from_utf8(text).expect("ASCII");
+        let places = text.match_indices(|byte: char| byte.is_ascii_digit());
+        for (place, _) in places.skip_while(|&(place, _)| !text[..place].contains('\n')) {
+            for number in NUMBERS {
+                let changed = [&text[..place], number, &text[place + 1..]].concat();
+                check(run, changed.as_bytes());
+            }
+        }
+    }
+}
+
+/// The form with the digits of a number, in a base of at most 10, in the places of `#`.
+fn filled(form: &str, number: u64, base: u64) -> String {
+    let mut rest = number;
+    form.chars()
+        .map(|byte| match byte {
+            '#' => {
+                let digit = (b'0' + (rest % base) as u8) as char;
+                rest /= base;
+                digit
+            }
+            other => other,
+        })
+        .collect()
+}
+
+fn each_byte(run: &mut Run) {
+    let ended = b"aag 1 0 1 0 0\n2 2 2\nc\nx\n";
+    for text in [K, Q, ended] {
+        for place in 0..=text.len() {
+            for byte in 0..=255 {
+                let mut longer = text.to_vec();
+                longer.insert(place, byte);
+                check(run, &longer);
+                if place < text.len() {
+                    let mut changed = text.to_vec();
+                    changed[place] = byte;
+                    check(run, &changed);
+                }
+            }
+            check(run, &text[..place]);
+            check(run, &text[place..]);
+            if place < text.len() {
+                let mut shorter = text.to_vec();
+                shorter.remove(place);
+                check(run, &shorter);
+            }
+        }
+    }
+}

@@ -1,0 +1,115 @@
+//! The model layer of the proved library.
+
+use crate::subject::model::Subject;
+
+#[cfg(not(feature = "stand-in"))]
+use library as chosen;
+#[cfg(feature = "stand-in")]
+use stand_in as chosen;
+
+/// The functions that are compared.
+pub const SUBJECT: Subject = chosen::SUBJECT;
+
+#[cfg(feature = "stand-in")]
+mod stand_in {
+    use crate::reading::model as reading;
+    use crate::subject::model::Subject;
+
+    pub const SUBJECT: Subject = Subject {
+        read: reading::read,
+        validate: reading::validate,
+        step: reading::step,
+    };
+}
+
+#[cfg(not(feature = "stand-in"))]
+mod library {
+    use crate::subject::model::{Model, Read, Stepped, Subject};
+
+    // A slice passes as a pointer and then a length in elements, a record as the words of its memory.
+    unsafe extern "C" {
+        fn probe_read_transition(
+            text: *const u8,
+            text_length: usize,
+            gates: *mut u64,
+            gates_length: usize,
+            work: *mut u64,
+            work_length: usize,
+        ) -> Read;
+        fn probe_validate(
+            model: *const u64,
+            model_length: usize,
+            gates: *const u64,
+            gates_length: usize,
+            work: *mut u64,
+            work_length: usize,
+        ) -> u64;
+        fn probe_step(
+            model: *const u64,
+            model_length: usize,
+            gates: *const u64,
+            gates_length: usize,
+            work: *mut u64,
+            work_length: usize,
+            state: u64,
+            input: u64,
+        ) -> Stepped;
+    }
+
+    /// The words of a record: all its fields and elements are words.
+    const WORDS: usize = size_of::<Model>() / size_of::<u64>();
+
+    fn words(model: &Model) -> *const u64 {
+        std::ptr::from_ref(model).cast()
+    }
+
+    // In every `unsafe` below: pointer and length are those of one slice that lives through the
+    // call, no two overlap, and the library asks nothing else of its arguments.
+
+    pub const SUBJECT: Subject = Subject {
+        read,
+        validate,
+        step,
+    };
+
+    fn read(text: &[u8], gates: &mut [u64], work: &mut [u64]) -> Read {
+        unsafe {
+            probe_read_transition(
+                text.as_ptr(),
+                text.len(),
+                gates.as_mut_ptr(),
+                gates.len(),
+                work.as_mut_ptr(),
+                work.len(),
+            )
+        }
+    }
+
+    fn validate(model: &Model, gates: &[u64], work: &mut [u64]) -> u64 {
+        unsafe {
+            probe_validate(
+                words(model),
+                WORDS,
+                gates.as_ptr(),
+                gates.len(),
+                work.as_mut_ptr(),
+                work.len(),
+            )
+        }
+    }
+
+    fn step(model: &Model, gates: &[u64], work: &mut [u64], state: u64, input: u64) -> Stepped {
+        unsafe {
+            probe_step(
+                words(model),
+                WORDS,
+                gates.as_ptr(),
+                gates.len(),
+                work.as_mut_ptr(),
+                work.len(),
+                state,
+                input,
+            )
+        }
+    }
+}
