@@ -1,0 +1,27 @@
+//! Measures the proved library beside the published Rust, in one process and in alternating turns.
+
+#[cfg(published)]
+mod circuits;
+#[cfg(published)]
+mod measure;
+#[cfg(published)]
+mod reading;
+#[cfg(published)]
+mod stepping;
+#[cfg(published)]
+mod table;
+#[cfg(published)]
+mod texts;
+
+#[cfg(published)]
+fn main() {
+    let table = table::Table::new(std::env::args().skip(1).collect());
+    println!("ours is {}", differential::ours::NAME);
+    reading::measure(&table);
+    stepping::measure(&table);
+}
+
+#[cfg(not(published))]
+fn main() {
+    println!("the published Rust files are absent: nothing was measured");
+}
