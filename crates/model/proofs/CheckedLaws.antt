@@ -4,6 +4,7 @@ use mathlib.Core.Bool.{Bool, true, false, not, _&&_, and-true, and-false}
 use mathlib.Core.List.{List, [], _++_, map}
 use mathlib.Core.Path.{_≡_, refl, sym, _∙_}
 use native.Mathlib.Omega.{arith}
+use lib.Dec.{leb}
 use lib.ListN.{length, take}
 use borrow.Author.Tests.{not-true, not-false, le-ltb, lt-ltb, lt-leb, le-leb}
 use Rattle.lists.specs.Answer.{got, unless}
@@ -95,27 +96,41 @@ module _ (m : AigerTransition) (g : List ℕ) (w : ℕ) where
     counts-fail t = rw (lt-ltb (m .«max_variable») w h, ← q, not-true r t) refl
 
     module _ (t : not r ≡ false) where
-      pub too-few-words : length g / 3 < m .«and_count» → judged (Refused 11) (circuitOf m g) ≡ checked m g w
+      pub too-few-inputs : length (m .inputs) < m .«input_count» → judged (Refused 11) (circuitOf m g) ≡ checked m g w
       unfolding checked
-      too-few-words b = rw (lt-ltb (m .«max_variable») w h, ← q, not-false r t, lt-leb (3 * m .«and_count») (length g) (omega arith)) refl
+      too-few-inputs a = rw (lt-ltb (m .«max_variable») w h, ← q, not-false r t, lt-leb (m .«input_count») (length (m .inputs)) a) refl
 
-      module _ (b : m .«and_count» ≤ length g / 3) (l : Bool) (y : l ≡ literalsFrom (countsOf m) (m .latches) (m .outputs)) where
-        up-to-literals : checked m g w ≡ unless 11 (wellDefined (circuitOf m g)) (got (circuitOf m g))
+      module _ (x : m .«input_count» ≤ length (m .inputs)) where
+        pub too-few-outputs : length (m .outputs) < m .«output_count» → judged (Refused 11) (circuitOf m g) ≡ checked m g w
         unfolding checked
-        up-to-literals = rw (lt-ltb (m .«max_variable») w h, ← q, not-false r t, le-leb (3 * m .«and_count») (length g) (omega arith)) refl
+        too-few-outputs a =
+            rw (lt-ltb (m .«max_variable») w h, ← q, not-false r t, le-leb (m .«input_count») (length (m .inputs)) x, lt-leb (m .«output_count») (length (m .outputs)) a) refl
 
-        pub literals-fail : not l ≡ true → judged (Refused 11) (circuitOf m g) ≡ checked m g w
-        literals-fail u = sym (up-to-literals ∙ rw (literal-fails (circuitOf m g) (sym y ∙ not-true l u)) refl)
+      module _ (x : m .«input_count» ≤ length (m .inputs)) (o : m .«output_count» ≤ length (m .outputs)) where
+        up-to-words : checked m g w ≡ unless 11 (leb (3 * m .«and_count») (length g)) (unless 11 (wellDefined (circuitOf m g)) (got (circuitOf m g)))
+        unfolding checked
+        up-to-words =
+            rw (lt-ltb (m .«max_variable») w h, ← q, not-false r t, le-leb (m .«input_count») (length (m .inputs)) x, le-leb (m .«output_count») (length (m .outputs)) o) refl
 
-        module _ (u : not l ≡ false) (d : Bool) (e : d ≡ defined (m .«max_variable») (leavesFrom (countsOf m) (m .inputs) (m .latches)) (take (m .«and_count») (triplesOf gateFrom g))) where
-          well : wellDefined (circuitOf m g) ≡ d
-          well = definitions-left (circuitOf m g) (sym y ∙ not-false l u) ∙ sym e
+        pub too-few-words : length g / 3 < m .«and_count» → judged (Refused 11) (circuitOf m g) ≡ checked m g w
+        too-few-words b = sym (up-to-words ∙ rw (lt-leb (3 * m .«and_count») (length g) (omega arith)) refl)
 
-          pub check-fails : d ≡ false → judged (Refused 11) (circuitOf m g) ≡ checked m g w
-          check-fails v = sym (up-to-literals ∙ rw (well, v) refl)
+        module _ (b : m .«and_count» ≤ length g / 3) (l : Bool) (y : l ≡ literalsFrom (countsOf m) (m .latches) (m .outputs)) where
+          up-to-literals : checked m g w ≡ unless 11 (wellDefined (circuitOf m g)) (got (circuitOf m g))
+          up-to-literals = up-to-words ∙ rw (le-leb (3 * m .«and_count») (length g) (omega arith)) refl
 
-          pub check-holds : d ≡ true → judged Valid (circuitOf m g) ≡ checked m g w
-          check-holds v = sym (up-to-literals ∙ rw (well, v) refl)
+          pub literals-fail : not l ≡ true → judged (Refused 11) (circuitOf m g) ≡ checked m g w
+          literals-fail u = sym (up-to-literals ∙ rw (literal-fails (circuitOf m g) (sym y ∙ not-true l u)) refl)
+
+          module _ (u : not l ≡ false) (d : Bool) (e : d ≡ defined (m .«max_variable») (leavesFrom (countsOf m) (m .inputs) (m .latches)) (take (m .«and_count») (triplesOf gateFrom g))) where
+            well : wellDefined (circuitOf m g) ≡ d
+            well = definitions-left (circuitOf m g) (sym y ∙ not-false l u) ∙ sym e
+
+            pub check-fails : d ≡ false → judged (Refused 11) (circuitOf m g) ≡ checked m g w
+            check-fails v = sym (up-to-literals ∙ rw (well, v) refl)
+
+            pub check-holds : d ≡ true → judged Valid (circuitOf m g) ≡ checked m g w
+            check-holds v = sym (up-to-literals ∙ rw (well, v) refl)
 
 -- what the check of the definitions may take for granted
 pub checkable : (most count : ℕ) (g w : List ℕ) (n : ℕ) → w ≡ zeros n → most < n → count ≤ length g / 3 → Checkable most count g w

@@ -211,3 +211,12 @@ pub in-words :
     × (recordIn (7 ∷ zeros 212) ≡ recordFrom (record { «max_variable» = 7; inputs = 0; latches = 0; outputs = 0; ands = 0 }) (zeros 64) (replicate 8 (latch 0 0)) (zeros 128))
     × (countsIn (7 ∷ []) ≡ record { «max_variable» = 7; inputs = 0; latches = 0; outputs = 0; ands = 0 })
 in-words = (refl, refl, refl)
+
+-- inputs or outputs that are lent and do not reach their counts: 11, also where what is there would be well defined
+pub too-short :
+    (checked (recordFrom (record { «max_variable» = 2; inputs = 1; latches = 1; outputs = 0; ands = 0 }) [] (replicate 8 (latch 2 4)) []) [] 3 ≡ refused 11)
+    × (checked (recordFrom (record { «max_variable» = 1; inputs = 0; latches = 1; outputs = 2; ands = 0 }) [] (replicate 8 (latch 2 2)) (2 ∷ [])) [] 2 ≡ refused 11)
+    × (checked (recordFrom (record { «max_variable» = 1; inputs = 0; latches = 1; outputs = 1; ands = 0 }) [] (replicate 8 (latch 2 2)) (2 ∷ [])) [] 2
+    ≡ got (record { variables = 1; inputs = []; latches = latch 2 2 ∷ []; outputs = 2 ∷ []; gates = [] }))
+unfolding checked every counted wellDefined literal defining ordered defined
+too-short = (refl, refl, refl)

@@ -128,6 +128,8 @@ sound-fixes c sound s x =
 pub record Passed (m : AigerTransition) (g : List ℕ) (w : ℕ) (c : Circuit) : Type 0 where
   pub work : m .«max_variable» < w
   pub counts : counted (countsOf m) ≡ true
+  pub inputs : m .«input_count» ≤ length (m .inputs)
+  pub outputs : m .«output_count» ≤ length (m .outputs)
   pub words : 3 * m .«and_count» ≤ length g
   pub well : wellDefined c ≡ true
   pub is : c ≡ circuitOf m g
@@ -138,24 +140,28 @@ checked-got m g w c e =
     let model = circuitOf m g in
     let r₃ : Answer Circuit = unless 11 (wellDefined model) (got model) in
     let r₂ : Answer Circuit = unless 11 (leb (3 * m .«and_count») (length g)) r₃ in
-    let r₁ : Answer Circuit = unless 11 (counted (countsOf m)) r₂ in
+    let ro : Answer Circuit = unless 11 (leb (m .«output_count») (length (m .outputs))) r₂ in
+    let ri : Answer Circuit = unless 11 (leb (m .«input_count») (length (m .inputs))) ro in
+    let r₁ : Answer Circuit = unless 11 (counted (countsOf m)) ri in
     let e₁ : r₁ ≡ got c = unless-got 7 r₁ c (ltb (m .«max_variable») w) e in
-    let e₂ : r₂ ≡ got c = unless-got 11 r₂ c (counted (countsOf m)) e₁ in
+    let ei : ri ≡ got c = unless-got 11 ri c (counted (countsOf m)) e₁ in
+    let eo : ro ≡ got c = unless-got 11 ro c (leb (m .«input_count») (length (m .inputs))) ei in
+    let e₂ : r₂ ≡ got c = unless-got 11 r₂ c (leb (m .«output_count») (length (m .outputs))) eo in
     let e₃ : r₃ ≡ got c = unless-got 11 r₃ c (leb (3 * m .«and_count») (length g)) e₂ in
     let is : c ≡ model = sym (got-same model c (unless-got 11 (got model) c (wellDefined model) e₃)) in
     record {
       work = ltb-true (m .«max_variable») w (unless-test 7 r₁ c (ltb (m .«max_variable») w) e);
-      counts = unless-test 11 r₂ c (counted (countsOf m)) e₁;
+      counts = unless-test 11 ri c (counted (countsOf m)) e₁;
+      inputs = leb-true (m .«input_count») (length (m .inputs)) (unless-test 11 ro c (leb (m .«input_count») (length (m .inputs))) ei);
+      outputs = leb-true (m .«output_count») (length (m .outputs)) (unless-test 11 r₂ c (leb (m .«output_count») (length (m .outputs))) eo);
       words = leb-true (3 * m .«and_count») (length g) (unless-test 11 r₃ c (leb (3 * m .«and_count») (length g)) e₂);
       well = rw is (unless-test 11 (got model) c (wellDefined model) e₃);
       is = is;
     }
 
--- a record as the code has it: its arrays have their lengths
+-- a record as the code has it: it has eight latches
 pub record Sized (m : AigerTransition) : Type 0 where
-  pub inputs : length (m .inputs) ≡ 64
   pub latches : length (m .latches) ≡ 8
-  pub outputs : length (m .outputs) ≡ 128
 
 -- the model has as many of each as the record counts
 pub record AsMany (m : AigerTransition) (c : Circuit) : Type 0 where
@@ -173,9 +179,9 @@ module _ (m : AigerTransition) (g : List ℕ) (w : ℕ) (c : Circuit) (sized : S
       rw (p .is)
       (record {
         variables = refl;
-        inputs = length-take-le (m .«input_count») (m .inputs) (omega (arith, n .inputs, sized .inputs));
+        inputs = length-take-le (m .«input_count») (m .inputs) (p .inputs);
         latches = length-take-le (m .«latch_count») (m .latches) (omega (arith, n .latches, sized .latches));
-        outputs = length-take-le (m .«output_count») (m .outputs) (omega (arith, n .outputs, sized .outputs));
+        outputs = length-take-le (m .«output_count») (m .outputs) (p .outputs);
         gates = length-take-le (m .«and_count») (triplesOf gateFrom g) (rw (triples-count gateFrom g) (omega (arith, p .words)));
       })
 

@@ -26,13 +26,16 @@ countsOf m =
 -- The model of a record and gate words, with a work slice of w words:
 -- 7: "the step or an obligation has a work slice no longer than M";
 -- 11: "a model record handed in breaks the transition limits or has fewer than 3A gate words".
+-- Inputs and outputs that are lent may be fewer than their counts say, which breaks the limits; the eight latches of a record are always there.
 unfoldable pub checked : AigerTransition → List ℕ → ℕ → Answer Circuit
 checked m g w =
     unless 7 (ltb (m .«max_variable») w)
     (unless 11 (counted (countsOf m))
+    (unless 11 (leb (m .«input_count») (length (m .inputs)))
+    (unless 11 (leb (m .«output_count») (length (m .outputs)))
     (unless 11 (leb (3 * m .«and_count») (length g))
     (unless 11 (wellDefined (circuitOf m g))
-    (got (circuitOf m g)))))
+    (got (circuitOf m g)))))))
 
 -- what a verdict on a model says: there is that model, or the number of the reason why there is none
 abbrev pub judged : Verdict → Circuit → Answer Circuit

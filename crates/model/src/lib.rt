@@ -262,6 +262,12 @@ pub fn validate_parts(
     if !counts_hold(n) {
         return Verdict::Refused(11);
     }
+    if inputs.len() < n.inputs {
+        return Verdict::Refused(11);
+    }
+    if outputs.len() < n.outputs {
+        return Verdict::Refused(11);
+    }
     if gates.len() / 3 < n.ands {
         return Verdict::Refused(11);
     }

@@ -1,4 +1,4 @@
-// A model record lent as the 213 words of its memory, taken apart without a copy.
+// A model record lent as the 213 words of its memory, taken apart with no copy but of the latches.
 ghost use mathlib.Core.Path.{_≡_};
 ghost use Prim.Native.Nat.{_<_};
 ghost use Rattle.lists.specs.Parts.{part};

@@ -1,4 +1,4 @@
--- What the functions that take lines from a text say of its list of lines: the item of each line and the lines left, or reason 8.
+-- For the contracts of functions that the reader uses: what those that take lines from a text say of its list of lines: the item of each line and the lines left, or reason 8.
 use Prim.Native.Nat.{ℕ}
 use mathlib.Core.Path.{_≡_}
 use mathlib.Core.List.{List, [], _∷_}

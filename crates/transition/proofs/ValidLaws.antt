@@ -19,9 +19,8 @@ use Rattle.text.specs.Texts.{limited, goodText}
 use Rattle.text.proofs.TextLaws.{text-long}
 use Rattle.aiger.specs.declared.Gate.{Gate}
 use Rattle.aiger.specs.Gates.{gateFrom, gateWords}
-use Rattle.aiger.specs.Sections.{Section, section}
+use Rattle.aiger.specs.Sections.{section}
 use Rattle.aiger.proofs.SectionLaws.{section-length}
-use Rattle.model.specs.declared.AigerLatch.{AigerLatch}
 use Rattle.model.specs.declared.Counts.{Counts}
 use Rattle.model.specs.Circuit.{Circuit, circuitOf, recordOf, noLatch, wordsOfGates}
 use Rattle.model.specs.Limits.{counted, wellDefined}
@@ -149,7 +148,9 @@ module _ (t : Bytes) (g : List ℕ) (w : ℕ) (c : Circuit) (e : readTransition 
       let k : counted (countsOf (recordOf c)) ≡ true = ap counted (counts-back (accepted .counts) c as-counted) ∙ accepted .within in
       let n : length (wordsOfGates c) ≡ 3 * length (c .gates) = words-length gateWords 3 (λ x. refl) (c .gates) in
       let b : 3 * length (c .gates) ≤ length (front g (wordsOfGates c)) = rw (length-append (wordsOfGates c) (drop (length (wordsOfGates c)) g)) (omega arith) in
-      rw (k, le-leb (3 * length (c .gates)) (length (front g (wordsOfGates c))) b, circuit-of-record c g, accepted .well) refl
+      let i : length (c .inputs) ≤ length (front (zeros 64) (c .inputs)) = rw (length-append (c .inputs) (drop (length (c .inputs)) (zeros 64))) (omega arith) in
+      let o : length (c .outputs) ≤ length (front (zeros 128) (c .outputs)) = rw (length-append (c .outputs) (drop (length (c .outputs)) (zeros 128))) (omega arith) in
+      rw (k, le-leb (length (c .inputs)) (length (front (zeros 64) (c .inputs))) i, le-leb (length (c .outputs)) (length (front (zeros 128) (c .outputs))) o, le-leb (3 * length (c .gates)) (length (front g (wordsOfGates c))) b, circuit-of-record c g, accepted .well) refl
 
   -- so they fix every value, for each state and input word
   pub read-fixes : (s x : ℕ) → Fixes c s x
