@@ -99,7 +99,7 @@ fn bodies(run: &mut Run) {
     }
 }
 
-/// Every number of a circuit's lines at every value from 0 to past 2M + 1.
+/// Every number of a small circuit's lines at every value from 0 to past 2M + 1, and two gates in all orders.
 fn literals(run: &mut Run) {
     wild_literals(run);
     const SHAPES: [(&str, usize, u64); 5] = [
@@ -114,15 +114,12 @@ fn literals(run: &mut Run) {
             check(run, filled(form, number, limit).as_bytes());
         }
     }
-    for number in 0..8_u64.pow(6) {
-        // Variables 1 and 2 are kept, and all else is tried: two gates listed in either order.
-        let text = filled("aag 4 1 1 0 2\n2\n4 9\n# # #\n# # #\n", number, 8);
-        let even = text
-            .lines()
-            .skip(3)
-            .all(|line| matches!(line.as_bytes()[0], b'6' | b'0'));
-        if even || number % 7 == 0 {
-            check(run, text.as_bytes());
+    // Two gates, listed in either order or with one output twice, and all operands up to 2M + 1.
+    for outputs in [[6, 8], [8, 6], [6, 6], [8, 8]] {
+        let [first, second] = outputs;
+        let form = format!("aag 4 1 1 0 2\n2\n4 9\n{first} # #\n{second} # #\n");
+        for number in 0..10_u64.pow(4) {
+            check(run, filled(&form, number, 10).as_bytes());
         }
     }
 }
