@@ -4,14 +4,14 @@ use mathlib.Core.Path.{_≡_, refl, sym, ap, ap₂, _∙_}
 use mathlib.Core.Bool.{Bool, true, false, xor, _&&_, _||_}
 use mathlib.Core.List.{List, [], _∷_, _++_}
 use mathlib.Core.Logic.{⊎-elim}
-use native.Mathlib.Nat.{two-pow-succ, pow-suc, pow-succ', div-div-eq-div-mul, div-one, div-eq-of-lt, mod-lt, suc-add, mul-assoc, lt-of-lt-of-le}
+use native.Mathlib.Nat.{two-pow-succ, pow-suc, pow-succ', div-div-eq-div-mul, div-one, div-eq-of-lt, mod-lt, suc-add, mul-assoc, lt-of-lt-of-le, one-mul, mod-eq-of-lt}
 use native.Mathlib.Numerals.{add-one}
 use native.Mathlib.Omega.{arith}
-use borrow.Author.Tests.{eqb-true, eqb-false, lt-ltb, le-ltb}
+use borrow.Author.Tests.{eqb-true, eqb-false, ltb-true, ltb-false, lt-ltb, le-ltb}
 use lib.Bits.{bitOr, or-step}
 use lib.Dec.{eqb, ltb}
 use lib.ListN.{length, getD, take, drop}
-use lib.Pow.{pow-pos, pow-mono, split}
+use lib.Pow.{pow-pos, pow-mono, pow-lt, pow-add, split}
 use lib.Seq.{drop-nil}
 use Rattle.lists.specs.Bits.{odd, bits, bit, packed}
 use Rattle.lists.proofs.BoolLaws.{below-or}
@@ -78,6 +78,17 @@ bits-at (suc n) x (suc k) h = bits-at n (x / 2) k (omega arith) ∙ rw (div-div-
 pub bits-append : (n m x : ℕ) → bits (n + m) x ≡ bits n x ++ bits m (x / 2 ^ n)
 bits-append zero m x = let e : 0 + m ≡ m = omega arith in rw (e, div-one x)
 bits-append (suc n) m x = rw (suc-add n m, bits-append n m (x / 2), div-div-eq-div-mul x 2 (2 ^ n), ← pow-succ' 2 n)
+
+-- a number in two parts, the lower one of n bits
+pub bits-halves : (n m low high : ℕ) → low < 2 ^ n → bits n low ++ bits m high ≡ bits (n + m) (low + 2 ^ n * high)
+bits-halves zero m low high h = let k : low < 1 = h in let a : 0 + m ≡ m = omega arith in let e : low + 1 * high ≡ high = omega arith in rw (a, e)
+bits-halves (suc n) m low high h =
+    let p : ℕ = 2 ^ n * high in
+    let e : 2 ^ suc n * high ≡ 2 * p = rw (pow-succ' 2 n) (mul-assoc 2 (2 ^ n) high) in
+    let k : low < 2 * 2 ^ n = rw (pow-succ' 2 n) at h in
+    let r : (low + 2 * p) % 2 ≡ low % 2 = omega arith in
+    let q : (low + 2 * p) / 2 ≡ low / 2 + p = omega arith in
+    rw (e, suc-add n m, r, q, bits-halves n m (low / 2) high (omega arith))
 
 -- a loop upward over n bits, where the code has x >> k: the first one, the bits from bit k on, none left
 pub bits-start : (n x : ℕ) → bits (n - 0) (x / 2 ^ 0) ≡ bits n x
@@ -156,3 +167,29 @@ module _ (x n : ℕ) where
       go : (b : Bool) → eqb (x / 2 ^ n) 0 ≡ b → b ≡ ltb x (2 ^ n)
       go true e = sym (lt-ltb x (2 ^ n) (fits (eqb-true (x / 2 ^ n) 0 e)))
       go false e = sym (le-ltb x (2 ^ n) (fits-not (eqb-false (x / 2 ^ n) 0 e)))
+
+-- a shifted 1, as the code makes a power of two
+pub power-word : (n : ℕ) → n < 64 → 1 * 2 ^ n % 18446744073709551616 ≡ 2 ^ n
+power-word n h = ap (λ (x : ℕ). x % 18446744073709551616) (one-mul (2 ^ n)) ∙ mod-eq-of-lt (pow-lt {i = n} {j = 64} h)
+
+-- two halves of 64 bits, and the bits at n or above: where n is in the high half ..
+pub high-fits : (high low n : ℕ) → low < 2 ^ 64 → 64 ≤ n → ltb high (2 ^ (n - 64)) ≡ ltb (low + 2 ^ 64 * high) (2 ^ n)
+high-fits high low n b h = go (ltb high (2 ^ (n - 64))) refl
+  where
+    e : 2 ^ n ≡ 2 ^ 64 * 2 ^ (n - 64)
+    e = let k : 64 + (n - 64) ≡ n = omega arith in rw k at (pow-add 2 64 (n - 64))
+
+    go : (t : Bool) → ltb high (2 ^ (n - 64)) ≡ t → t ≡ ltb (low + 2 ^ 64 * high) (2 ^ n)
+    go true q =
+        let k : high < 2 ^ (n - 64) = ltb-true high (2 ^ (n - 64)) q in
+        sym (lt-ltb (low + 2 ^ 64 * high) (2 ^ n) (rw e (omega arith)))
+    go false q =
+        let k : 2 ^ (n - 64) ≤ high = ltb-false high (2 ^ (n - 64)) q in
+        sym (le-ltb (low + 2 ^ 64 * high) (2 ^ n) (rw e (omega arith)))
+
+-- .. and where it is in the low half
+pub high-beyond : (high low n : ℕ) → n < 64 → (high ≡ 0 → ⊥) → false ≡ ltb (low + 2 ^ 64 * high) (2 ^ n)
+high-beyond high low n h k =
+    let p : 2 ^ n < 2 ^ 64 = pow-lt {i = n} {j = 64} h in
+    let q : 0 < high = ⊎-elim (λ z. absurd (k (omega arith))) (λ z. z) (below-or high 1) in
+    sym (le-ltb (low + 2 ^ 64 * high) (2 ^ n) (omega arith))

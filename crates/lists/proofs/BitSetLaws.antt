@@ -5,7 +5,7 @@ use mathlib.Core.Bool.{Bool, true, false, not, _||_, or-true, or-false}
 use mathlib.Core.List.{List}
 use mathlib.Core.Logic.{⊎-elim}
 use native.Mathlib.Decide.{ℕ-discrete}
-use native.Mathlib.Nat.{one-mul, zero-div, mod-eq-of-lt, div-eq-of-lt, pow-succ'}
+use native.Mathlib.Nat.{one-mul, zero-div, div-eq-of-lt, pow-succ'}
 use native.Mathlib.Omega.{arith}
 use borrow.Author.Tests.{eqb-true, eqb-false, eq-eqb, ne-eqb}
 use lib.Bits.{bitOr, or-shr}
@@ -16,7 +16,7 @@ use lib.Seq.{set-out, getD-set-same, getD-set-other}
 use Rattle.lists.specs.Bits.{odd}
 use Rattle.lists.specs.Parts.{zeros}
 use Rattle.lists.specs.Sets.{holds, withBit}
-use Rattle.lists.proofs.BitLaws.{odd-or}
+use Rattle.lists.proofs.BitLaws.{power-word, odd-or}
 use Rattle.lists.proofs.BoolLaws.{below-or}
 use Rattle.lists.proofs.ZeroLaws.{zeros-at}
 
@@ -50,7 +50,7 @@ module _ (ws : List ℕ) (k : ℕ) where
 
 -- what the code shifts 1 to
 pub shifted-one : (k : ℕ) → 1 * 2 ^ (k % 64) % 18446744073709551616 ≡ 2 ^ (k % 64)
-shifted-one k = ap (λ (x : ℕ). x % 18446744073709551616) (one-mul (2 ^ (k % 64))) ∙ mod-eq-of-lt (pow-lt {i = k % 64} {j = 64} (omega arith))
+shifted-one k = power-word (k % 64) (omega arith)
 
 or-bit : (w v q : ℕ) → odd (bitOr w v / 2 ^ q) ≡ (odd (w / 2 ^ q) || odd (v / 2 ^ q))
 or-bit w v q = rw (or-shr w v q) (odd-or (w / 2 ^ q) (v / 2 ^ q))

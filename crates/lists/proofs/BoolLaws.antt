@@ -60,3 +60,21 @@ xor-turns true true = refl
 xor-turns true false = refl
 xor-turns false true = refl
 xor-turns false false = refl
+
+pub and-false : (b : Bool) → (b && false) ≡ false
+and-false true = refl
+and-false false = refl
+
+pub and-true : (b : Bool) → (b && true) ≡ b
+and-true true = refl
+and-true false = refl
+
+pub or-false : (b : Bool) → (b || false) ≡ b
+or-false true = refl
+or-false false = refl
+
+pub and-swap : (a b c d : Bool) → ((a && b) && (c && d)) ≡ ((a && c) && (b && d))
+and-swap false b c d = refl
+and-swap true false true d = refl
+and-swap true false false d = refl
+and-swap true true c d = refl

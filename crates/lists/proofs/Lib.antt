@@ -5,6 +5,7 @@ pub mod PartLaws
 pub mod TestLaws
 pub mod MapLaws
 pub mod WordLaws
+pub mod PairLaws
 pub mod BitLaws
 pub mod ZeroLaws
 pub mod BitSetLaws

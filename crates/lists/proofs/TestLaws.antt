@@ -7,7 +7,7 @@ use native.Mathlib.Omega.{arith}
 use lib.ListN.{length, getD, take, drop, drop-of-length-le}
 use Rattle.lists.specs.Parts.{part}
 use Rattle.lists.specs.Tests.{all, any, Each, every}
-use Rattle.lists.proofs.BoolLaws.{true-false, and-left, and-right}
+use Rattle.lists.proofs.BoolLaws.{true-false, and-left, and-right, and-swap}
 use Rattle.lists.proofs.RestLaws.{rest-more}
 
 module _ {A : Type 0} (p : A → Bool) where
@@ -18,6 +18,10 @@ module _ {A : Type 0} (p : A → Bool) where
   pub any-append : (xs ys : List A) → any p (xs ++ ys) ≡ (any p xs || any p ys)
   any-append [] ys = refl
   any-append (x ∷ xs) ys = rw (any-append xs ys) (sym (or-assoc (p x) (any p xs) (any p ys)))
+
+  pub all-and : (q : A → Bool) (l : List A) → all (λ x. p x && q x) l ≡ (all p l && all q l)
+  all-and q [] = refl
+  all-and q (x ∷ l) = rw (all-and q l) (and-swap (p x) (q x) (all p l) (all q l))
 
   pub all-at : (l : List A) (i : ℕ) (d : A) → all p l ≡ true → i < length l → p (getD l i d) ≡ true
   all-at [] i d h k = absurd (omega arith)

@@ -17,11 +17,16 @@ abbrev pub distinct : List ℕ → Bool
 distinct [] = true
 distinct (x ∷ xs) = not (member x xs) && distinct xs
 
--- strictly rising: each element is below the next
+module _ {A : Type 0} where
+  -- each element comes before the next
+  abbrev pub risingBy : (A → A → Bool) → List A → Bool
+  risingBy before [] = true
+  risingBy before (x ∷ []) = true
+  risingBy before (x ∷ y ∷ l) = before x y && risingBy before (y ∷ l)
+
+-- strictly rising: each number is below the next
 abbrev pub rising : List ℕ → Bool
-rising [] = true
-rising (x ∷ []) = true
-rising (x ∷ y ∷ l) = ltb x y && rising (y ∷ l)
+rising l = risingBy ltb l
 
 -- k is in the set: bit k of the words, 64 bits in each; false past their end
 unfoldable pub holds : List ℕ → ℕ → Bool

@@ -1,5 +1,8 @@
 -- Flat words read as pairs (offset, length) and as triples (a gate's or an outcome's three words), and the flat words of a list (01, "Forms that replace the Rust's").
+use Prim.Native.Nat.{ℕ, _+_}
+use mathlib.Core.Bool.{Bool, true, _&&_}
 use mathlib.Core.List.{List, [], _∷_, _++_}
+use lib.Dec.{leb}
 
 module _ {A B : Type 0} where
   -- two words each: `make` of the words 0 and 1, of 2 and 3, ..; a word that is left over at the end is not read
@@ -19,3 +22,15 @@ module _ {A B : Type 0} where
   abbrev pub wordsOf : (B → List A) → List B → List A
   wordsOf words [] = []
   wordsOf words (b ∷ bs) = words b ++ wordsOf words bs
+
+-- Pairs of offset and length in order: none starts before `end`, where the one ahead ends, or runs past a buffer of so many elements (reason 2 of 01, and 13). Half a pair is not read.
+abbrev pub inOrder : ℕ → ℕ → List ℕ → Bool
+inOrder end size [] = true
+inOrder end size (offset ∷ []) = true
+inOrder end size (offset ∷ n ∷ pairs) = leb end offset && (leb (offset + n) size && inOrder (offset + n) size pairs)
+
+-- the lengths of all pairs together
+abbrev pub lengths : List ℕ → ℕ
+lengths [] = 0
+lengths (offset ∷ []) = 0
+lengths (offset ∷ n ∷ pairs) = n + lengths pairs

@@ -1,9 +1,13 @@
 // Small functions on words that every layer uses.
 ghost use mathlib.Core.Path.{_≡_};
 ghost use mathlib.Core.Bool.{not};
+ghost use Prim.Native.Nat.{_≤_, _^_};
+ghost use lib.Dec.{leb, ltb};
 ghost use lib.ListN.{length, getD, take};
 ghost use Rattle.lists.specs.Parts.{part, zeros};
-ghost use Rattle.lists.specs.Sets.{holds, withBit};
+ghost use Rattle.lists.specs.Sets.{holds, withBit, rising};
+ghost use Rattle.lists.specs.Tests.{all};
+ghost use Rattle.lists.specs.Words.{lengths};
 
 // A word as an index.
 pub fn index(x: u64) -> usize
@@ -92,4 +96,62 @@ pub fn word(words: &[u64], k: usize) -> u64
         return words[k];
     }
     0
+}
+
+// Whether each word is below the next.
+pub fn rises(words: &[u64]) -> bool
+    ensures { λ r. ⌜ r ≡ rising (now (words .entry)) ⌝ }
+{
+    let mut i = 1;
+    while i < words.len() {
+        if words[i] <= words[i - 1] {
+            return false;
+        }
+        i += 1;
+    }
+    true
+}
+
+// Whether every word is below n.
+pub fn below(words: &[u64], n: u64) -> bool
+    ensures { λ r. ⌜ r ≡ all (λ x. ltb x n) (now (words .entry)) ⌝ }
+{
+    let mut i = 0;
+    while i < words.len() {
+        if n <= words[i] {
+            return false;
+        }
+        i += 1;
+    }
+    true
+}
+
+// Whether the lengths of all pairs together are at most so many.
+pub fn lengths_within(pairs: &[u64], most: u64) -> bool
+    ensures { λ r. ⌜ r ≡ leb (lengths (now (pairs .entry))) most ⌝ }
+{
+    let count = pairs.len() / 2;
+    let mut left = most;
+    let mut i = 0;
+    while i < count {
+        let n = pairs[2 * i + 1];
+        if left < n {
+            return false;
+        }
+        left -= n;
+        i += 1;
+    }
+    true
+}
+
+// x has no bit at n or above.
+pub fn fits(x: u64, n: usize) -> bool
+    requires { ⌜ n ≤ 64 ⌝ }
+    ensures { λ r. ⌜ r ≡ ltb x (2 ^ n) ⌝ }
+{
+    if n == 64 {
+        return true;
+    }
+    let rest = x >> n;
+    rest == 0
 }

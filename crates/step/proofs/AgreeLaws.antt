@@ -112,7 +112,7 @@ module _ (c : Circuit) (sound : Sound c) (s x : ℕ) where
   pub step-settles : rising (map outputOf (c .gates)) ≡ true → Settles c s x (stepValues c s x)
   step-settles r = listed-settles (rising-listed (c .gates) r (facts .order))
 
-  literals-agree : (u v : Valuation) → Settles c s x u → Settles c s x v → (ls : List ℕ) → Literals (c .variables) ls → map (value u) ls ≡ map (value v) ls
+  pub literals-agree : (u v : Valuation) → Settles c s x u → Settles c s x v → (ls : List ℕ) → Literals (c .variables) ls → map (value u) ls ≡ map (value v) ls
   literals-agree u v f g ls e =
       each-maps (value u) (value v) ls (each-so (λ l. l ≤ 2 * c .variables + 1) (λ l. value u l ≡ value v l) (settles-literals c sound s x u v f g) ls e)
 

@@ -102,18 +102,6 @@ fn read_out(vals: &[u64], nexts: &[u64], outputs: &[u64]) -> Outcome
     Outcome { target, high, low }
 }
 
-// x has no bit at n or above.
-fn fits(x: u64, n: usize) -> bool
-    requires { ⌜ n ≤ 64 ⌝ }
-    ensures { λ r. ⌜ r ≡ ltb x (2 ^ n) ⌝ }
-{
-    if n == 64 {
-        return true;
-    }
-    let rest = x >> n;
-    rest == 0
-}
-
 // One step of a valid model, whose record comes in parts, in words that are all 0.
 fn run(
     n: Counts,
@@ -158,11 +146,11 @@ pub fn evaluate_parts(
     if let Verdict::Refused(reason) = verdict {
         return Stepped::Refused(reason);
     }
-    if !fits(state, n.latches) {
+    if !lists::fits(state, n.latches) {
         return Stepped::Refused(12);
     }
     let given = lists::first(inputs, n.inputs);
-    if !fits(input, given.len()) {
+    if !lists::fits(input, given.len()) {
         return Stepped::Refused(12);
     }
     let words = n.max_variable + 1;

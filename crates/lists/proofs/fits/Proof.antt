@@ -3,9 +3,9 @@ use mathlib.Core.Path.{sym}
 use native.Mathlib.Omega.{arith}
 use borrow.Author.Needs.{needs}
 use borrow.Author.Tests.{lt-ltb}
 use Rattle.lists.proofs.BitLaws.{fits-test}
-use Rattle.step.proofs.fits.Statement.{statement}
-use Rattle.step.proofs.fits.Tie as tie
+use Rattle.lists.proofs.fits.Statement.{statement}
+use Rattle.lists.proofs.fits.Tie as tie
 
 returns : tie.Need-returns
 returns c = sym (lt-ltb (c .before .args .x) (2 ^ c .before .args .n) (rw (c .if1 .taken) (omega arith)))
