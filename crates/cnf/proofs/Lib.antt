@@ -1,0 +1,13 @@
+pub mod AnyLaws
+pub mod AscendingLaws
+pub mod SignLaws
+pub mod TruthLaws
+pub mod MemberLaws
+pub mod ReturnedLaws
+pub mod VariableLaws
+pub mod AppendLaws
+pub mod RepeatLaws
+pub mod PushLaws
+pub mod SimplifyLaws
+pub mod ShortLaws
+pub mod Examples
