@@ -1,0 +1,3 @@
+-- Inner definitions of item 7's claims.
+pub mod Claims
+pub mod Filling
