@@ -1,0 +1,71 @@
+use lib.ListN.{length}
+use Rattle.obligation.proofs.CallLaws.{asks, relation-refused, relation-continues}
+use Rattle.boundary.specs.Boundary.{askedOf}
+use Rattle.completeness.specs.Calls.{Asked}
+use Rattle.model.specs.Circuit.{recordFrom}
+use Rattle.model.proofs.ValueLaws.{Sized}
+use borrow.Author.Needs.{needs}
+use Rattle.obligation.proofs.relation.row_parts.Statement.{statement}
+use Rattle.obligation.proofs.relation.row_parts.Tie as tie
+
+-- what is asked
+abbrev question : tie.Start → Asked
+question s = askedOf (recordFrom (s .args .n) (s .args .inputs .now) (s .args .latches) (s .args .outputs .now)) (s .args .gates .now) (s .args .relevant .now) (s .args .predicate .now) (s .args .terms .now)
+
+-- the latches are an array
+eight : (s : tie.Start) → Sized (question s .model)
+eight s = record { latches = s .good .1 .1 .0 .1 .0 .1 }
+
+check-requires : tie.Need-check-requires
+check-requires c κs = tt
+
+enum-known-verdict : tie.Need-enum-known-verdict
+enum-known-verdict c = search needs
+
+enum-told : tie.Need-enum-told
+enum-told c = search needs
+
+claim-requires : tie.Need-claim-requires
+claim-requires c κs = let t = c .before .before in
+    let k = t .before .before .before .before in
+    let s = k .before .before .before .before .before .before .before .before .before .before .before .before in
+    asks (question s) (length (s .args .work .now)) _ _ (k .check .ensures) (t .enum-told .given .1)
+
+same-length : tie.Need-same-length
+same-length c = search needs
+
+returns : tie.Need-returns
+returns c = let k = c .before .before .before .before .before in
+    let s = k .before .before .before .before .before .before .before .before .before .before .before .before in
+    relation-refused (question s) (eight s) (s .args .pairs .now) (s .args .literals .now) (s .args .work .now) _ _ (k .check .ensures) _ (c .before .verdict .given .1) (s .args .source) (s .args .targets .now)
+
+same-length-2 : tie.Need-same-length-2
+same-length-2 c = search needs
+
+same-length-3 : tie.Need-same-length-3
+same-length-3 c = search needs
+
+same-length-4 : tie.Need-same-length-4
+same-length-4 c = search needs
+
+returns-2 : tie.Need-returns-2
+returns-2 c = let m = c .before .before .before .before in
+    let t = m .before .before .before in
+    let k = t .before .before .before .before in
+    let s = k .before .before .before .before .before .before .before .before .before .before .before .before in
+    relation-continues (question s) (eight s) (s .args .pairs .now) (s .args .literals .now) (s .args .work .now) _ _ (k .check .ensures) (t .enum-told .given .1) _ _ _ (s .args .source) (s .args .targets .now) (m .claim .ensures)
+
+pub row-parts-spec : {M : Type 1} → statement M
+row-parts-spec =
+    tie.close
+    (tie.spec
+    check-requires
+    enum-known-verdict
+    enum-told
+    claim-requires
+    same-length
+    returns
+    same-length-2
+    same-length-3
+    same-length-4
+    returns-2)

@@ -1,0 +1,123 @@
+// The obligations of item 7 of 01: the clauses of rows and of terminal lists, in lent buffers.
+ghost use Rattle.boundary.specs.Boundary.{askedOf};
+ghost use Rattle.obligation.specs.Promise.{buffersOf, MakesRelation, MakesTransducer, MakesTerminal};
+use cnf::Table;
+use model::AigerTransition;
+
+mod making;
+pub mod relation;
+pub mod terminal;
+pub mod transducer;
+
+// The numbers of clauses and literals that were written, or the number of 01's reason.
+pub enum Made {
+    Clauses(Table),
+    Refused(u64),
+}
+
+// The clauses of a row: every input that meets the predicate leads from the source to a claimed target.
+pub fn relation_row_completeness_cnf(
+    m: AigerTransition,
+    gates: &[u64],
+    relevant: &[u64],
+    source: u64,
+    predicate: &[u64],
+    terms: &[u32],
+    targets: &[u64],
+    work: &mut [u64],
+    pairs: &mut [u64],
+    literals: &mut [u32],
+) -> Made
+    ensures { λ r. ⌜ MakesRelation (askedOf m (now (gates .entry)) (now (relevant .entry)) (now (predicate .entry)) (now (terms .entry))) source (now (targets .entry)) (buffersOf (now (pairs .entry)) (now (literals .entry)) (now (work .entry))) r (buffersOf (now (pairs .exit)) (now (literals .exit)) (now (work .exit))) ⌝ }
+{
+    let n = model::counts_of(m);
+    let latches = m.latches;
+    let outputs = m.outputs;
+    relation::row_parts(
+        n,
+        &m.inputs,
+        latches,
+        &outputs,
+        gates,
+        relevant,
+        source,
+        predicate,
+        terms,
+        targets,
+        work,
+        pairs,
+        literals,
+    )
+}
+
+// The same with outputs: to a claimed target with its outputs.
+pub fn transducer_row_completeness_cnf(
+    m: AigerTransition,
+    gates: &[u64],
+    relevant: &[u64],
+    source: u64,
+    predicate: &[u64],
+    terms: &[u32],
+    observed: &[u64],
+    outcomes: &[u64],
+    work: &mut [u64],
+    pairs: &mut [u64],
+    literals: &mut [u32],
+) -> Made
+    ensures { λ r. ⌜ MakesTransducer (askedOf m (now (gates .entry)) (now (relevant .entry)) (now (predicate .entry)) (now (terms .entry))) source (now (observed .entry)) (now (outcomes .entry)) (buffersOf (now (pairs .entry)) (now (literals .entry)) (now (work .entry))) r (buffersOf (now (pairs .exit)) (now (literals .exit)) (now (work .exit))) ⌝ }
+{
+    let n = model::counts_of(m);
+    let latches = m.latches;
+    let outputs = m.outputs;
+    transducer::row_parts(
+        n,
+        &m.inputs,
+        latches,
+        &outputs,
+        gates,
+        relevant,
+        source,
+        predicate,
+        terms,
+        observed,
+        outcomes,
+        work,
+        pairs,
+        literals,
+    )
+}
+
+// The clauses of a terminal list: every state in which some input that meets the predicate leaves the bad output 0 is claimed.
+pub fn terminal_completeness_cnf(
+    m: AigerTransition,
+    gates: &[u64],
+    relevant: &[u64],
+    predicate: &[u64],
+    terms: &[u32],
+    bad: u64,
+    states: &[u64],
+    work: &mut [u64],
+    pairs: &mut [u64],
+    literals: &mut [u32],
+) -> Made
+    ensures { λ r. ⌜ MakesTerminal (askedOf m (now (gates .entry)) (now (relevant .entry)) (now (predicate .entry)) (now (terms .entry))) bad (now (states .entry)) (buffersOf (now (pairs .entry)) (now (literals .entry)) (now (work .entry))) r (buffersOf (now (pairs .exit)) (now (literals .exit)) (now (work .exit))) ⌝ }
+{
+    let n = model::counts_of(m);
+    let latches = m.latches;
+    let outputs = m.outputs;
+    terminal::list_parts(
+        n,
+        &m.inputs,
+        latches,
+        &outputs,
+        gates,
+        relevant,
+        predicate,
+        terms,
+        bad,
+        states,
+        work,
+        pairs,
+        literals,
+    )
+}

@@ -1,0 +1,157 @@
+// The clauses of an accepted obligation: measured first, then written.
+ghost use Rattle.lists.specs.Words.{wordsOf};
+ghost use Rattle.cnf.specs.Simplified.{simplified};
+ghost use Rattle.cnf.specs.Appending.{Appends, Space};
+ghost use Rattle.obligation.specs.Appended.{partsOf, claimedOf, frontLists, claimLists, allLists, FrontReady, ClaimsReady, Ready, MakesAll, empty};
+use crate::Made;
+use cnf::Table;
+
+// Appends the clauses of source latches, predicate and gates to an empty table.
+fn append_front(
+    currents: &[u64],
+    source: u64,
+    inputs: &[u64],
+    relevant: &[u64],
+    predicate: &[u64],
+    terms: &[u32],
+    gates: &[u64],
+    ands: usize,
+    pairs: &mut [u64],
+    literals: &mut [u32],
+) -> Table
+    requires { ⌜ FrontReady (partsOf (now currents) source (now inputs) (now relevant) (now predicate) (now terms) (now gates) ands) ⌝ }
+    ensures { λ r. ⌜ Appends (frontLists (partsOf (now (currents .entry)) source (now (inputs .entry)) (now (relevant .entry)) (now (predicate .entry)) (now (terms .entry)) (now (gates .entry)) ands)) empty (now (pairs .entry)) (now (literals .entry)) r (now (pairs .exit)) (now (literals .exit)) ⌝ }
+{
+    let start = Table {
+        clauses: 0,
+        literals: 0,
+    };
+    let sources = encoding::append_sources(currents, source, pairs, literals, start);
+    let limited = encoding::append_predicate(
+        inputs,
+        relevant,
+        predicate,
+        terms,
+        pairs,
+        literals,
+        sources,
+    );
+    encoding::append_ands(gates, ands, pairs, literals, limited)
+}
+
+// Appends the clauses of the claims: of one word each, or of three where they are wide.
+fn append_claims(
+    keys: &[u64],
+    words: &[u64],
+    wide: bool,
+    pairs: &mut [u64],
+    literals: &mut [u32],
+    at: Table,
+) -> Table
+    requires { ⌜ ClaimsReady (claimedOf (now keys) (now words) wide) × Space at 1000000 ⌝ }
+    ensures { λ r. ⌜ Appends (claimLists (claimedOf (now (keys .entry)) (now (words .entry)) wide)) at (now (pairs .entry)) (now (literals .entry)) r (now (pairs .exit)) (now (literals .exit)) ⌝ }
+{
+    if wide {
+        return claims::append_outcomes(keys, words, pairs, literals, at);
+    }
+    claims::append_states(keys, words, pairs, literals, at)
+}
+
+// Appends all clauses of an obligation to an empty table: a row's end with the claims, a terminal list's with a clause of one literal.
+fn append_all(
+    currents: &[u64],
+    source: u64,
+    inputs: &[u64],
+    relevant: &[u64],
+    predicate: &[u64],
+    terms: &[u32],
+    gates: &[u64],
+    ands: usize,
+    keys: &[u64],
+    words: &[u64],
+    wide: bool,
+    last: u64,
+    pairs: &mut [u64],
+    literals: &mut [u32],
+) -> Table
+    requires { ⌜ Ready (partsOf (now currents) source (now inputs) (now relevant) (now predicate) (now terms) (now gates) ands) (claimedOf (now keys) (now words) wide) last ⌝ }
+    ensures { λ r. ⌜ Appends (allLists (partsOf (now (currents .entry)) source (now (inputs .entry)) (now (relevant .entry)) (now (predicate .entry)) (now (terms .entry)) (now (gates .entry)) ands) (claimedOf (now (keys .entry)) (now (words .entry)) wide) last) empty (now (pairs .entry)) (now (literals .entry)) r (now (pairs .exit)) (now (literals .exit)) ⌝ }
+{
+    let front = append_front(
+        currents,
+        source,
+        inputs,
+        relevant,
+        predicate,
+        terms,
+        gates,
+        ands,
+        pairs,
+        literals,
+    );
+    let claimed = append_claims(keys, words, wide, pairs, literals, front);
+    encoding::push_literal(last, pairs, literals, claimed)
+}
+
+// Makes the clauses: they are measured with buffers that have no room, and then written, or nothing is.
+pub fn make(
+    currents: &[u64],
+    source: u64,
+    inputs: &[u64],
+    relevant: &[u64],
+    predicate: &[u64],
+    terms: &[u32],
+    gates: &[u64],
+    ands: usize,
+    keys: &[u64],
+    words: &[u64],
+    wide: bool,
+    last: u64,
+    pairs: &mut [u64],
+    literals: &mut [u32],
+) -> Made
+    requires { ⌜ Ready (partsOf (now currents) source (now inputs) (now relevant) (now predicate) (now terms) (now gates) ands) (claimedOf (now keys) (now words) wide) last ⌝ }
+    ensures { λ r. ⌜ MakesAll (wordsOf simplified (allLists (partsOf (now (currents .entry)) source (now (inputs .entry)) (now (relevant .entry)) (now (predicate .entry)) (now (terms .entry)) (now (gates .entry)) ands) (claimedOf (now (keys .entry)) (now (words .entry)) wide) last)) (now (pairs .entry)) (now (literals .entry)) r (now (pairs .exit)) (now (literals .exit)) ⌝ }
+{
+    let mut no_pairs = [0u64; 1];
+    let mut no_literals = [0u32; 1];
+    let size = append_all(
+        currents,
+        source,
+        inputs,
+        relevant,
+        predicate,
+        terms,
+        gates,
+        ands,
+        keys,
+        words,
+        wide,
+        last,
+        &mut no_pairs,
+        &mut no_literals,
+    );
+    if pairs.len() / 2 < size.clauses {
+        return Made::Refused(20);
+    }
+    if literals.len() < size.literals {
+        return Made::Refused(20);
+    }
+    let made = append_all(
+        currents,
+        source,
+        inputs,
+        relevant,
+        predicate,
+        terms,
+        gates,
+        ands,
+        keys,
+        words,
+        wide,
+        last,
+        pairs,
+        literals,
+    );
+    Made::Clauses(made)
+}

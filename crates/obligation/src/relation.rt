@@ -1,0 +1,142 @@
+// Rows with claimed targets (01, item 7).
+ghost use Rattle.model.specs.Circuit.{recordFrom};
+ghost use Rattle.cnf.specs.Clauses.{clausesIn};
+ghost use Rattle.completeness.specs.Lists.{relationClauses};
+ghost use Rattle.completeness.specs.Limits.{statesClaimed};
+ghost use Rattle.completeness.specs.Calls.{circuit};
+ghost use Rattle.boundary.specs.Boundary.{askedOf};
+ghost use Rattle.obligation.specs.Promise.{buffersOf, MakesRelation};
+ghost use Rattle.obligation.specs.Appended.{roomOf, Asks, ClaimsOf, Continues, MakesAll, relationAfter};
+use crate::Made;
+use crate::making;
+use model::AigerLatch;
+use model::Counts;
+use model::Verdict;
+
+// Makes the clauses of a row with claimed targets, once all arguments are accepted.
+fn assemble(
+    n: Counts,
+    inputs: &[u64],
+    latches: [AigerLatch; 8],
+    outputs: &[u64],
+    gates: &[u64],
+    relevant: &[u64],
+    source: u64,
+    predicate: &[u64],
+    terms: &[u32],
+    targets: &[u64],
+    pairs: &mut [u64],
+    literals: &mut [u32],
+) -> Made
+    requires { ⌜ Asks (askedOf (recordFrom n (now inputs) latches (now outputs)) (now gates) (now relevant) (now predicate) (now terms)) × ClaimsOf (statesClaimed (circuit (askedOf (recordFrom n (now inputs) latches (now outputs)) (now gates) (now relevant) (now predicate) (now terms))) (now targets)) ⌝ }
+    ensures { λ r. ⌜ MakesAll (relationClauses (circuit (askedOf (recordFrom n (now (inputs .entry)) latches (now (outputs .entry))) (now (gates .entry)) (now (relevant .entry)) (now (predicate .entry)) (now (terms .entry)))) (now (relevant .entry)) (clausesIn (now (terms .entry)) (now (predicate .entry))) source (now (targets .entry))) (now (pairs .entry)) (now (literals .entry)) r (now (pairs .exit)) (now (literals .exit)) ⌝ }
+{
+    let at = model::currents(latches);
+    let to = model::nexts(latches);
+    let mut keys = [0u64; 8];
+    let count = claims::state_keys(lists::first(&to, n.latches), &mut keys);
+    making::make(
+        lists::first(&at, n.latches),
+        source,
+        lists::first(inputs, n.inputs),
+        relevant,
+        predicate,
+        terms,
+        gates,
+        n.ands,
+        lists::first(&keys, count),
+        targets,
+        false,
+        1,
+        pairs,
+        literals,
+    )
+}
+
+// A row with claimed targets, once the model and the boundary are accepted: reasons 14 and 20.
+fn claim(
+    n: Counts,
+    inputs: &[u64],
+    latches: [AigerLatch; 8],
+    outputs: &[u64],
+    gates: &[u64],
+    relevant: &[u64],
+    source: u64,
+    predicate: &[u64],
+    terms: &[u32],
+    targets: &[u64],
+    pairs: &mut [u64],
+    literals: &mut [u32],
+) -> Made
+    requires { ⌜ Asks (askedOf (recordFrom n (now inputs) latches (now outputs)) (now gates) (now relevant) (now predicate) (now terms)) ⌝ }
+    ensures { λ r. ⌜ Continues (relationAfter (askedOf (recordFrom n (now (inputs .entry)) latches (now (outputs .entry))) (now (gates .entry)) (now (relevant .entry)) (now (predicate .entry)) (now (terms .entry))) source (now (targets .entry)) (roomOf (now (pairs .entry)) (now (literals .entry)))) (now (pairs .entry)) (now (literals .entry)) r (now (pairs .exit)) (now (literals .exit)) ⌝ }
+{
+    if !boundary::is_state(n.latches, source) {
+        return Made::Refused(14);
+    }
+    if !boundary::states_claimed(n.latches, targets) {
+        return Made::Refused(14);
+    }
+    assemble(
+        n,
+        inputs,
+        latches,
+        outputs,
+        gates,
+        relevant,
+        source,
+        predicate,
+        terms,
+        targets,
+        pairs,
+        literals,
+    )
+}
+
+// The clauses of a row with claimed targets; a record is long to copy, and its parts can be lent.
+pub fn row_parts(
+    n: Counts,
+    inputs: &[u64],
+    latches: [AigerLatch; 8],
+    outputs: &[u64],
+    gates: &[u64],
+    relevant: &[u64],
+    source: u64,
+    predicate: &[u64],
+    terms: &[u32],
+    targets: &[u64],
+    work: &mut [u64],
+    pairs: &mut [u64],
+    literals: &mut [u32],
+) -> Made
+    ensures { λ r. ⌜ MakesRelation (askedOf (recordFrom n (now (inputs .entry)) latches (now (outputs .entry))) (now (gates .entry)) (now (relevant .entry)) (now (predicate .entry)) (now (terms .entry))) source (now (targets .entry)) (buffersOf (now (pairs .entry)) (now (literals .entry)) (now (work .entry))) r (buffersOf (now (pairs .exit)) (now (literals .exit)) (now (work .exit))) ⌝ }
+{
+    let verdict = boundary::check(
+        n,
+        inputs,
+        latches,
+        outputs,
+        gates,
+        relevant,
+        predicate,
+        terms,
+        work,
+    );
+    match verdict {
+        Verdict::Refused(reason) => Made::Refused(reason),
+        Verdict::Valid => claim(
+            n,
+            inputs,
+            latches,
+            outputs,
+            gates,
+            relevant,
+            source,
+            predicate,
+            terms,
+            targets,
+            pairs,
+            literals,
+        ),
+    }
+}

@@ -1,0 +1,142 @@
+// Terminal lists (01, item 7).
+ghost use Rattle.model.specs.Circuit.{recordFrom};
+ghost use Rattle.cnf.specs.Clauses.{clausesIn};
+ghost use Rattle.completeness.specs.Lists.{terminalClauses};
+ghost use Rattle.completeness.specs.Limits.{statesClaimed};
+ghost use Rattle.completeness.specs.Calls.{circuit};
+ghost use Rattle.boundary.specs.Boundary.{askedOf};
+ghost use Rattle.obligation.specs.Promise.{buffersOf, MakesTerminal};
+ghost use Rattle.obligation.specs.Appended.{roomOf, Asks, ClaimsOf, Continues, MakesAll, terminalAfter};
+use crate::Made;
+use crate::making;
+use model::AigerLatch;
+use model::Counts;
+use model::Verdict;
+
+// Makes the clauses of a terminal list, once all arguments are accepted.
+fn assemble(
+    n: Counts,
+    inputs: &[u64],
+    latches: [AigerLatch; 8],
+    outputs: &[u64],
+    gates: &[u64],
+    relevant: &[u64],
+    predicate: &[u64],
+    terms: &[u32],
+    bad: usize,
+    states: &[u64],
+    pairs: &mut [u64],
+    literals: &mut [u32],
+) -> Made
+    requires { ⌜ Asks (askedOf (recordFrom n (now inputs) latches (now outputs)) (now gates) (now relevant) (now predicate) (now terms)) × ClaimsOf (statesClaimed (circuit (askedOf (recordFrom n (now inputs) latches (now outputs)) (now gates) (now relevant) (now predicate) (now terms))) (now states)) ⌝ }
+    ensures { λ r. ⌜ MakesAll (terminalClauses (circuit (askedOf (recordFrom n (now (inputs .entry)) latches (now (outputs .entry))) (now (gates .entry)) (now (relevant .entry)) (now (predicate .entry)) (now (terms .entry)))) (now (relevant .entry)) (clausesIn (now (terms .entry)) (now (predicate .entry))) bad (now (states .entry))) (now (pairs .entry)) (now (literals .entry)) r (now (pairs .exit)) (now (literals .exit)) ⌝ }
+{
+    let at = model::currents(latches);
+    let mut keys = [0u64; 8];
+    let count = claims::state_keys(lists::first(&at, n.latches), &mut keys);
+    let output = lists::word(lists::first(outputs, n.outputs), bad);
+    making::make(
+        lists::first(&at, 0),
+        0,
+        lists::first(inputs, n.inputs),
+        relevant,
+        predicate,
+        terms,
+        gates,
+        n.ands,
+        lists::first(&keys, count),
+        states,
+        false,
+        cnf::opposite_of(output),
+        pairs,
+        literals,
+    )
+}
+
+// A terminal list, once the model and the boundary are accepted: reasons 14 and 20.
+fn claim(
+    n: Counts,
+    inputs: &[u64],
+    latches: [AigerLatch; 8],
+    outputs: &[u64],
+    gates: &[u64],
+    relevant: &[u64],
+    predicate: &[u64],
+    terms: &[u32],
+    bad: u64,
+    states: &[u64],
+    pairs: &mut [u64],
+    literals: &mut [u32],
+) -> Made
+    requires { ⌜ Asks (askedOf (recordFrom n (now inputs) latches (now outputs)) (now gates) (now relevant) (now predicate) (now terms)) ⌝ }
+    ensures { λ r. ⌜ Continues (terminalAfter (askedOf (recordFrom n (now (inputs .entry)) latches (now (outputs .entry))) (now (gates .entry)) (now (relevant .entry)) (now (predicate .entry)) (now (terms .entry))) bad (now (states .entry)) (roomOf (now (pairs .entry)) (now (literals .entry)))) (now (pairs .entry)) (now (literals .entry)) r (now (pairs .exit)) (now (literals .exit)) ⌝ }
+{
+    if n.outputs as u64 <= bad {
+        return Made::Refused(14);
+    }
+    if !boundary::states_claimed(n.latches, states) {
+        return Made::Refused(14);
+    }
+    assemble(
+        n,
+        inputs,
+        latches,
+        outputs,
+        gates,
+        relevant,
+        predicate,
+        terms,
+        lists::index(bad),
+        states,
+        pairs,
+        literals,
+    )
+}
+
+// The clauses of a terminal list, of a record in parts.
+pub fn list_parts(
+    n: Counts,
+    inputs: &[u64],
+    latches: [AigerLatch; 8],
+    outputs: &[u64],
+    gates: &[u64],
+    relevant: &[u64],
+    predicate: &[u64],
+    terms: &[u32],
+    bad: u64,
+    states: &[u64],
+    work: &mut [u64],
+    pairs: &mut [u64],
+    literals: &mut [u32],
+) -> Made
+    ensures { λ r. ⌜ MakesTerminal (askedOf (recordFrom n (now (inputs .entry)) latches (now (outputs .entry))) (now (gates .entry)) (now (relevant .entry)) (now (predicate .entry)) (now (terms .entry))) bad (now (states .entry)) (buffersOf (now (pairs .entry)) (now (literals .entry)) (now (work .entry))) r (buffersOf (now (pairs .exit)) (now (literals .exit)) (now (work .exit))) ⌝ }
+{
+    let verdict = boundary::check(
+        n,
+        inputs,
+        latches,
+        outputs,
+        gates,
+        relevant,
+        predicate,
+        terms,
+        work,
+    );
+    match verdict {
+        Verdict::Refused(reason) => Made::Refused(reason),
+        Verdict::Valid => claim(
+            n,
+            inputs,
+            latches,
+            outputs,
+            gates,
+            relevant,
+            predicate,
+            terms,
+            bad,
+            states,
+            pairs,
+            literals,
+        ),
+    }
+}

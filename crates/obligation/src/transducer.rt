@@ -1,0 +1,152 @@
+// Rows with claimed outcomes (01, item 7).
+ghost use Rattle.model.specs.Circuit.{recordFrom};
+ghost use Rattle.cnf.specs.Clauses.{clausesIn};
+ghost use Rattle.completeness.specs.Lists.{transducerClauses, outcomesOf};
+ghost use Rattle.completeness.specs.Limits.{outcomesClaimed};
+ghost use Rattle.completeness.specs.Calls.{circuit};
+ghost use Rattle.boundary.specs.Boundary.{askedOf};
+ghost use Rattle.obligation.specs.Promise.{buffersOf, MakesTransducer};
+ghost use Rattle.obligation.specs.Appended.{roomOf, Asks, ClaimsOf, Continues, MakesAll, transducerAfter};
+use crate::Made;
+use crate::making;
+use model::AigerLatch;
+use model::Counts;
+use model::Verdict;
+
+// Makes the clauses of a row with claimed outcomes, once all arguments are accepted.
+fn assemble(
+    n: Counts,
+    inputs: &[u64],
+    latches: [AigerLatch; 8],
+    outputs: &[u64],
+    gates: &[u64],
+    relevant: &[u64],
+    source: u64,
+    predicate: &[u64],
+    terms: &[u32],
+    observed: &[u64],
+    outcomes: &[u64],
+    pairs: &mut [u64],
+    literals: &mut [u32],
+) -> Made
+    requires { ⌜ Asks (askedOf (recordFrom n (now inputs) latches (now outputs)) (now gates) (now relevant) (now predicate) (now terms)) × ClaimsOf (outcomesClaimed (circuit (askedOf (recordFrom n (now inputs) latches (now outputs)) (now gates) (now relevant) (now predicate) (now terms))) (now observed) (outcomesOf (now outcomes))) ⌝ }
+    ensures { λ r. ⌜ MakesAll (transducerClauses (circuit (askedOf (recordFrom n (now (inputs .entry)) latches (now (outputs .entry))) (now (gates .entry)) (now (relevant .entry)) (now (predicate .entry)) (now (terms .entry)))) (now (relevant .entry)) (clausesIn (now (terms .entry)) (now (predicate .entry))) source (now (observed .entry)) (outcomesOf (now (outcomes .entry)))) (now (pairs .entry)) (now (literals .entry)) r (now (pairs .exit)) (now (literals .exit)) ⌝ }
+{
+    let at = model::currents(latches);
+    let to = model::nexts(latches);
+    let mut keys = [0u64; 136];
+    let count = claims::outcome_keys(
+        lists::first(&to, n.latches),
+        lists::first(outputs, n.outputs),
+        observed,
+        &mut keys,
+    );
+    making::make(
+        lists::first(&at, n.latches),
+        source,
+        lists::first(inputs, n.inputs),
+        relevant,
+        predicate,
+        terms,
+        gates,
+        n.ands,
+        lists::first(&keys, count),
+        outcomes,
+        true,
+        1,
+        pairs,
+        literals,
+    )
+}
+
+// A row with claimed outcomes, once the model and the boundary are accepted: reasons 14 and 20.
+fn claim(
+    n: Counts,
+    inputs: &[u64],
+    latches: [AigerLatch; 8],
+    outputs: &[u64],
+    gates: &[u64],
+    relevant: &[u64],
+    source: u64,
+    predicate: &[u64],
+    terms: &[u32],
+    observed: &[u64],
+    outcomes: &[u64],
+    pairs: &mut [u64],
+    literals: &mut [u32],
+) -> Made
+    requires { ⌜ Asks (askedOf (recordFrom n (now inputs) latches (now outputs)) (now gates) (now relevant) (now predicate) (now terms)) ⌝ }
+    ensures { λ r. ⌜ Continues (transducerAfter (askedOf (recordFrom n (now (inputs .entry)) latches (now (outputs .entry))) (now (gates .entry)) (now (relevant .entry)) (now (predicate .entry)) (now (terms .entry))) source (now (observed .entry)) (now (outcomes .entry)) (roomOf (now (pairs .entry)) (now (literals .entry)))) (now (pairs .entry)) (now (literals .entry)) r (now (pairs .exit)) (now (literals .exit)) ⌝ }
+{
+    if !boundary::is_state(n.latches, source) {
+        return Made::Refused(14);
+    }
+    if !boundary::outcomes_claimed(n.latches, n.outputs as u64, observed, outcomes) {
+        return Made::Refused(14);
+    }
+    assemble(
+        n,
+        inputs,
+        latches,
+        outputs,
+        gates,
+        relevant,
+        source,
+        predicate,
+        terms,
+        observed,
+        outcomes,
+        pairs,
+        literals,
+    )
+}
+
+// The clauses of a row with claimed outcomes, of a record in parts.
+pub fn row_parts(
+    n: Counts,
+    inputs: &[u64],
+    latches: [AigerLatch; 8],
+    outputs: &[u64],
+    gates: &[u64],
+    relevant: &[u64],
+    source: u64,
+    predicate: &[u64],
+    terms: &[u32],
+    observed: &[u64],
+    outcomes: &[u64],
+    work: &mut [u64],
+    pairs: &mut [u64],
+    literals: &mut [u32],
+) -> Made
+    ensures { λ r. ⌜ MakesTransducer (askedOf (recordFrom n (now (inputs .entry)) latches (now (outputs .entry))) (now (gates .entry)) (now (relevant .entry)) (now (predicate .entry)) (now (terms .entry))) source (now (observed .entry)) (now (outcomes .entry)) (buffersOf (now (pairs .entry)) (now (literals .entry)) (now (work .entry))) r (buffersOf (now (pairs .exit)) (now (literals .exit)) (now (work .exit))) ⌝ }
+{
+    let verdict = boundary::check(
+        n,
+        inputs,
+        latches,
+        outputs,
+        gates,
+        relevant,
+        predicate,
+        terms,
+        work,
+    );
+    match verdict {
+        Verdict::Refused(reason) => Made::Refused(reason),
+        Verdict::Valid => claim(
+            n,
+            inputs,
+            latches,
+            outputs,
+            gates,
+            relevant,
+            source,
+            predicate,
+            terms,
+            observed,
+            outcomes,
+            pairs,
+            literals,
+        ),
+    }
+}
