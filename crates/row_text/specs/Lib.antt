@@ -1,0 +1,4 @@
+-- 01's row program.
+pub mod RowProgram
+pub mod Steps
+pub mod Made

@@ -1,0 +1,79 @@
+-- What 01's row program prints for every input ("The row program reads one line ..").
+use Prim.Native.Nat.{ℕ, _+_}
+use mathlib.Core.Bool.{cond}
+use mathlib.Core.List.{List, [], _∷_, _++_}
+use lib.Dec.{leb, eqb}
+use lib.ListN.{length, take, drop}
+use Rattle.lists.specs.Answer.{Answer, got, refused, unless, andThen}
+use Rattle.lists.specs.Parts.{Bytes, front, zeros}
+use Rattle.scan.specs.Spans.{span, inLine}
+use Rattle.text.specs.declared.Number.{Number}
+use Rattle.text.specs.declared.Number.the-variants.{Value, Unreadable}
+use Rattle.text.specs.declared.Reader.the-variants.{Transition}
+use Rattle.text.specs.Lines.{consHead}
+use Rattle.text.specs.Numbers.{numberOf}
+use Rattle.decimal.specs.Decimal.{decimal}
+use Rattle.decimal.specs.Printed.{numberLine, textOf}
+use Rattle.model.specs.Circuit.{Circuit, recordOf, wordsOfGates}
+use Rattle.transition.specs.Reading.{readTransition}
+use Rattle.cnf.specs.Clauses.{Clause}
+use Rattle.completeness.specs.Calls.{Asked, Lent, relationRow}
+
+-- "one line", up to byte 10 or the end, and what follows it
+abbrev pub firstLine : Bytes → Bytes
+firstLine t = take (span inLine t) t
+
+abbrev pub afterLine : Bytes → Bytes
+afterLine t = drop (span inLine t + 1) t
+
+-- what stands before, between and after single spaces (byte 32); nothing stands between two of them
+abbrev pub pieces : Bytes → List Bytes
+pieces [] = [] ∷ []
+pieces (b ∷ bs) = cond (eqb b 32) ([] ∷ pieces bs) (consHead b (pieces bs))
+
+-- "14 for a first line of another form or with a number that the transition reader refuses"
+abbrev pub pieceNumber : Number → Answer ℕ
+pieceNumber (Value n) = got n
+pieceNumber Unreadable = refused 14
+
+abbrev pub numbersOf : List Bytes → Answer (List ℕ)
+numbersOf [] = got []
+numbersOf (f ∷ fs) = andThen (pieceNumber (numberOf Transition f)) (λ n. andThen (numbersOf fs) (λ ns. got (n ∷ ns)))
+
+-- "It lends 6,000 gate words, 2,100 work words, 8,192 pairs and 16,384 literals": a pair is two words
+abbrev pub rowLent : Lent
+rowLent = record { work = 2100; pairs = 16384; literals = 16384 }
+
+-- "without relevant inputs or predicate"
+abbrev pub askedOf : Circuit → Asked
+askedOf c = record { model = recordOf c; gates = front (zeros 6000) (wordsOfGates c); relevant = []; pairs = []; words = [] }
+
+-- "source, then targets", then the model
+abbrev pub rowFor : List ℕ → Bytes → Answer (List Clause)
+rowFor [] t = refused 14
+rowFor (source ∷ targets) t = andThen (readTransition t 6000 2100) (λ c. relationRow (askedOf c) source targets rowLent)
+
+-- "3 when longer, then 14 .., before the model is read"
+unfoldable pub rowAnswer : Bytes → Answer (List Clause)
+rowAnswer t = unless 3 (leb (length t) 16384) (andThen (numbersOf (pieces (firstLine t))) (λ ns. rowFor ns (afterLine t)))
+
+-- "offset, length and literals of each clause"
+abbrev pub clauseLines : ℕ → List Clause → List Bytes
+clauseLines at [] = []
+clauseLines at (c ∷ cs) = numberLine (at ∷ length c ∷ c) ∷ clauseLines (at + length c) cs
+
+-- the bytes of `refused ` and of `rows `
+abbrev pub refusedWord : Bytes
+refusedWord = 114 ∷ 101 ∷ 102 ∷ 117 ∷ 115 ∷ 101 ∷ 100 ∷ 32 ∷ []
+
+abbrev pub rowsWord : Bytes
+rowsWord = 114 ∷ 111 ∷ 119 ∷ 115 ∷ 32 ∷ []
+
+-- "It prints `refused` and the number .., or `rows` and the count, then offset, length and literals of each clause."
+abbrev pub printed : Answer (List Clause) → Bytes
+printed (got cs) = textOf ((rowsWord ++ decimal (length cs)) ∷ clauseLines 0 cs)
+printed (refused n) = textOf ((refusedWord ++ decimal n) ∷ [])
+
+-- the output of the program for an input
+unfoldable pub rowText : Bytes → Bytes
+rowText t = printed (rowAnswer t)
