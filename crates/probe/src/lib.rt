@@ -12,6 +12,7 @@ ghost use Rattle.decimal.specs.Writing.{written, writtenAt};
 ghost use Rattle.probe.specs.Flat.{readerOf, flatNumber, flatLiteral, flatLine, flatField, flatWritten, cursorAt};
 
 mod models;
+mod obligations;
 
 use decimal::Written;
 use text::Cursor;
