@@ -1,7 +1,9 @@
 //! Runs groups of cases, and tries them on wrong variants.
 
 mod inputs;
+mod lent;
 pub mod model;
+pub mod obligation;
 pub mod text;
 
 use crate::ours;

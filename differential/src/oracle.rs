@@ -1,6 +1,7 @@
 //! The oracle: the published Rust, compiled unchanged, as `oracle::aiger` and `oracle::composed`.
 
 pub mod model;
+pub mod obligation;
 
 use crate::subject::Rule;
 use std::str::Lines;

@@ -1,6 +1,7 @@
 //! The proved library, behind safe functions. Its calls take any bytes, places and numbers.
 
 pub mod model;
+pub mod obligation;
 
 use crate::subject::Subject;
 

@@ -33,6 +33,14 @@ impl Random {
         from[self.below(from.len())]
     }
 
+    /// A word of so many bits, at most 64.
+    pub fn bits(&mut self, count: usize) -> u64 {
+        match count {
+            0 => 0,
+            _ => self.word() >> (64 - count),
+        }
+    }
+
     /// A number of a random width in bits.
     pub fn wide(&mut self) -> u64 {
         let width = self.below(65) as u32;

@@ -2,6 +2,7 @@
 //! requirements, or by a deliberately wrong variant.
 
 pub mod model;
+pub mod obligation;
 
 /// Which reader's number rule holds.
 #[derive(Clone, Copy, Debug, Eq, PartialEq)]

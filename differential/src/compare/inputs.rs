@@ -14,15 +14,19 @@ const LINES: [u8; 11] = [b'0', b'1', b'9', b'+', b' ', 9, 10, 11, 13, 28, b'a'];
 const FEW: [u8; 6] = [b'0', b'1', b'+', b' ', 10, 13];
 
 /// Calls `each` with all texts over an alphabet of at most so many bytes.
-pub fn all_texts(alphabet: &[u8], longest: usize, mut each: impl FnMut(&[u8])) {
-    let mut text = Vec::with_capacity(longest);
-    extend_all(alphabet, longest, &mut text, &mut each);
+pub fn all_texts(alphabet: &[u8], longest: usize, each: impl FnMut(&[u8])) {
+    all_lists(alphabet, longest, each);
+}
+
+/// Calls `each` with all lists of at most so many of the given items.
+pub fn all_lists<T: Copy>(items: &[T], longest: usize, mut each: impl FnMut(&[T])) {
+    let mut list = Vec::with_capacity(longest);
+    extend_all(items, longest, &mut list, &mut each);
 }
 
 /// Calls `each` with all lists of so many of the given items.
 pub fn all_words<T: Copy>(items: &[T], length: usize, mut each: impl FnMut(&[T])) {
-    let mut list = Vec::with_capacity(length);
-    extend_all(items, length, &mut list, &mut |list: &[T]| {
+    all_lists(items, length, |list| {
         if list.len() == length {
             each(list);
         }

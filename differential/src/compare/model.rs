@@ -1,12 +1,12 @@
 //! The model layer: the transition reader, the validation of records, and the step.
 
-mod check;
+pub mod check;
 pub mod circuits;
 mod faults;
 mod limits;
 pub mod pages;
 mod readings;
-mod records;
+pub mod records;
 mod short;
 mod steps;
 
@@ -25,7 +25,7 @@ pub static LAYER: compare::Layer<Subject> = compare::Layer {
     faults: faults::FAULTS,
 };
 
-const GROUPS: [Group; 20] = [
+const GROUPS: [Group; 21] = [
     short::HEADERS,
     short::HEADER_BYTES,
     short::BODIES,
@@ -41,6 +41,7 @@ const GROUPS: [Group; 20] = [
     records::SMALL,
     records::COUNTS,
     records::LENT,
+    records::WORDS,
     records::RANDOM,
     steps::SMALL,
     steps::WIDE,
@@ -49,5 +50,5 @@ const GROUPS: [Group; 20] = [
 ];
 
 /// Model K of the requirements' tables, and model Q, whose gates are not listed in rising order.
-const K: &[u8] = b"aag 3 1 1 1 1\n2\n4 6\n6\n6 4 2\n";
-const Q: &[u8] = b"aag 3 0 1 1 2\n2 6\n6\n6 4 4\n4 2 2\n";
+pub const K: &[u8] = b"aag 3 1 1 1 1\n2\n4 6\n6\n6 4 2\n";
+pub const Q: &[u8] = b"aag 3 0 1 1 2\n2 6\n6\n6 4 4\n4 2 2\n";

@@ -56,7 +56,7 @@ pub fn transition(circuit: &Circuit) -> AigerTransition {
     }
 }
 
-fn sizes(literals: &[u64]) -> Vec<usize> {
+pub fn sizes(literals: &[u64]) -> Vec<usize> {
     literals.iter().map(|&literal| literal as usize).collect()
 }
 

@@ -19,6 +19,8 @@ mod stand_in {
         read: reading::read,
         validate: reading::validate,
         step: reading::step,
+        validate_words: reading::validate_words,
+        step_words: reading::step_words,
     };
 }
 
@@ -56,13 +58,6 @@ mod library {
         ) -> Stepped;
     }
 
-    /// The words of a record: all its fields and elements are words.
-    const WORDS: usize = size_of::<Model>() / size_of::<u64>();
-
-    fn words(model: &Model) -> *const u64 {
-        std::ptr::from_ref(model).cast()
-    }
-
     // In every `unsafe` below: pointer and length are those of one slice that lives through the
     // call, no two overlap, and the library asks nothing else of its arguments.
 
@@ -70,6 +65,8 @@ mod library {
         read,
         validate,
         step,
+        validate_words,
+        step_words,
     };
 
     fn read(text: &[u8], gates: &mut [u64], work: &mut [u64]) -> Read {
@@ -86,10 +83,14 @@ mod library {
     }
 
     fn validate(model: &Model, gates: &[u64], work: &mut [u64]) -> u64 {
+        validate_words(model.words(), gates, work)
+    }
+
+    fn validate_words(record: &[u64], gates: &[u64], work: &mut [u64]) -> u64 {
         unsafe {
             probe_validate(
-                words(model),
-                WORDS,
+                record.as_ptr(),
+                record.len(),
                 gates.as_ptr(),
                 gates.len(),
                 work.as_mut_ptr(),
@@ -99,10 +100,20 @@ mod library {
     }
 
     fn step(model: &Model, gates: &[u64], work: &mut [u64], state: u64, input: u64) -> Stepped {
+        step_words(model.words(), gates, work, state, input)
+    }
+
+    fn step_words(
+        record: &[u64],
+        gates: &[u64],
+        work: &mut [u64],
+        state: u64,
+        input: u64,
+    ) -> Stepped {
         unsafe {
             probe_step(
-                words(model),
-                WORDS,
+                record.as_ptr(),
+                record.len(),
                 gates.as_ptr(),
                 gates.len(),
                 work.as_mut_ptr(),

@@ -223,11 +223,47 @@ pub fn record_circuit(model: &Model, gates: &[u64], work_words: usize) -> Result
     }
 }
 
+/// The same of a record that is lent as words: one that is not there is 0, and inputs or outputs
+/// that do not reach their counts are 11.
+pub fn words_circuit(record: &[u64], gates: &[u64], work_words: usize) -> Result<Circuit, u64> {
+    let model = Model::in_words(record);
+    let circuit = record_circuit(&model, gates, work_words)?;
+    let reaches = |start: usize, count: usize| count == 0 || start + count <= record.len();
+    if reaches(2, circuit.inputs.len()) && reaches(84, circuit.outputs.len()) {
+        Ok(circuit)
+    } else {
+        Err(11)
+    }
+}
+
+/// The validation of a record that is lent as words.
+pub fn validate_words(record: &[u64], gates: &[u64], work: &mut [u64]) -> u64 {
+    let answer = words_circuit(record, gates, work.len());
+    work.fill(0);
+    answer.err().unwrap_or(0)
+}
+
 /// The step.
 pub fn step(model: &Model, gates: &[u64], work: &mut [u64], state: u64, input: u64) -> Stepped {
     let answer = record_circuit(model, gates, work.len());
+    stepped(answer, work, state, input)
+}
+
+/// The step of a record that is lent as words.
+pub fn step_words(
+    record: &[u64],
+    gates: &[u64],
+    work: &mut [u64],
+    state: u64,
+    input: u64,
+) -> Stepped {
+    let answer = words_circuit(record, gates, work.len());
+    stepped(answer, work, state, input)
+}
+
+fn stepped(circuit: Result<Circuit, u64>, work: &mut [u64], state: u64, input: u64) -> Stepped {
     work.fill(0);
-    match answer {
+    match circuit {
         Err(reason) => Stepped::refused(reason),
         Ok(circuit) => outcome(&circuit, state, input).unwrap_or(Stepped::refused(12)),
     }
@@ -278,6 +314,6 @@ fn packed(bits: impl DoubleEndedIterator<Item = bool>) -> u64 {
 }
 
 /// Variable 0 is false, so that literal 0 is false and 1 is true.
-fn value(values: &[bool], literal: u64) -> bool {
+pub fn value(values: &[bool], literal: u64) -> bool {
     values[(literal / 2) as usize] != (literal % 2 == 1)
 }

@@ -47,13 +47,24 @@ pub struct Stepped {
     pub low: u64,
 }
 
+/// How many words a record is: all its fields and elements are words.
+pub const WORDS: usize = size_of::<Model>() / size_of::<u64>();
+
 /// The functions of the model layer. Gate words come before work words.
 #[derive(Clone, Copy)]
 pub struct Subject {
     pub read: fn(&[u8], &mut [u64], &mut [u64]) -> Read,
-    pub validate: fn(&Model, &[u64], &mut [u64]) -> u64,
-    pub step: fn(&Model, &[u64], &mut [u64], u64, u64) -> Stepped,
+    pub validate: Validate<Model>,
+    pub step: Step<Model>,
+    /// The same two, of a record that is lent as any number of words.
+    pub validate_words: Validate<[u64]>,
+    pub step_words: Step<[u64]>,
 }
+
+/// Of a record in the form `R`, gate words and work words.
+pub type Validate<R> = fn(&R, &[u64], &mut [u64]) -> u64;
+/// The same with a state and an input word.
+pub type Step<R> = fn(&R, &[u64], &mut [u64], u64, u64) -> Stepped;
 
 impl Model {
     pub const ZERO: Self = Self {
@@ -84,6 +95,32 @@ impl Model {
         model.latches[..circuit.latches.len()].copy_from_slice(&circuit.latches);
         model.outputs[..circuit.outputs.len()].copy_from_slice(&circuit.outputs);
         model
+    }
+
+    /// The words of the record's memory.
+    pub fn words(&self) -> &[u64; WORDS] {
+        // All fields and elements are words of 64 bits, so that there is no gap between them.
+        unsafe { &*std::ptr::from_ref(self).cast() }
+    }
+
+    /// The record that lies in words: M, I, the inputs, L, the latches, O, the outputs, A. A word
+    /// that is not there is 0.
+    pub fn in_words(words: &[u64]) -> Self {
+        let mut rest = words.iter().copied();
+        let mut next = || rest.next().unwrap_or(0);
+        Self {
+            max_variable: next() as usize,
+            input_count: next() as usize,
+            inputs: [(); INPUTS].map(|()| next()),
+            latch_count: next() as usize,
+            latches: [(); LATCHES].map(|()| Latch {
+                current: next(),
+                next: next(),
+            }),
+            output_count: next() as usize,
+            outputs: [(); OUTPUTS].map(|()| next()),
+            and_count: next() as usize,
+        }
     }
 
     /// The lists that a record and gate words stand for, where the counts fit both.

@@ -2,48 +2,15 @@
 
 use super::Run;
 use crate::circuit::Circuit;
+use crate::compare::lent::{Words, refusal};
 use crate::oracle::model as oracle;
 use crate::random::Random;
 use crate::reading::model as reading;
-use crate::subject::model::{Model, Read, Stepped, Subject};
+use crate::subject::model::{Model, Read, Step, Stepped, Subject, Validate};
 use crate::tally::{Answers, shown};
-use std::fmt;
 
-/// Stands for the Rust's refusal of what the reading accepts: it has no numbers of its own.
-const REFUSED_BY_RUST: u64 = 99;
 /// The most gate words that are lent on a header's word.
 const MOST_GATE_WORDS: u64 = 3_000_010;
-
-/// Words that are lent to a call, with what they hold before it.
-#[derive(Clone, Eq, PartialEq)]
-pub struct Words(pub Vec<u64>);
-
-impl Words {
-    pub fn garbage(random: &mut Random, length: usize) -> Self {
-        Self((0..length).map(|_| random.wide()).collect())
-    }
-
-    fn zeros(&self) -> Self {
-        Self(vec![0; self.0.len()])
-    }
-
-    /// These words with others put over the first ones.
-    fn with(&self, front: &[u64]) -> Self {
-        let mut words = self.clone();
-        for (word, &other) in words.0.iter_mut().zip(front) {
-            *word = other;
-        }
-        words
-    }
-}
-
-/// The first words, and how many there are.
-impl fmt::Debug for Words {
-    fn fmt(&self, out: &mut fmt::Formatter<'_>) -> fmt::Result {
-        let shown = &self.0[..self.0.len().min(16)];
-        write!(out, "{} words {shown:?}", self.0.len())
-    }
-}
 
 /// What is lent to the reader.
 #[derive(Clone)]
@@ -116,16 +83,8 @@ pub fn read(run: &mut Run, text: &[u8], lent: &Lent) -> Option<Circuit> {
     circuit.filter(|_| reason == 0)
 }
 
-/// The number under which the Rust's refusal is compared: the reading's, where it refuses too.
-fn refusal(reading: u64) -> u64 {
-    if reading == 0 {
-        REFUSED_BY_RUST
-    } else {
-        reading
-    }
-}
-
 /// A record that is handed in, with gate words and a work slice.
+#[derive(Clone)]
 pub struct Record {
     pub model: Model,
     pub gates: Vec<u64>,
@@ -175,7 +134,7 @@ impl Record {
         Answered { answer, work }
     }
 
-    fn shown(&self) -> String {
+    pub fn shown(&self) -> String {
         let work = self.work.0.len();
         let gates = Words(self.gates.clone());
         format!("{:?}, gates {gates:?}, work words {work}", self.model)
@@ -184,7 +143,7 @@ impl Record {
 
 /// Compares one validation.
 pub fn validate(run: &mut Run, record: &Record) {
-    let answer = |validate: fn(&Model, &[u64], &mut [u64]) -> u64| {
+    let answer = |validate: Validate<Model>| {
         record.answered(|record, work| validate(&record.model, &record.gates, work))
     };
     let reading = answer(reading::validate);
@@ -208,7 +167,7 @@ pub fn steps(run: &mut Run, record: &Record, cases: &[(u64, u64)]) {
     let transition = record.transition();
     let ours: Subject = run.ours;
     for &(state, input) in cases {
-        let answer = |step: fn(&Model, &[u64], &mut [u64], u64, u64) -> Stepped| {
+        let answer = |step: Step<Model>| {
             record.answered(|record, work| step(&record.model, &record.gates, work, state, input))
         };
         let reading = answer(reading::step);
@@ -224,6 +183,35 @@ pub fn steps(run: &mut Run, record: &Record, cases: &[(u64, u64)]) {
         };
         run.tally.check(answers, || {
             format!("state {state}, input {input}, {}", record.shown())
+        });
+    }
+}
+
+/// Compares the validation of a record that is lent as these words, and steps of it. The Rust has
+/// no such form.
+pub fn lent_as(run: &mut Run, record: &Record, words: &[u64], cases: &[(u64, u64)]) {
+    let ours: Subject = run.ours;
+    let validated = |validate: Validate<[u64]>| {
+        record.answered(|record, work| validate(words, &record.gates, work))
+    };
+    let answers = Answers {
+        ours: validated(ours.validate_words),
+        rust: None,
+        reading: validated(reading::validate_words),
+    };
+    let shown = || format!("record words {}, {}", words.len(), record.shown());
+    run.tally.check(answers, shown);
+    for &(state, input) in cases {
+        let stepped = |step: Step<[u64]>| {
+            record.answered(|record, work| step(words, &record.gates, work, state, input))
+        };
+        let answers = Answers {
+            ours: stepped(ours.step_words),
+            rust: None,
+            reading: stepped(reading::step_words),
+        };
+        run.tally.check(answers, || {
+            format!("state {state}, input {input}, {}", shown())
         });
     }
 }

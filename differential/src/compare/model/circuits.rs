@@ -121,7 +121,7 @@ pub fn make(random: &mut Random, plan: &Plan) -> Circuit {
     }
 }
 
-fn arrange(random: &mut Random, variables: &mut [u64], order: Order) {
+pub fn arrange(random: &mut Random, variables: &mut [u64], order: Order) {
     match order {
         Order::Rising => variables.sort_unstable(),
         Order::Falling => {

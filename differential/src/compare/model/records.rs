@@ -1,11 +1,12 @@
 //! Records that are handed in: the validation, and the step on what it refuses.
 
-use super::check::{Record, Words, steps, validate};
-use super::circuits::{any_plan, make, small_shape, wide_shape};
+use super::check::{Record, lent_as, steps, validate};
+use super::circuits::{Shape, any_plan, make, small_shape, wide_shape};
 use super::steps::some_steps;
 use super::{Group, K, Q, Run};
 use crate::circuit::Circuit;
 use crate::compare::inputs::all_words;
+use crate::compare::lent::Words;
 use crate::random::Random;
 use crate::reading::model as reading;
 use crate::subject::model::{Latch, Model};
@@ -23,6 +24,11 @@ pub const COUNTS: Group = Group {
 pub const LENT: Group = Group {
     name: "records: gate and work words around the need",
     run: lent,
+};
+
+pub const WORDS: Group = Group {
+    name: "records: lent as any number of words",
+    run: words,
 };
 
 pub const RANDOM: Group = Group {
@@ -181,6 +187,49 @@ fn lent(run: &mut Run) {
     }
 }
 
+/// Records of all lengths up to two words more than the whole, with the work words that they need and
+/// one less. Without gates a record may be accepted though it is cut; without outputs and with a
+/// last next literal of 0, sooner.
+fn words(run: &mut Run) {
+    for (inputs, outputs, gates) in [
+        (1, 1, 1),
+        (2, 0, 0),
+        (0, 0, 0),
+        (0, 1, 0),
+        (64, 128, 0),
+        (64, 127, 0),
+        (3, 40, 0),
+        (64, 128, 9),
+        (1, 0, 3),
+    ] {
+        for latches in 1..=8 {
+            let shape = Shape {
+                inputs,
+                latches,
+                outputs,
+                gates,
+            };
+            let plan = any_plan(&mut run.random, shape);
+            let mut circuit = make(&mut run.random, &plan);
+            circuit.latches[latches - 1].next *= latches as u64 % 2;
+            each_length(run, &circuit);
+        }
+    }
+}
+
+fn each_length(run: &mut Run, circuit: &Circuit) {
+    let mut record = Record::of(&mut run.random, circuit);
+    let mut words = record.model.words().to_vec();
+    words.extend([run.random.wide(), run.random.wide()]);
+    let cases = some_steps(&mut run.random, circuit, 2);
+    for _ in 0..2 {
+        for length in 0..=words.len() {
+            lent_as(run, &record, &words[..length], &cases);
+        }
+        record.work.0.pop();
+    }
+}
+
 fn random(run: &mut Run) {
     for case in 0..run.cases {
         let shape = match case % 4 {
@@ -204,7 +253,7 @@ fn random(run: &mut Run) {
 }
 
 /// Changes one literal or count of a record, or what is lent with it.
-fn damage(random: &mut Random, record: &mut Record, circuit: &Circuit) {
+pub fn damage(random: &mut Random, record: &mut Record, circuit: &Circuit) {
     let model = &mut record.model;
     let words = circuit.words().len().min(record.gates.len());
     match random.below(9) {
@@ -241,7 +290,7 @@ fn change_count(random: &mut Random, model: &mut Model) {
     *count = changed(random, *count as u64) as usize;
 }
 
-fn change(random: &mut Random, slots: &mut [u64]) {
+pub fn change(random: &mut Random, slots: &mut [u64]) {
     if !slots.is_empty() {
         let place = random.below(slots.len());
         let other = slots[random.below(slots.len())];
@@ -253,7 +302,7 @@ fn change(random: &mut Random, slots: &mut [u64]) {
     }
 }
 
-fn changed(random: &mut Random, number: u64) -> u64 {
+pub fn changed(random: &mut Random, number: u64) -> u64 {
     match random.below(6) {
         0 => number.wrapping_add(1),
         1 => number.wrapping_sub(1),

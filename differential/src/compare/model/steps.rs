@@ -32,18 +32,15 @@ pub const LARGE: Group = Group {
 pub fn some_steps(random: &mut Random, circuit: &Circuit, count: usize) -> Vec<(u64, u64)> {
     let states = 1 << circuit.latches.len();
     let mut cases: Vec<(u64, u64)> = (0..count)
-        .map(|_| (random.below(states) as u64, random_input(random, circuit)))
+        .map(|_| {
+            (
+                random.below(states) as u64,
+                random.bits(circuit.inputs.len()),
+            )
+        })
         .collect();
     cases.push((random.wide(), random.wide()));
     cases
-}
-
-/// An input word of a model.
-fn random_input(random: &mut Random, circuit: &Circuit) -> u64 {
-    match circuit.inputs.len() {
-        0 => 0,
-        count => random.word() >> (64 - count),
-    }
 }
 
 fn check(run: &mut Run, circuit: &Circuit, cases: &[(u64, u64)]) {

@@ -3,6 +3,7 @@
 use super::super::{Fault, records};
 use super::{OURS, latches_of_inputs, lenient_validate, outputs, own_operands};
 use crate::reading::model as reading;
+use crate::subject::model::WORDS;
 
 pub const FAULTS: &[Fault] = &[
     Fault {
@@ -152,4 +153,54 @@ pub const FAULTS: &[Fault] = &[
             };
         },
     },
+    Fault {
+        name: "validate: a record of fewer than 213 words is refused",
+        group: records::WORDS.name,
+        spoil: |subject| {
+            subject.validate_words = |record, gates, work| {
+                let reason = (OURS.validate_words)(record, gates, work);
+                if reason == 0 && record.len() < 213 {
+                    return 11;
+                }
+                reason
+            };
+        },
+    },
+    Fault {
+        name: "validate: outputs that are not there are 0",
+        group: records::WORDS.name,
+        spoil: |subject| {
+            subject.validate_words =
+                |record, gates, work| (OURS.validate_words)(&filled_up(record), gates, work);
+        },
+    },
+    Fault {
+        name: "validate: a record that is cut is 11 before 7",
+        group: records::WORDS.name,
+        spoil: |subject| {
+            subject.validate_words = |record, gates, work| {
+                let reason = (OURS.validate_words)(record, gates, work);
+                if reason == 7 && record.len() < 67 {
+                    return 11;
+                }
+                reason
+            };
+        },
+    },
+    Fault {
+        name: "step: outputs that are not there are 0",
+        group: records::WORDS.name,
+        spoil: |subject| {
+            subject.step_words = |record, gates, work, state, input| {
+                (OURS.step_words)(&filled_up(record), gates, work, state, input)
+            };
+        },
+    },
 ];
+
+/// The record with zeros for the words that are not there.
+fn filled_up(record: &[u64]) -> Vec<u64> {
+    let mut words = record.to_vec();
+    words.resize(record.len().max(WORDS), 0);
+    words
+}
