@@ -71,7 +71,7 @@ pub fn widest() -> Circuit {
     )
 }
 
-fn shaped(kind: &Kind, shape: Shape) -> Circuit {
+pub fn shaped(kind: &Kind, shape: Shape) -> Circuit {
     let plan = Plan {
         shape,
         numbering: kind.numbering,

@@ -5,6 +5,8 @@ mod circuits;
 #[cfg(published)]
 mod measure;
 #[cfg(published)]
+mod obligations;
+#[cfg(published)]
 mod reading;
 #[cfg(published)]
 mod stepping;
@@ -19,6 +21,7 @@ fn main() {
     println!("ours is {}", differential::ours::NAME);
     reading::measure(&table);
     stepping::measure(&table);
+    obligations::measure(&table);
 }
 
 #[cfg(not(published))]

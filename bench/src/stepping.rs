@@ -22,7 +22,7 @@ pub fn measure(table: &Table) {
 }
 
 /// Model K: one gate.
-fn k() -> Circuit {
+pub fn k() -> Circuit {
     Circuit {
         variables: 3,
         inputs: vec![2],

@@ -7,6 +7,8 @@ use crate::measure::Times;
 pub enum Unit {
     Bytes,
     Gates,
+    Literals,
+    Claims,
 }
 
 pub struct Table {
@@ -28,6 +30,8 @@ impl Table {
         let (size, each) = match unit {
             Unit::Bytes => ("bytes", "ours ns/byte"),
             Unit::Gates => ("gates", "ours ns/gate"),
+            Unit::Literals => ("literals", "ours ns/lit."),
+            Unit::Claims => ("claims", "ours ns/claim"),
         };
         println!(
             "\n{title:<52} {size:>10} {:>12} {:>12} {:>10} {each:>13}",
