@@ -2,10 +2,12 @@
 use Prim.Native.Nat.{ℕ, zero, suc, _+_, _-_, _≤_, _<_}
 use mathlib.Core.List.{List, [], _∷_, _++_, append-assoc, append-nil}
 use mathlib.Core.Path.{_≡_, refl, sym, ap, _∙_}
+use native.Mathlib.Nat.{zero-add}
 use native.Mathlib.Omega.{arith}
-use lib.ListN.{length, set, length-append, drop-of-length-le}
+use lib.ListN.{length, drop, set, length-append, length-drop, drop-of-length-le}
 use Rattle.lists.specs.Answer.{Answer, got, refused, andThen}
 use Rattle.lists.specs.Parts.{Bytes}
+use Rattle.lists.proofs.AnswerLaws.{andThen-got}
 use Rattle.lists.proofs.PartLaws.{Grown, grown-none, grown-set}
 use Rattle.aiger.specs.Sections.{Section, withItem, section}
 
@@ -164,3 +166,43 @@ module _ {A : Type 0} (item : Bytes → Answer A) where
   pub section-length : (n : ℕ) (lines : List Bytes) (items : List A) (rest : List Bytes) → section item n lines ≡ sectionOf items rest → length items ≡ n
   unfolding Counted
   section-length = counted
+
+  -- the lines after it
+  pub section-rest : (n : ℕ) (lines : List Bytes) (items : List A) (rest : List Bytes) → section item n lines ≡ sectionOf items rest → rest ≡ drop n lines
+  section-rest zero lines items rest h = sym (same-rest [] items lines rest h)
+  section-rest (suc n) [] items rest h = no-section items rest 8 (sym h)
+  section-rest (suc n) (l ∷ ls) items rest h =
+      let one = andThen-got (item l) (λ a. andThen (section item n ls) (withItem a)) (record { items = items; rest = rest }) h in
+      let more = andThen-got (section item n ls) (withItem (one .0)) (record { items = items; rest = rest }) (one .2) in
+      let s = more .0 in
+      sym (same-rest (one .0 ∷ s .items) items (s .rest) rest (more .2)) ∙ section-rest n ls (s .items) (s .rest) (more .1)
+
+  pub section-shorter : (n : ℕ) (lines : List Bytes) (items : List A) (rest : List Bytes) → section item n lines ≡ sectionOf items rest → length rest ≤ length lines
+  section-shorter n lines items rest h = omega (arith, ap length (section-rest n lines items rest h), length-drop n lines)
+
+  -- a section of a lines, and then one of b lines
+  module _ (b : ℕ) where
+    abbrev after : Section A → Answer (Section A)
+    after s = prefixed (s .items) (section item b (s .rest))
+
+    item-first : (x : A) (xs : List A) (r : Answer (Section A)) → andThen (prefixed xs r) (withItem x) ≡ prefixed (x ∷ xs) r
+    item-first x xs (got s) = refl
+    item-first x xs (refused k) = refl
+
+    items-first : (x : A) (r : Answer (Section A)) → andThen (andThen r after) (withItem x) ≡ andThen (andThen r (withItem x)) after
+    items-first x (got s) = item-first x (s .items) (section item b (s .rest))
+    items-first x (refused k) = refl
+
+    split-by : (a : ℕ) (ls : List Bytes) → section item (a + b) ls ≡ andThen (section item a ls) after → (r : Answer A)
+        → andThen r (λ x. andThen (section item (a + b) ls) (withItem x)) ≡ andThen (andThen r (λ x. andThen (section item a ls) (withItem x))) after
+    split-by a ls e (got x) = rw e (items-first x (section item a ls))
+    split-by a ls e (refused k) = refl
+
+    split : (a : ℕ) (lines : List Bytes) → section item (a + b) lines ≡ andThen (section item a lines) after
+    split zero lines = rw (zero-add b) (prefixed-none (section item b lines))
+    split (suc a) [] = let e : suc a + b ≡ suc (a + b) = omega arith in rw e
+    split (suc a) (l ∷ ls) = let e : suc a + b ≡ suc (a + b) = omega arith in rw e (split-by a ls (split a ls) (item l))
+
+    pub section-join : (a : ℕ) (lines : List Bytes) (xs ys : List A) (rest end : List Bytes) → section item a lines ≡ sectionOf xs rest → section item b rest ≡ sectionOf ys end
+        → section item (a + b) lines ≡ sectionOf (xs ++ ys) end
+    section-join a lines xs ys rest end e f = split a lines ∙ rw (e, f)

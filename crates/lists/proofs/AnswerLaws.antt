@@ -1,6 +1,6 @@
 -- Laws of `unless` and `andThen`: what an answer says of the tests before it.
 use Prim.Native.Nat.{ℕ}
-use mathlib.Core.Bool.{Bool, true, false}
+use mathlib.Core.Bool.{Bool, true, false, cond}
 use mathlib.Core.Path.{_≡_, refl}
 use native.Mathlib.Omega.{arith}
 use Rattle.lists.specs.Answer.{Answer, got, refused, unless, andThen}
@@ -39,3 +39,21 @@ andThen-assoc (refused k) f g = refl
 pub andThen-same : {A B : Type 0} (x : Answer A) (f g : A → Answer B) → ((a : A) → f a ≡ g a) → andThen x f ≡ andThen x g
 andThen-same (got a) f g e = e a
 andThen-same (refused k) f g e = refl
+
+-- an answer that refuses for no reason but m
+module _ {A : Type 0} (m : ℕ) where
+  abbrev pub Only : Answer A → Type 0
+  Only (got a) = Unit {0}
+  Only (refused k) = k ≡ m
+
+  pub only-unless : (b : Bool) (x : Answer A) → Only x → Only (unless m b x)
+  only-unless true x o = o
+  only-unless false x o = refl
+
+  pub only-cond : (b : Bool) (x y : Answer A) → Only x → Only y → Only (cond b x y)
+  only-cond true x y o p = o
+  only-cond false x y o p = p
+
+pub only-then : {A B : Type 0} (m : ℕ) (x : Answer A) (f : A → Answer B) → Only m x → ((a : A) → Only m (f a)) → Only m (andThen x f)
+only-then m (got a) f o p = p a
+only-then m (refused k) f o p = o

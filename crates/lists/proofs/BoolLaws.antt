@@ -27,6 +27,10 @@ told-true q r e h = rw (told q r false e h)
 pub told-false : (q r : Bool) → r ≡ q → r ≡ true → not q ≡ false
 told-false q r e h = rw (told q r true e h)
 
+pub told-not : (q r : Bool) → r ≡ q → not r ≡ false → q ≡ true
+told-not q true e h = sym e
+told-not q false e h = true-false refl h
+
 pub and-left : (a b : Bool) → (a && b) ≡ true → a ≡ true
 and-left true b h = refl
 and-left false b h = h
@@ -37,6 +41,9 @@ and-right false b h = true-false h refl
 
 pub and-both : (a b : Bool) → a ≡ true → b ≡ true → (a && b) ≡ true
 and-both a b h k = rw (h, k)
+
+pub and-cong : (a b c d : Bool) → a ≡ c → b ≡ d → (a && b) ≡ (c && d)
+and-cong a b c d h k = rw (h, k)
 
 pub or-left : (a b : Bool) → (a || b) ≡ false → a ≡ false
 or-left true b h = h

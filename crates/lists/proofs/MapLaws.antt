@@ -3,7 +3,7 @@ use Prim.Native.Nat.{ℕ, zero, suc, _<_}
 use mathlib.Core.List.{List, [], _∷_, map}
 use mathlib.Core.Path.{_≡_, refl}
 use native.Mathlib.Omega.{arith}
-use lib.ListN.{length, getD, take, drop}
+use lib.ListN.{length, getD, take, drop, set}
 use Rattle.lists.specs.Tests.{Each}
 
 module _ {A B : Type 0} (f : A → B) where
@@ -16,6 +16,11 @@ module _ {A B : Type 0} (f : A → B) where
   map-drop zero l = refl
   map-drop (suc n) [] = refl
   map-drop (suc n) (x ∷ l) = map-drop n l
+
+  pub map-set : (l : List A) (i : ℕ) (x : A) → map f (set l i x) ≡ set (map f l) i (f x)
+  map-set [] i x = refl
+  map-set (y ∷ l) zero x = refl
+  map-set (y ∷ l) (suc i) x = rw (map-set l i x)
 
   -- inside the list, whatever the defaults are
   pub map-at : (l : List A) (i : ℕ) (d : A) (b : B) → i < length l → getD (map f l) i b ≡ f (getD l i d)

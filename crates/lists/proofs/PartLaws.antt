@@ -23,6 +23,20 @@ take-min (suc a) zero l = let e : min (suc a) 0 ≡ 0 = omega arith in rw e
 take-min (suc a) (suc n) [] = let e : min (suc a) (suc n) ≡ suc (min a n) = omega arith in rw e
 take-min (suc a) (suc n) (x ∷ l) = let e : min (suc a) (suc n) ≡ suc (min a n) = omega arith in rw (e, take-min a n l)
 
+pub drop-min : {A : Type 0} (n : ℕ) (l : List A) → drop (min n (length l)) l ≡ drop n l
+drop-min zero l = let e : min 0 (length l) ≡ 0 = omega arith in rw e
+drop-min (suc n) [] = let e : min (suc n) 0 ≡ 0 = omega arith in rw e
+drop-min (suc n) (x ∷ l) = let e : min (suc n) (suc (length l)) ≡ suc (min n (length l)) = omega arith in rw e (drop-min n l)
+
+-- a store into the second of two lists (`set-append-left` of `lib.Seq` is one into the first)
+pub set-append-right : {A : Type 0} (xs ys : List A) (n i : ℕ) (v : A) → length xs ≡ n → set (xs ++ ys) (n + i) v ≡ xs ++ set ys i v
+set-append-right [] ys zero i v h = rw (zero-add i)
+set-append-right [] ys (suc n) i v h = absurd (omega arith)
+set-append-right (x ∷ xs) ys zero i v h = absurd (omega arith)
+set-append-right (x ∷ xs) ys (suc n) i v h =
+    let e : suc n + i ≡ suc (n + i) = omega arith in
+    rw (e, set-append-right xs ys n i v (omega arith))
+
 -- equal lists, cut at the same place
 module _ {A : Type 0} (a b c d : List A) (h : length a ≡ length b) (e : a ++ c ≡ b ++ d) where
   pub append-heads : a ≡ b

@@ -6,8 +6,8 @@ use mathlib.Core.List.{List, [], _∷_, _++_, map}
 use native.Mathlib.Omega.{arith}
 use lib.ListN.{length, getD, take, drop, drop-of-length-le}
 use Rattle.lists.specs.Parts.{part}
-use Rattle.lists.specs.Tests.{all, any, Each, every}
-use Rattle.lists.proofs.BoolLaws.{true-false, and-left, and-right, and-swap}
+use Rattle.lists.specs.Tests.{all, any, allFrom, Each, every}
+use Rattle.lists.proofs.BoolLaws.{true-false, and-left, and-right, and-true, and-swap}
 use Rattle.lists.proofs.RestLaws.{rest-more}
 
 module _ {A : Type 0} (p : A → Bool) where
@@ -57,6 +57,17 @@ module _ {A : Type 0} (p : A → Bool) where
   pub all-of-each : (l : List A) → Each (λ x. p x ≡ true) l → all p l ≡ true
   all-of-each [] e = refl
   all-of-each (x ∷ l) e = rw (e .0, all-of-each l (e .1))
+
+-- one element more at the end
+module _ {A : Type 0} where
+  pub all-snoc : (p : A → Bool) (xs : List A) (x : A) → all p (xs ++ x ∷ []) ≡ (all p xs && p x)
+  all-snoc p xs x = all-append p xs (x ∷ []) ∙ rw (and-true (p x))
+
+  pub all-from-snoc : (p : ℕ → A → Bool) (n : ℕ) (xs : List A) (x : A) → allFrom p n (xs ++ x ∷ []) ≡ (allFrom p n xs && p (n + length xs) x)
+  all-from-snoc p n [] x = let e : n + 0 ≡ n = omega arith in rw (e, and-true (p n x))
+  all-from-snoc p n (y ∷ xs) x =
+      let e : suc n + length xs ≡ n + suc (length xs) = omega arith in
+      rw (all-from-snoc p (suc n) xs x, e) (sym (and-assoc (p n y) (allFrom p (suc n) xs) (p (n + suc (length xs)) x)))
 
 module _ {A : Type 0} (p q : A → Bool) (same : (x : A) → p x ≡ q x) where
   pub all-cong : (l : List A) → all p l ≡ all q l

@@ -1,12 +1,14 @@
 -- Laws of `pairsOf`, `triplesOf` and `wordsOf`, and the loops over flat words.
 use Prim.Native.Nat.{ℕ, zero, suc, _+_, _*_, _/_, _%_, _≤_, _<_}
-use mathlib.Core.Path.{_≡_, refl, sym, _∙_}
+use mathlib.Core.Path.{_≡_, refl, sym, ap, _∙_}
 use mathlib.Core.List.{List, [], _∷_, _++_, append-assoc, append-nil}
 use native.Mathlib.Nat.{mul-suc}
 use native.Mathlib.Omega.{arith}
-use lib.ListN.{length, getD, take, drop, length-append, length-drop, drop-of-length-le}
+use lib.ListN.{length, getD, take, drop, set, length-append, length-drop, drop-of-length-le}
 use lib.Seq.{take-nil, drop-nil}
+use Rattle.lists.specs.Parts.{put}
 use Rattle.lists.specs.Words.{pairsOf, triplesOf, wordsOf}
+use Rattle.lists.proofs.PartLaws.{put-two}
 use Rattle.lists.proofs.RestLaws.{rest-head, rest-more, take-next}
 
 twice : (k : ℕ) → 2 * suc k ≡ suc (suc (2 * k))
@@ -41,6 +43,18 @@ module _ {A B : Type 0} (make : A → A → B) where
   pub pairs-back : (words : B → List A) → ((x : B) → length (words x) ≡ 2) → ((x : B) → pairsOf make (words x) ≡ x ∷ []) → (l : List B) → pairsOf make (wordsOf words l) ≡ l
   pairs-back words n e [] = refl
   pairs-back words n e (x ∷ l) = pairs-append (words x) (wordsOf words l) (rw (n x) refl) ∙ rw (e x, pairs-back words n e l)
+
+  -- both words of pair i stored
+  pairs-sets : (ws : List A) (i : ℕ) (x y : A) → 2 * i + 1 < length ws → pairsOf make (set (set ws (2 * i) x) (2 * i + 1) y) ≡ set (pairsOf make ws) i (make x y)
+  pairs-sets [] i x y h = absurd (omega arith)
+  pairs-sets (a ∷ []) i x y h = absurd (omega arith)
+  pairs-sets (a ∷ b ∷ ws) zero x y h = refl
+  pairs-sets (a ∷ b ∷ ws) (suc i) x y h =
+      let e : 2 * suc i + 1 ≡ suc (suc (2 * i + 1)) = omega arith in
+      rw (e, twice i) (ap (λ (l : List B). make a b ∷ l) (pairs-sets ws i x y (omega arith)))
+
+  pub pairs-put : (ws : List A) (i : ℕ) (x y : A) → 2 * i + 1 < length ws → pairsOf make (put ws (2 * i) (x ∷ y ∷ [])) ≡ set (pairsOf make ws) i (make x y)
+  pairs-put ws i x y h = rw (put-two ws (2 * i) x y h) (pairs-sets ws i x y h)
 
   module _ (ws : List A) where
     -- for code that keeps the place itself

@@ -1,11 +1,11 @@
 -- Lists of zeros of any length, and a slice that is cleared word by word.
 use Prim.Native.Nat.{ℕ, zero, suc, _+_, _≤_, _<_}
 use mathlib.Core.Path.{_≡_, refl, sym, ap, _∙_}
-use mathlib.Core.List.{List, _∷_, _++_, append-nil}
+use mathlib.Core.List.{List, [], _∷_, _++_, append-nil}
 use native.Mathlib.Omega.{arith}
 use borrow.Author.Fill.{fill-more}
 use lib.ListN.{length, getD, take, drop, set, length-set, length-replicate, drop-of-length-le}
-use Rattle.lists.specs.Parts.{zeros}
+use Rattle.lists.specs.Parts.{front, zeros}
 
 pub zeros-length : (n : ℕ) → length (zeros n) ≡ n
 zeros-length n = length-replicate n 0
@@ -49,3 +49,10 @@ zeros-kept w n k e q = e ∙ ap zeros q
 
 pub zeros-own : (w : List ℕ) (n : ℕ) → w ≡ zeros n → w ≡ zeros (length w)
 zeros-own w n e = zeros-kept w n (length w) e (sym (ap length e ∙ zeros-length n))
+
+-- what stands in front of zeros, with 0 where there is nothing
+pub front-zeros : (n : ℕ) (c : List ℕ) (k : ℕ) → length c ≤ n → getD (front (zeros n) c) k 0 ≡ getD c k 0
+front-zeros n [] k h = zeros-at n k
+front-zeros zero (x ∷ c) k h = absurd (omega arith)
+front-zeros (suc n) (x ∷ c) zero h = refl
+front-zeros (suc n) (x ∷ c) (suc k) h = front-zeros n c k (omega arith)

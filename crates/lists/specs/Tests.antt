@@ -1,4 +1,5 @@
 -- Tests of all elements of a list, and lists of tests: how 01's limits are put together.
+use Prim.Native.Nat.{ℕ, suc}
 use mathlib.Core.List.{List, [], _∷_}
 use mathlib.Core.Bool.{Bool, true, false, _&&_, _||_}
 
@@ -12,6 +13,11 @@ module _ {A : Type 0} where
   abbrev pub any : (A → Bool) → List A → Bool
   any p [] = false
   any p (x ∷ xs) = p x || any p xs
+
+  -- every element passes the test of its number; the first one has the number n
+  abbrev pub allFrom : (ℕ → A → Bool) → ℕ → List A → Bool
+  allFrom p n [] = true
+  allFrom p n (x ∷ xs) = p n x && allFrom p (suc n) xs
 
   -- the statement P holds of every element
   abbrev pub Each : (A → Type 0) → List A → Type 0
