@@ -48,7 +48,7 @@ fn read_numbers(line: &[u8], numbers: &mut [u64]) -> Numbers
     let mut at = 0;
     while at <= line.len() {
         let end = piece_end(line, at);
-        let Number::Value(v) = text::parse_usize(&line[at..end]) else {
+        let Number::Value(v) = text::numbers::parse_usize(&line[at..end]) else {
             return Numbers::OtherForm;
         };
         numbers[count] = v;

@@ -1,5 +1,5 @@
 -- Laws of `lineAt`: its cases for the code that finds lines, and what it says of `linesOf`.
-use Prim.Native.Nat.{ℕ, suc, _+_, _≤_, _<_}
+use Prim.Native.Nat.{ℕ, suc, _+_, _-_, _≤_, _<_}
 use mathlib.Core.Path.{_≡_, refl, ap}
 use mathlib.Core.List.{List, [], _∷_}
 use mathlib.Core.Bool.{Bool, true, false, cond}
@@ -61,6 +61,7 @@ module _ (s : List ℕ) (at k : ℕ) (h : at < length s) (q : k ≡ span inLine 
 -- what is known of the line that was found
 record Found (s : List ℕ) (at a e : ℕ) (n : Cursor) : Type 0 where
   lines : linesOf (drop at s) ≡ part s a e ∷ linesOf (drop (n .at) s)
+  starts : a ≡ at
   ordered : a ≤ e
   within : e ≤ length s
   plain : all inLine (part s a e) ≡ true
@@ -81,6 +82,7 @@ on-some s at r a e n k true g q =
     let m = moved at (at + span inLine (drop at s)) (length s) h (omega arith) (span-within inLine s at (omega arith)) (ltb (at + span inLine (drop at s)) (length s)) refl in
     record {
       lines = rw (en, ea, ee) (next-at s at (span inLine (drop at s)) h refl (ltb (at + span inLine (drop at s)) (length s)) refl);
+      starts = ea;
       ordered = omega arith;
       within = omega (arith, span-within inLine s at (omega arith));
       plain = rw (ea, ee, add-sub-cancel-left at (span inLine (drop at s))) (span-passes inLine (drop at s));
@@ -105,6 +107,9 @@ module _ (s : List ℕ) (at : ℕ) (r : Line) (q : r ≡ lineAt s at) where
     pub lines-some : linesOf (drop at s) ≡ part s a e ∷ linesOf (drop (n .at) s)
     lines-some = found .lines
 
+    pub line-starts : a ≡ at
+    line-starts = found .starts
+
     pub line-ordered : a ≤ e
     line-ordered = found .ordered
 
@@ -121,3 +126,7 @@ module _ (s : List ℕ) (at : ℕ) (r : Line) (q : r ≡ lineAt s at) where
 
     pub line-next-within : n .at ≤ length s
     line-next-within = found .stays-within
+
+    -- so less of the text is left, for a loop over lines
+    pub line-less : length s - n .at < length s - at
+    line-less = omega (arith, line-moves, line-next-within)

@@ -1,10 +1,14 @@
 -- Laws of `takenAt` and `literalAt`: their cases for the code, and what they say of the numbers of a line and of the lines of a text.
-use Prim.Native.Nat.{ℕ, _≤_, _<_}
+use Prim.Native.Nat.{ℕ, _+_, _≤_, _<_}
 use mathlib.Core.List.{List, [], _∷_}
 use mathlib.Core.Option.{Option, some, none}
 use mathlib.Core.Path.{_≡_, refl, ap, sym, _∙_}
+use native.Mathlib.Omega.{arith}
+use borrow.Author.Tests.{lt-ltb}
 use lib.ListN.{length, drop}
 use Rattle.lists.specs.Parts.{Bytes, part}
+use Rattle.scan.specs.Spans.{span}
+use Rattle.scan.proofs.SpanLaws.{span-within}
 use Rattle.text.specs.declared.Reader.{Reader}
 use Rattle.text.specs.declared.Cursor.{Cursor}
 use Rattle.text.specs.declared.Number.{Number}
@@ -16,29 +20,38 @@ use Rattle.text.specs.declared.Literal.{Literal}
 use Rattle.text.specs.declared.Literal.the-variants.{Got, Refused}
 use Rattle.text.specs.Numbers.{numberOf}
 use Rattle.text.specs.Lines.{linesOf, lineAt}
-use Rattle.text.specs.Fields.{fieldsOf, fieldAt}
+use Rattle.text.specs.Fields.{isBlank, inField, fieldFrom, fieldsOf, fieldAt}
 use Rattle.text.specs.Literals.{withNumber, numbersOf, oneOf, literalOf, takenNumber, takenField, takenAt, literalNumber, literalLine, literalAt}
 use Rattle.text.proofs.LineLaws.{lines-none, lines-some, line-moves, line-next-within}
-use Rattle.text.proofs.FieldLaws.{fields-none, fields-some}
+use Rattle.text.proofs.FieldLaws.{field-none, fields-none, fields-some}
 use Rattle.text.specs.declared.Field.the-variants as field
 use Rattle.text.specs.declared.Line.the-variants as line
 use Rattle.text.specs.declared.Taken.the-variants as taken
 
--- ---- next_number
+-- ---- any_number: the field from place a to place e
 
-module _ (reader : Reader) (l : Bytes) (at : ℕ) (f : Field) (q : f ≡ fieldAt l at) where
-  pub taken-missing : f ≡ field.None → taken.Missing ≡ takenAt reader l at
-  taken-missing k = ap (takenField reader l) (sym k ∙ q)
+module _ (reader : Reader) (l : Bytes) (a e : ℕ) (h : a < length l) (k : e ≡ a + span inField (drop a l)) (n : Number) (p : n ≡ numberOf reader (part l a e)) where
+  taken-is : takenNumber n e ≡ takenField reader l (fieldFrom l a)
+  taken-is = simp (lt-ltb a (length l) h, ← k, p)
 
-  module _ (a e : ℕ) (k : f ≡ field.At a e) (n : Number) (p : n ≡ numberOf reader (part l a e)) where
-    taken-is : takenNumber n e ≡ takenAt reader l at
-    taken-is = ap (λ (x : Number). takenNumber x e) p ∙ ap (takenField reader l) (sym k ∙ q)
+  pub taken-unreadable : n ≡ Unreadable → taken.Unreadable ≡ takenField reader l (fieldFrom l a)
+  taken-unreadable u = ap (λ (x : Number). takenNumber x e) (sym u) ∙ taken-is
 
-    pub taken-unreadable : n ≡ Unreadable → taken.Unreadable ≡ takenAt reader l at
-    taken-unreadable u = ap (λ (x : Number). takenNumber x e) (sym u) ∙ taken-is
+  pub taken-got : (v : ℕ) → n ≡ Value v → taken.Got v e ≡ takenField reader l (fieldFrom l a)
+  taken-got v u = ap (λ (x : Number). takenNumber x e) (sym u) ∙ taken-is
 
-    pub taken-got : (v : ℕ) → n ≡ Value v → taken.Got v e ≡ takenAt reader l at
-    taken-got v u = ap (λ (x : Number). takenNumber x e) (sym u) ∙ taken-is
+module _ (l : Bytes) (a e : ℕ) (h : a < length l) (k : e ≡ a + span inField (drop a l)) where
+  pub from-within : e ≤ length l
+  from-within = rw k (span-within inField l a (omega arith))
+
+-- ---- next_number: a is where the next field begins
+
+module _ (reader : Reader) (l : Bytes) (at a : ℕ) (q : a ≡ at + span isBlank (drop at l)) where
+  pub taken-missing : length l ≤ a → taken.Missing ≡ takenAt reader l at
+  taken-missing h = ap (takenField reader l) (field-none l at a q h)
+
+  pub taken-from : (r : Taken) → r ≡ takenField reader l (fieldFrom l a) → r ≡ takenAt reader l at
+  taken-from r k = k ∙ ap (λ (b : ℕ). takenField reader l (fieldFrom l b)) q
 
 -- ---- what a caller that holds `t ≡ takenAt reader l at` and t's case learns of the fields and the numbers from that position on
 

@@ -4,12 +4,12 @@ use mathlib.Core.Path.{_≡_, refl, ap, _∙_}
 use mathlib.Core.Bool.{Bool, true, false, cond, _&&_}
 use mathlib.Core.List.{[], _∷_}
 use native.Mathlib.Omega.{arith}
-use borrow.Author.Tests.{eq-eqb, ne-eqb, ltb-true}
-use lib.Dec.{ltb}
+use borrow.Author.Tests.{eq-eqb, ne-eqb, lt-ltb, ltb-true, leb-true}
+use lib.Dec.{leb, ltb}
 use lib.ListN.{length, getD, drop}
 use Rattle.lists.specs.Parts.{Bytes}
 use Rattle.lists.specs.Tests.{all}
-use Rattle.lists.proofs.BoolLaws.{and-right}
+use Rattle.lists.proofs.BoolLaws.{and-left, and-right}
 use Rattle.text.specs.declared.Reader.{Reader}
 use Rattle.text.specs.declared.Reader.the-variants.{Transition, Witness}
 use Rattle.text.specs.declared.Number.{Number}
@@ -58,6 +58,19 @@ number-transition reader f r k e = rw k e
 
 pub number-witness : (reader : Reader) (f : Bytes) (r : Number) → reader ≡ Witness → r ≡ numberOf Witness f → r ≡ numberOf reader f
 number-witness reader f r k e = rw k e
+
+-- digits alone, and no longer number that begins with 0: both readers take them
+digits-plain : (f : Bytes) → 0 < length f → all isDigit f ≡ true → tenfold 0 f < 2 ^ 64 → digitsOf (unsigned f) ≡ Value (tenfold 0 f)
+digits-plain [] h d s = absurd (omega arith)
+digits-plain (b ∷ bs) h d s =
+    let low : 48 ≤ b = leb-true 48 b (and-left (leb 48 b) (leb b 57) (and-left (isDigit b) (all isDigit bs) d)) in
+    rw (ne-eqb b 43 (λ e. omega arith)) (rw (d, lt-ltb (tenfold 0 (b ∷ bs)) (2 ^ 64) s))
+
+pub number-plain : (reader : Reader) (f : Bytes) → longZero f ≡ false → 0 < length f → all isDigit f ≡ true → tenfold 0 f < 2 ^ 64
+    → numberOf reader f ≡ Value (tenfold 0 f)
+unfolding numberOf
+number-plain Transition f z h d s = digits-plain f h d s
+number-plain Witness f z h d s = rw z (digits-plain f h d s)
 
 -- ---- for callers, who never open `numberOf`
 

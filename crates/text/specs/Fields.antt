@@ -42,9 +42,13 @@ firstField l = headOf (fieldsOf l)
 abbrev pub aag : Bytes
 aag = 97 ∷ 97 ∷ 103 ∷ []
 
--- "The header word is compared with the three bytes of `aag`": a line's first field is that word
+-- "The header word is compared with the three bytes of `aag`"
+abbrev pub isHeaderWord : Bytes → Bool
+isHeaderWord f = sameBytes f aag
+
+-- a line's first field is that word
 abbrev pub hasHeaderWord : Bytes → Bool
-hasHeaderWord l = sameBytes (firstField l) aag
+hasHeaderWord l = isHeaderWord (firstField l)
 
 -- the field that begins at place a, where the line has one
 abbrev pub fieldFrom : Bytes → ℕ → Field

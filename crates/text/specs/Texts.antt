@@ -10,7 +10,7 @@ use Rattle.scan.specs.Allowed.{isAscii, isWitnessByte, endsIn10}
 use Rattle.text.specs.declared.Reader.{Reader}
 use Rattle.text.specs.declared.Reader.the-variants.{Transition, Witness}
 
--- a call reads with its limits; demand 3 reads a composition "with no limit on M or length"
+-- a call reads with its limits; demand 3 reads a composition "with no limit on M or length", all else as a call does
 pub data Limits : Type 0 where
   limited : Limits
   free : Limits

@@ -1,13 +1,16 @@
-// Numbers, lines and fields of a text of bytes: items 1 and 2 of 01, and the checks of reason 3.
+// Lines and fields of a text of bytes: item 2 of 01, and the checks of reason 3. The numbers of item 1 are in `numbers`.
 ghost use mathlib.Core.Path.{_≡_};
-ghost use Prim.Native.Nat.{_+_};
-ghost use lib.ListN.{drop};
-ghost use Rattle.text.specs.Numbers.{digitsAfter, digitsOf, unsigned, numberOf};
+ghost use mathlib.Core.Bool.{true};
+ghost use Prim.Native.Nat.{_+_, _<_};
+ghost use lib.ListN.{length, drop};
 ghost use Rattle.scan.specs.Spans.{span};
 ghost use Rattle.text.specs.Lines.{lineAt};
-ghost use Rattle.text.specs.Fields.{isBlank, inField, fieldAt, firstField, hasHeaderWord};
-ghost use Rattle.text.specs.Literals.{takenAt, literalAt};
+ghost use Rattle.text.specs.Fields.{isBlank, inField, fieldFrom, fieldAt, firstField, isHeaderWord, hasHeaderWord};
+ghost use Rattle.text.specs.Literals.{takenField, takenAt, literalAt};
+ghost use Rattle.text.specs.Inner.{IsRun};
 ghost use Rattle.text.specs.Texts.{limited, goodBytes, goodEnd, goodText};
+
+pub mod numbers;
 
 // Which of the two readers reads: they differ in the numbers and the texts that they take.
 pub enum Reader {
@@ -45,97 +48,16 @@ pub enum Taken {
     Missing,
 }
 
+// Where digits of a line end, and the number that they write.
+struct Run {
+    end: usize,
+    value: u64,
+}
+
 // The number of a line that has nothing else, and the place of the next line.
 pub enum Literal {
     Got { value: u64, next: Cursor },
     Refused { next: Cursor },
-}
-
-// A byte as a wider number.
-fn wide(x: u8) -> u64
-    ensures { λ r. ⌜ r ≡ x ⌝ }
-{
-    x as u64
-}
-
-// Where the digits of f may be read from as from a position: in a long field past the zeros in front.
-fn zeros_end(f: &[u8], at: usize) -> usize
-    ensures { λ r. ⌜ digitsAfter 0 (drop r (now (f .entry))) ≡ digitsAfter 0 (drop at (now (f .entry))) ⌝ }
-{
-    if f.len() <= 32 {
-        return at;
-    }
-    scan::run_end(f, at, 48, 48)
-}
-
-// The digits of f from a position on.
-fn digits(f: &[u8], at: usize) -> Number
-    ensures { λ r. ⌜ r ≡ digitsOf (drop at (now (f .entry))) ⌝ }
-{
-    if f.len() <= at {
-        return Number::Unreadable;
-    }
-    let mut v: u64 = 0;
-    let mut i = zeros_end(f, at);
-    while i < f.len() {
-        let b = f[i];
-        if b < 48 {
-            return Number::Unreadable;
-        }
-        if 57 < b {
-            return Number::Unreadable;
-        }
-        let d = wide(b) - 48;
-        if (18446744073709551615 - d) / 10 < v {
-            return Number::Unreadable;
-        }
-        v = v * 10 + d;
-        i += 1;
-    }
-    Number::Value(v)
-}
-
-// Where the digits of a field begin: one leading '+' is taken.
-fn sign_end(f: &[u8]) -> usize
-    ensures { λ r. ⌜ drop r (now (f .entry)) ≡ unsigned (now (f .entry)) ⌝ }
-{
-    if f.len() == 0 {
-        return 0;
-    }
-    if f[0] == 43 {
-        return 1;
-    }
-    0
-}
-
-// The transition reader's number.
-pub fn parse_usize(f: &[u8]) -> Number
-    ensures { λ r. ⌜ r ≡ numberOf Reader.Transition (now (f .entry)) ⌝ }
-{
-    digits(f, sign_end(f))
-}
-
-// The witness reader's number: a longer one does not begin with '0'.
-pub fn parse_number(f: &[u8]) -> Number
-    ensures { λ r. ⌜ r ≡ numberOf Reader.Witness (now (f .entry)) ⌝ }
-{
-    if f.len() < 2 {
-        return parse_usize(f);
-    }
-    if f[0] == 48 {
-        return Number::Unreadable;
-    }
-    parse_usize(f)
-}
-
-// The number that a field writes for a reader.
-pub fn parse_for(reader: Reader, f: &[u8]) -> Number
-    ensures { λ r. ⌜ r ≡ numberOf reader (now (f .entry)) ⌝ }
-{
-    match reader {
-        Reader::Transition => parse_usize(f),
-        Reader::Witness => parse_number(f),
-    }
 }
 
 // The line at a cursor, without its byte 10.
@@ -235,27 +157,88 @@ pub fn first_field(l: &[u8]) -> &[u8]
     &l[start..end]
 }
 
+// Whether a field is the header word.
+pub fn is_header_word(f: &[u8]) -> bool
+    ensures { λ r. ⌜ r ≡ isHeaderWord (now (f .entry)) ⌝ }
+{
+    scan::same(f, b"aag")
+}
+
 // Whether a line begins with the header word.
 pub fn has_header_word(l: &[u8]) -> bool
     ensures { λ r. ⌜ r ≡ hasHeaderWord (now (l .entry)) ⌝ }
 {
-    scan::same(first_field(l), b"aag")
+    is_header_word(first_field(l))
 }
 
-// The number of the next field at or after a position of a line.
-pub fn next_number(reader: Reader, l: &[u8], at: usize) -> Taken
-    ensures { λ r. ⌜ r ≡ takenAt reader (now (l .entry)) at ⌝ }
+// The number of the field that begins at a place of a line: the field's end first, and then its bytes.
+fn any_number(reader: Reader, l: &[u8], start: usize) -> Taken
+    requires { ⌜ start < length (now l) ⌝ }
+    ensures { λ r. ⌜ r ≡ takenField reader (now (l .entry)) (fieldFrom (now (l .entry)) start) ⌝ }
 {
-    let Field::At { start, end } = next_field(l, at) else {
-        return Taken::Missing;
-    };
-    let Number::Value(v) = parse_for(reader, &l[start..end]) else {
+    let end = field_end(l, start);
+    let Number::Value(v) = numbers::parse_for(reader, &l[start..end]) else {
         return Taken::Unreadable;
     };
     Taken::Got {
         value: v,
         next: end,
     }
+}
+
+// The digits from a place on, as long as their number leaves room for one more, and that number.
+fn digits_run(l: &[u8], at: usize) -> Run
+    ensures { λ r. ⌜ IsRun (now (l .entry)) at (r .end) (r .value) ⌝ }
+{
+    let mut v: u64 = 0;
+    let mut i = at;
+    while i < l.len() {
+        let b = l[i];
+        if b < 48 {
+            return Run { end: i, value: v };
+        }
+        if 57 < b {
+            return Run { end: i, value: v };
+        }
+        if 1000000000000000000 < v {
+            return Run { end: i, value: v };
+        }
+        v = v * 10 + (numbers::wide(b) - 48);
+        i += 1;
+    }
+    Run { end: i, value: v }
+}
+
+// Whether no field goes on at a place of a line.
+fn ends_field(l: &[u8], at: usize) -> bool
+    ensures { λ r. ⌜ (r ≡ true → at + span inField (drop at (now (l .entry))) ≡ at) ⌝ }
+{
+    if at < l.len() {
+        return is_blank(l[at]);
+    }
+    true
+}
+
+// The number of the next field at or after a position of a line. Most fields are short and plain digits, which are read while
+// their end is looked for. Zeros in front may be many, and the readers differ on them, so they are left to the longer way.
+pub fn next_number(reader: Reader, l: &[u8], at: usize) -> Taken
+    ensures { λ r. ⌜ r ≡ takenAt reader (now (l .entry)) at ⌝ }
+{
+    let start = blanks_end(l, at);
+    if l.len() <= start {
+        return Taken::Missing;
+    }
+    if l[start] == 48 {
+        return any_number(reader, l, start);
+    }
+    let run = digits_run(l, start);
+    if ends_field(l, run.end) {
+        return Taken::Got {
+            value: run.value,
+            next: run.end,
+        };
+    }
+    any_number(reader, l, start)
 }
 
 // The number of the line at a cursor, which has nothing else; the line is passed also when it is refused.

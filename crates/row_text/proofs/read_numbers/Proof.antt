@@ -5,10 +5,6 @@ use Rattle.row_text.proofs.PieceLaws.{Taking, taking-none, piece-within
 use borrow.Author.Needs.{needs}
 use Rattle.row_text.proofs.read_numbers.Statement.{statement}
 use Rattle.row_text.proofs.read_numbers.Tie as tie
-use Rattle.row_text.proofs.read_numbers.Reads as reads
-use Rattle.row_text.proofs.read_numbers.Lts as lts
-use Rattle.row_text.proofs.piece_end.Reads as piece-end-reads
-use Rattle.text.proofs.parse_usize.Reads as parse-usize-reads
 
 abbrev Inv-loop : tie.InvT-loop
 Inv-loop line numbers₀ count₀ at₀ numbers count at = Taking line numbers₀ numbers count at

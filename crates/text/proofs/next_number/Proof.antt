@@ -1,58 +1,50 @@
 use borrow.Author.Needs.{needs}
-use Rattle.text.proofs.LiteralLaws.{taken-missing, taken-unreadable, taken-got}
-use Rattle.text.proofs.FieldLaws.{field-ordered, field-within}
+use Rattle.text.proofs.PlainLaws.{taken-run}
+use Rattle.text.proofs.LiteralLaws.{taken-missing, taken-from}
 use Rattle.text.proofs.next_number.Statement.{statement}
 use Rattle.text.proofs.next_number.Tie as tie
 
-next-field-requires : tie.Need-next-field-requires
-next-field-requires c κs = search needs
-
-enum-known-start : tie.Need-enum-known-start
-enum-known-start c = search needs
-
-enum-told : tie.Need-enum-told
-enum-told c = search needs
+blanks-end-requires : tie.Need-blanks-end-requires
+blanks-end-requires c κs = search needs
 
 returns : tie.Need-returns
 returns c = search taken-missing
 
-sub-parse-for : tie.Need-sub-parse-for
-sub-parse-for c = search field-ordered
+shared-slice-read-if2 : tie.Need-shared-slice-read-if2
+shared-slice-read-if2 c = search needs
 
-part-parse-for-start : tie.Need-part-parse-for-start
-part-parse-for-start c = search field-ordered
-
-part-parse-for-end : tie.Need-part-parse-for-end
-part-parse-for-end c = search field-within
-
-parse-for-requires : tie.Need-parse-for-requires
-parse-for-requires c κs = search needs
-
-enum-known-v : tie.Need-enum-known-v
-enum-known-v c = search needs
-
-enum-told-2 : tie.Need-enum-told-2
-enum-told-2 c = search needs
+any-number-requires : tie.Need-any-number-requires
+any-number-requires c κs = search needs
 
 returns-2 : tie.Need-returns-2
-returns-2 c = search taken-unreadable
+returns-2 c = search taken-from
+
+digits-run-requires : tie.Need-digits-run-requires
+digits-run-requires c κs = search needs
+
+ends-field-requires : tie.Need-ends-field-requires
+ends-field-requires c κs = search needs
 
 returns-3 : tie.Need-returns-3
-returns-3 c = search taken-got
+returns-3 c = search taken-run
+
+any-number-requires-2 : tie.Need-any-number-requires-2
+any-number-requires-2 c κs = search needs
+
+returns-4 : tie.Need-returns-4
+returns-4 c = search taken-from
 
 pub next-number-spec : {M : Type 1} → statement M
 next-number-spec =
     tie.close
     (tie.spec
-    next-field-requires
-    enum-known-start
-    enum-told
+    blanks-end-requires
     returns
-    sub-parse-for
-    part-parse-for-start
-    part-parse-for-end
-    parse-for-requires
-    enum-known-v
-    enum-told-2
+    shared-slice-read-if2
+    any-number-requires
     returns-2
-    returns-3)
+    digits-run-requires
+    ends-field-requires
+    returns-3
+    any-number-requires-2
+    returns-4)

@@ -1,7 +1,7 @@
 use borrow.Author.Needs.{needs}
 use Rattle.text.proofs.NumberLaws.{sign-none, sign-plus, sign-plain}
-use Rattle.text.proofs.sign_end.Statement.{statement}
-use Rattle.text.proofs.sign_end.Tie as tie
+use Rattle.text.proofs.numbers.sign_end.Statement.{statement}
+use Rattle.text.proofs.numbers.sign_end.Tie as tie
 
 returns : tie.Need-returns
 returns c = search sign-none

@@ -1,7 +1,7 @@
 use borrow.Author.Needs.{needs}
 use Rattle.text.proofs.NumberLaws.{number-transition, number-witness}
-use Rattle.text.proofs.parse_for.Statement.{statement}
-use Rattle.text.proofs.parse_for.Tie as tie
+use Rattle.text.proofs.numbers.parse_for.Statement.{statement}
+use Rattle.text.proofs.numbers.parse_for.Tie as tie
 
 enum-told : tie.Need-enum-told
 enum-told c = search needs

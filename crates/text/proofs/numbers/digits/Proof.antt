@@ -4,8 +4,8 @@ use lib.ListN.{length, drop}
 use borrow.Author.Needs.{needs}
 use Rattle.text.proofs.DigitLaws.{at-low, at-high, at-over, at-end, at-digit, digits-start-at, digits-none}
 use Rattle.text.specs.Numbers.{digitsOf, digitsAfter}
-use Rattle.text.proofs.digits.Statement.{statement}
-use Rattle.text.proofs.digits.Tie as tie
+use Rattle.text.proofs.numbers.digits.Statement.{statement}
+use Rattle.text.proofs.numbers.digits.Tie as tie
 
 abbrev Inv-loop : tie.InvT-loop
 Inv-loop f at v₀ i₀ v i = (v < 2 ^ 64) × (digitsOf (drop at f) ≡ digitsAfter v (drop i f))

@@ -1,7 +1,7 @@
 use borrow.Author.Needs.{needs}
 use Rattle.text.proofs.NumberLaws.{number-short, number-zero, number-long}
-use Rattle.text.proofs.parse_number.Statement.{statement}
-use Rattle.text.proofs.parse_number.Tie as tie
+use Rattle.text.proofs.numbers.parse_number.Statement.{statement}
+use Rattle.text.proofs.numbers.parse_number.Tie as tie
 
 parse-usize-requires : tie.Need-parse-usize-requires
 parse-usize-requires c κs = search needs

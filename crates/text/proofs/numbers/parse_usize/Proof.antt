@@ -1,7 +1,7 @@
 use borrow.Author.Needs.{needs}
 use Rattle.text.proofs.NumberLaws.{usize-digits}
-use Rattle.text.proofs.parse_usize.Statement.{statement}
-use Rattle.text.proofs.parse_usize.Tie as tie
+use Rattle.text.proofs.numbers.parse_usize.Statement.{statement}
+use Rattle.text.proofs.numbers.parse_usize.Tie as tie
 
 sign-end-requires : tie.Need-sign-end-requires
 sign-end-requires c κs = search needs

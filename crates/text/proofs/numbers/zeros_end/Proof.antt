@@ -1,7 +1,7 @@
 use borrow.Author.Needs.{needs}
 use Rattle.text.proofs.DigitLaws.{zeros-passed}
-use Rattle.text.proofs.zeros_end.Statement.{statement}
-use Rattle.text.proofs.zeros_end.Tie as tie
+use Rattle.text.proofs.numbers.zeros_end.Statement.{statement}
+use Rattle.text.proofs.numbers.zeros_end.Tie as tie
 
 returns : tie.Need-returns
 returns c = search needs
