@@ -4,13 +4,10 @@ use mathlib.Core.List.{List, [], _∷_, map}
 use mathlib.Core.Path.{_≡_, refl}
 use Rattle.lists.specs.Answer.{got, refused}
 use Rattle.lists.specs.Parts.{Bytes}
-use Rattle.text.specs.Lines.{linesOf}
 use Rattle.text.specs.Numbers.{numberOf}
-use Rattle.aiger.specs.Gates.{gateFrom}
-use Rattle.aiger.specs.Sections.{section}
 use Rattle.model.specs.declared.AigerLatch.{AigerLatch}
-use Rattle.model_text.specs.Header.{countsFrom, headerOf, headerLine}
-use Rattle.model_text.specs.ModelLines.{literalLine, initializer, latchLine, gateLine}
+use Rattle.model_text.specs.Header.{countsFrom, headerOf}
+use Rattle.model_text.specs.ModelLines.{initializer, latchLine}
 
 -- ---- headers
 
@@ -18,7 +15,7 @@ use Rattle.model_text.specs.ModelLines.{literalLine, initializer, latchL
 abbrev pub header-k : Bytes
 header-k = 97 ∷ 97 ∷ 103 ∷ 32 ∷ 51 ∷ 32 ∷ 49 ∷ 32 ∷ 49 ∷ 32 ∷ 49 ∷ 32 ∷ 49 ∷ []
 
-pub counts-k : headerLine header-k ≡ got (countsFrom (3 ∷ 1 ∷ 1 ∷ 1 ∷ 1 ∷ []))
+pub counts-k : headerOf (header-k ∷ []) ≡ got (countsFrom (3 ∷ 1 ∷ 1 ∷ 1 ∷ 1 ∷ []))
 unfolding numberOf
 counts-k = refl
 
@@ -62,41 +59,7 @@ pub latches-refused : map latchLine ([] ∷ (52 ∷ []) ∷ (52 ∷ 32 ∷ 54 �
 unfolding numberOf
 latches-refused = refl
 
--- ---- literals and gates
-
--- `6 4 2`, with blanks around and byte 13 at its end too
-pub gates-taken : map gateLine ((54 ∷ 32 ∷ 52 ∷ 32 ∷ 50 ∷ []) ∷ (32 ∷ 54 ∷ 9 ∷ 52 ∷ 32 ∷ 32 ∷ 50 ∷ 13 ∷ []) ∷ []) ≡ got (gateFrom 6 4 2) ∷ got (gateFrom 6 4 2) ∷ []
+-- zeros in front are taken in every place: `04 06 00004`
+pub zeros-in-front : latchLine (48 ∷ 52 ∷ 32 ∷ 48 ∷ 54 ∷ 32 ∷ 48 ∷ 48 ∷ 48 ∷ 48 ∷ 52 ∷ []) ≡ got latch-k
 unfolding numberOf
-gates-taken = refl
-
--- `6 4`, `6 4 2 0`, `6 4 x`
-pub gates-refused : map gateLine ((54 ∷ 32 ∷ 52 ∷ []) ∷ (54 ∷ 32 ∷ 52 ∷ 32 ∷ 50 ∷ 32 ∷ 48 ∷ []) ∷ (54 ∷ 32 ∷ 52 ∷ 32 ∷ 120 ∷ []) ∷ [])
-    ≡ refused 8 ∷ refused 8 ∷ refused 8 ∷ []
-unfolding numberOf
-gates-refused = refl
-
--- a section of the two lines `2` and `4`, a line after it, and a line that is missing
-pub section-taken : section literalLine 2 (linesOf (50 ∷ 10 ∷ 52 ∷ 10 ∷ 54 ∷ [])) ≡ got (record { items = 2 ∷ 4 ∷ []; rest = (54 ∷ []) ∷ [] })
-unfolding numberOf
-section-taken = refl
-
-pub section-missing : section literalLine 2 (linesOf (50 ∷ 10 ∷ [])) ≡ refused 8
-unfolding numberOf
-section-missing = refl
-
--- `07` and `+7` are 7; the empty line, `7 7` and `x` are refused
-pub literals-read : map literalLine ((48 ∷ 55 ∷ []) ∷ (43 ∷ 55 ∷ []) ∷ [] ∷ (55 ∷ 32 ∷ 55 ∷ []) ∷ (120 ∷ []) ∷ []) ≡ got 7 ∷ got 7 ∷ refused 8 ∷ refused 8 ∷ refused 8 ∷ []
-unfolding numberOf
-literals-read = refl
-
--- zeros in front are taken in every place: `04 06 00004`, `06 04 02`
-pub zeros-in-front :
-    (latchLine (48 ∷ 52 ∷ 32 ∷ 48 ∷ 54 ∷ 32 ∷ 48 ∷ 48 ∷ 48 ∷ 48 ∷ 52 ∷ []) ≡ got latch-k)
-    × (gateLine (48 ∷ 54 ∷ 32 ∷ 48 ∷ 52 ∷ 32 ∷ 48 ∷ 50 ∷ []) ≡ got (gateFrom 6 4 2))
-unfolding numberOf
-zeros-in-front = (refl, refl)
-
--- the empty line and `6` are no gates
-pub gates-short : map gateLine ([] ∷ (54 ∷ []) ∷ []) ≡ refused 8 ∷ refused 8 ∷ []
-unfolding numberOf
-gates-short = refl
+zeros-in-front = refl

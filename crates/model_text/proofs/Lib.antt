@@ -1,7 +1,4 @@
--- What is proved of the functions that take the header and the section lines.
-pub mod NumbersLaws
-pub mod PlaceLaws
-pub mod GateLaws
+-- What is proved of the functions that take the header and the latch lines.
 pub mod LatchLaws
 pub mod HeaderLaws
 pub mod StoringLaws

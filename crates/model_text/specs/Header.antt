@@ -1,14 +1,13 @@
 -- The header of a transition text (01, item 5; reason 4).
 use Prim.Native.Nat.{ℕ}
-use mathlib.Core.List.{List, [], _∷_}
+use mathlib.Core.List.{List}
 use mathlib.Core.Option.{Option, some, none}
 use lib.Dec.{eqb}
-use lib.ListN.{length, getD, drop}
+use lib.ListN.{length, getD}
 use Rattle.lists.specs.Answer.{Answer, got, refused, unless}
 use Rattle.lists.specs.Parts.{Bytes}
 use Rattle.text.specs.declared.Reader.the-variants.{Transition}
-use Rattle.text.specs.Fields.{fieldsOf, hasHeaderWord}
-use Rattle.text.specs.Literals.{numbersOf}
+use Rattle.sections.specs.SectionLines.{firstNumbers}
 use Rattle.model.specs.declared.Counts.{Counts}
 
 -- the counts M I L O A in their order
@@ -27,11 +26,6 @@ abbrev pub fiveCounts : Option (List ℕ) → Answer Counts
 fiveCounts none = refused 4
 fiveCounts (some ns) = unless 4 (eqb (length ns) 5) (got (countsFrom ns))
 
--- the counts of a line whose first field is `aag`
-abbrev pub headerLine : Bytes → Answer Counts
-headerLine l = unless 4 (hasHeaderWord l) (fiveCounts (numbersOf Transition (drop 1 (fieldsOf l))))
-
 -- 4: "The first line is not `aag` and as many readable numbers as that reader takes"; so where there is no line
 abbrev pub headerOf : List Bytes → Answer Counts
-headerOf [] = refused 4
-headerOf (l ∷ ls) = headerLine l
+headerOf ls = fiveCounts (firstNumbers Transition ls)

@@ -1,8 +1,7 @@
--- The lines of a transition text's sections (01, item 5). A line is refused with 8 where it "has too few or too many fields, an unreadable number or a bad initializer".
+-- The latch lines of a transition text (01, item 5). A line is refused with 8 where it "has too few or too many fields, an unreadable number or a bad initializer".
 use Prim.Native.Nat.{ℕ}
 use mathlib.Core.Bool.{Bool, false, _||_}
 use mathlib.Core.List.{List, [], _∷_}
-use mathlib.Core.Option.{Option, some, none}
 use lib.Dec.{eqb}
 use Rattle.lists.specs.Answer.{Answer, got, refused, unless, andThen}
 use Rattle.lists.specs.Parts.{Bytes}
@@ -12,19 +11,8 @@ use Rattle.text.specs.declared.Number.the-variants.{Value, Unreadable}
 use Rattle.text.specs.declared.Reader.the-variants.{Transition}
 use Rattle.text.specs.Numbers.{numberOf}
 use Rattle.text.specs.Fields.{fieldsOf}
-use Rattle.text.specs.Literals.{numbersOf, literalOf}
-use Rattle.aiger.specs.declared.Gate.{Gate}
-use Rattle.aiger.specs.Gates.{gateFrom}
 use Rattle.model.specs.declared.AigerLatch.{AigerLatch}
-
--- a number that is readable
-abbrev pub readable : Number → Answer ℕ
-readable (Value v) = got v
-readable Unreadable = refused 8
-
--- an input or an output: one number
-abbrev pub literalLine : Bytes → Answer ℕ
-literalLine l = readable (literalOf Transition l)
+use Rattle.sections.specs.SectionLines.{readable}
 
 -- the number is n
 abbrev pub isNumber : Number → ℕ → Bool
@@ -49,15 +37,3 @@ latchFields (c ∷ n ∷ i ∷ f ∷ fs) = refused 8
 
 abbrev pub latchLine : Bytes → Answer AigerLatch
 latchLine l = latchFields (fieldsOf l)
-
--- a gate: three numbers
-abbrev pub gateNumbers : Option (List ℕ) → Answer Gate
-gateNumbers none = refused 8
-gateNumbers (some []) = refused 8
-gateNumbers (some (o ∷ [])) = refused 8
-gateNumbers (some (o ∷ a ∷ [])) = refused 8
-gateNumbers (some (o ∷ a ∷ b ∷ [])) = got (gateFrom o a b)
-gateNumbers (some (o ∷ a ∷ b ∷ n ∷ ns)) = refused 8
-
-abbrev pub gateLine : Bytes → Answer Gate
-gateLine l = gateNumbers (numbersOf Transition (fieldsOf l))

@@ -1,38 +1,25 @@
-// The header and the section lines of a transition text (item 5 of 01).
+// The header and the latch lines of a transition text (item 5 of 01). Its other lines are those of `sections`.
 ghost use mathlib.Core.Path.{_≡_};
 ghost use Prim.Native.Nat.{_≤_};
-ghost use lib.ListN.{length, drop};
+ghost use lib.ListN.{drop};
 ghost use Rattle.text.specs.Fields.{fieldsOf};
-ghost use Rattle.text.specs.Literals.{numbersOf};
-ghost use Rattle.model_text.specs.Header.{countsFrom, headerLine};
-ghost use Rattle.model_text.specs.ModelLines.{literalLine, initializer, latchLine, gateLine};
-ghost use Rattle.model_text.specs.Places.{Takes, TakesGate, TakesLatch, TakesLatches, headerAt};
-ghost use Rattle.model_text.specs.Inner.{exactly, stored, countsAnswer, gateAnswer, latchAnswer, initializers};
-use aiger::Gate;
+ghost use Rattle.model_text.specs.Header.{countsFrom};
+ghost use Rattle.model_text.specs.ModelLines.{initializer, latchLine};
+ghost use Rattle.model_text.specs.Places.{TakesCounts, TakesLatch, TakesLatches};
+ghost use Rattle.model_text.specs.Inner.{latchAnswer, initializers};
 use model::AigerLatch;
 use model::Counts;
+use sections::Place;
 use text::Cursor;
 use text::Field;
 use text::Line;
-use text::Literal;
 use text::Number;
 use text::Reader;
 use text::Taken;
 
-// The place after a section, or that a line of it is missing or bad.
-pub enum Place {
-    At(Cursor),
-    Bad,
-}
-
 pub enum Header {
     Got { counts: Counts, next: Cursor },
     Refused,
-}
-
-pub enum TakenGate {
-    Got { gate: Gate, next: Cursor },
-    Bad,
 }
 
 pub enum TakenLatch {
@@ -47,43 +34,9 @@ pub struct TakenLatches {
 }
 
 // What one line has.
-enum ReadCounts {
-    Got(Counts),
-    Refused,
-}
-
-enum ReadGate {
-    Got(Gate),
-    Bad,
-}
-
 enum ReadLatch {
     Got(AigerLatch),
     Bad,
-}
-
-// Whether the fields of a line from a place on are as many readable numbers as `out` is long; they are stored there.
-fn take_numbers(l: &[u8], at: usize, out: &mut [u64]) -> bool
-    ensures { λ r. ⌜ stored r (now (out .exit)) ≡ exactly (length (now (out .entry))) (numbersOf Reader.Transition (fieldsOf (drop at (now (l .entry))))) ⌝ }
-{
-    let mut i = 0;
-    let mut p = at;
-    while i < out.len() {
-        let taken = text::next_number(Reader::Transition, l, p);
-        match taken {
-            Taken::Got { value, next } => {
-                out[i] = value;
-                p = next;
-                i += 1;
-            }
-            Taken::Unreadable => return false,
-            Taken::Missing => return false,
-        }
-    }
-    let Field::None = text::next_field(l, p) else {
-        return false;
-    };
-    true
 }
 
 fn counts_of(ns: [u64; 5]) -> Counts
@@ -98,66 +51,25 @@ fn counts_of(ns: [u64; 5]) -> Counts
     }
 }
 
-// The counts of a line that begins with the header word.
-fn header_line(l: &[u8]) -> ReadCounts
-    ensures { λ r. ⌜ countsAnswer r ≡ headerLine (now (l .entry)) ⌝ }
-{
-    if text::has_header_word(l) {
-        let Field::At { start, end } = text::next_field(l, 0) else {
-            return ReadCounts::Refused;
-        };
-        let mut ns: [u64; 5] = [0; 5];
-        if take_numbers(l, end, &mut ns) {
-            return ReadCounts::Got(counts_of(ns));
-        }
-    }
-    ReadCounts::Refused
-}
-
-// The header of a text: its first line.
+// The counts of a text's header, its first line.
 pub fn take_header(s: &[u8]) -> Header
-    ensures { λ r. ⌜ r ≡ headerAt (now (s .entry)) ⌝ }
+    ensures { λ r. ⌜ TakesCounts (now (s .entry)) r ⌝ }
 {
-    let Line::At { start, end, next } = text::next_line(s, Cursor { at: 0 }) else {
+    let mut ns: [u64; 5] = [0; 5];
+    let sections::Header::Got { count, next } = sections::take_header(
+        Reader::Transition,
+        s,
+        &mut ns,
+    ) else {
         return Header::Refused;
     };
-    let ReadCounts::Got(counts) = header_line(&s[start..end]) else {
-        return Header::Refused;
-    };
-    Header::Got {
-        counts: counts,
-        next: next,
+    if count == 5 {
+        return Header::Got {
+            counts: counts_of(ns),
+            next: next,
+        };
     }
-}
-
-fn gate_line(l: &[u8]) -> ReadGate
-    ensures { λ r. ⌜ gateAnswer r ≡ gateLine (now (l .entry)) ⌝ }
-{
-    let mut ns: [u64; 3] = [0; 3];
-    if take_numbers(l, 0, &mut ns) {
-        return ReadGate::Got(Gate {
-            output: ns[0],
-            left: ns[1],
-            right: ns[2],
-        });
-    }
-    ReadGate::Bad
-}
-
-// The gate of the line at a cursor.
-pub fn take_gate(s: &[u8], c: Cursor) -> TakenGate
-    ensures { λ r. ⌜ TakesGate (now (s .entry)) c r ⌝ }
-{
-    let Line::At { start, end, next } = text::next_line(s, c) else {
-        return TakenGate::Bad;
-    };
-    let ReadGate::Got(gate) = gate_line(&s[start..end]) else {
-        return TakenGate::Bad;
-    };
-    TakenGate::Got {
-        gate: gate,
-        next: next,
-    }
+    Header::Refused
 }
 
 // Whether a field is an initializer of the latch with this literal.
@@ -170,7 +82,7 @@ fn initializer_holds(f: &[u8], current: u64) -> bool
     if scan::same(f, b"1") {
         return true;
     }
-    let Number::Value(v) = text::parse_usize(f) else {
+    let Number::Value(v) = text::numbers::parse_usize(f) else {
         return false;
     };
     v == current
@@ -274,21 +186,4 @@ pub fn take_latches(s: &[u8], c: Cursor, n: usize) -> TakenLatches
         place: Place::At(p),
         latches: latches,
     }
-}
-
-// One number from each of the lines from a cursor on, as many as `out` is long.
-pub fn take_literals(s: &[u8], c: Cursor, out: &mut [u64]) -> Place
-    ensures { λ r. ⌜ Takes literalLine (now (s .entry)) c (length (now (out .entry))) r (now (out .exit)) ⌝ }
-{
-    let mut p = c;
-    let mut i = 0;
-    while i < out.len() {
-        let Literal::Got { value, next } = text::take_literal(Reader::Transition, s, p) else {
-            return Place::Bad;
-        };
-        out[i] = value;
-        p = next;
-        i += 1;
-    }
-    Place::At(p)
 }

@@ -18,7 +18,7 @@ use Rattle.model.specs.Checked.{countsOf}
 use Rattle.model.specs.Marking.{Marking, AddsLeaves, leavesFrom, literalsFrom}
 use Rattle.model.proofs.MarkingLaws.{marking-none}
 use Rattle.model.proofs.CheckedLaws.{defined-fails, literals-left}
-use Rattle.model_text.specs.Places.{linesFrom}
+use Rattle.sections.specs.Places.{linesFrom}
 use Rattle.transition.specs.declared.GateCheck.{GateCheck}
 use Rattle.transition.specs.Passes.{verdictOf, Found, ChecksGates, withGates, gatesOf}
 use Rattle.transition.specs.declared.GateCheck.the-variants as check

@@ -13,6 +13,7 @@ use Rattle.lists.specs.Words.{wordsOf}
 use Rattle.lists.proofs.AnswerLaws.{got-same, unless-got, andThen-got, andThen-assoc, andThen-same}
 use Rattle.lists.proofs.ZeroLaws.{zeros-length, zeros-kept}
 use Rattle.text.specs.declared.Cursor.{Cursor}
+use Rattle.text.specs.Lines.{linesOf}
 use Rattle.text.specs.declared.Reader.the-variants.{Transition}
 use Rattle.text.specs.Texts.{limited, goodText}
 use Rattle.aiger.specs.declared.Gate.{Gate}
@@ -26,15 +27,17 @@ use Rattle.model.specs.declared.Verdict.the-variants.{Valid, Refused}
 use Rattle.model.specs.Circuit.{Circuit, circuitOf, recordOf, noCircuit, noLatch}
 use Rattle.model.specs.Limits.{counted, wellDefined}
 use Rattle.model_text.specs.declared.Header.{Header}
-use Rattle.model_text.specs.declared.Place.{Place}
-use Rattle.model_text.specs.ModelLines.{literalLine, latchLine, gateLine}
-use Rattle.model_text.specs.Places.{linesFrom, headerAt}
-use Rattle.model_text.proofs.HeaderLaws.{header-counts, header-refused}
+use Rattle.sections.specs.declared.Place.{Place}
+use Rattle.sections.specs.SectionLines.{literalLine, gateLine}
+use Rattle.model_text.specs.ModelLines.{latchLine}
+use Rattle.sections.specs.Places.{linesFrom}
+use Rattle.model_text.specs.Header.{headerOf}
+use Rattle.model_text.specs.Places.{Headed, TakesCounts}
 use Rattle.transition.specs.declared.ReadTransition.{ReadTransition}
 use Rattle.transition.specs.Reading.{sectionsOf, modelOf, bodyOf, readTransition, readOf, gatesAfter, Reads}
 use Rattle.transition.specs.Passes.{verdictOf, Started, startOf, withGates, recordWith, Starts, TakesStart, Writes, gatesOf, Readable}
 use Rattle.model_text.specs.declared.Header.the-variants as header
-use Rattle.model_text.specs.declared.Place.the-variants as place
+use Rattle.sections.specs.declared.Place.the-variants as place
 
 -- a refusal's number beside a record of zeros
 pub refused-with : (reason : ℕ) (m : AigerTransition) → m ≡ recordOf noCircuit → record { verdict = Refused reason; model = m } ≡ readOf (refused reason)
@@ -44,21 +47,21 @@ refused-with reason m e = rw e refl
 
 -- what follows a model without its gates
 abbrev gatesThen : Counts → Started → Answer Circuit
-gatesThen n t = andThen (section gateLine (n .ands) (t .rest)) (λ gates. got (withGates (t .circuit) (gates .items)))
+gatesThen n t = andThen (section (gateLine Transition) (n .ands) (t .rest)) (λ gates. got (withGates (t .circuit) (gates .items)))
 
 sections-split : (n : Counts) (ls : List Bytes) → andThen (startOf n ls) (gatesThen n) ≡ sectionsOf n ls
 sections-split n ls =
-    andThen-assoc (section literalLine (n .inputs) ls) _ (gatesThen n)
-    ∙ andThen-same (section literalLine (n .inputs) ls) _ _ (λ inputs.
+    andThen-assoc (section (literalLine Transition) (n .inputs) ls) _ (gatesThen n)
+    ∙ andThen-same (section (literalLine Transition) (n .inputs) ls) _ _ (λ inputs.
     andThen-assoc (section latchLine (n .latches) (inputs .rest)) _ (gatesThen n)
     ∙ andThen-same (section latchLine (n .latches) (inputs .rest)) _ _ (λ latches.
-    andThen-assoc (section literalLine (n .outputs) (latches .rest)) _ (gatesThen n)))
+    andThen-assoc (section (literalLine Transition) (n .outputs) (latches .rest)) _ (gatesThen n)))
 
 model-split : (n : Counts) (ls : List Bytes) → modelOf n ls ≡ andThen (startOf n ls) (λ t. gatesOf (t .circuit) (n .ands) (t .rest))
 model-split n ls =
     ap (λ (x : Answer Circuit). andThen x (λ c. unless 11 (wellDefined c) (got c))) (sym (sections-split n ls))
     ∙ andThen-assoc (startOf n ls) (gatesThen n) _
-    ∙ andThen-same (startOf n ls) _ _ (λ t. andThen-assoc (section gateLine (n .ands) (t .rest)) _ _)
+    ∙ andThen-same (startOf n ls) _ _ (λ t. andThen-assoc (section (gateLine Transition) (n .ands) (t .rest)) _ _)
 
 -- ---- the model
 
@@ -83,13 +86,13 @@ verdict-refused (refused j) k e = let q : k ≡ j = cc in rw q refl
 pub record Gated (c : Circuit) (n : ℕ) (ls : List Bytes) (d : Circuit) : Type 0 where
   pub gates : List Gate
   pub rest : List Bytes
-  pub takes : section gateLine n ls ≡ got (record { items = gates; rest = rest })
+  pub takes : section (gateLine Transition) n ls ≡ got (record { items = gates; rest = rest })
   pub is : d ≡ withGates c gates
 
 gates-got : (c : Circuit) (n : ℕ) (ls : List Bytes) (d : Circuit) → gatesOf c n ls ≡ got d → Gated c n ls d
-gates-got c n ls d e = from (andThen-got (section gateLine n ls) (λ gates. unless 11 (wellDefined (withGates c (gates .items))) (got (withGates c (gates .items)))) d e)
+gates-got c n ls d e = from (andThen-got (section (gateLine Transition) n ls) (λ gates. unless 11 (wellDefined (withGates c (gates .items))) (got (withGates c (gates .items)))) d e)
   where
-    from : (g : Section Gate) × (section gateLine n ls ≡ got g) × (unless 11 (wellDefined (withGates c (g .items))) (got (withGates c (g .items))) ≡ got d) → Gated c n ls d
+    from : (g : Section Gate) × (section (gateLine Transition) n ls ≡ got g) × (unless 11 (wellDefined (withGates c (g .items))) (got (withGates c (g .items))) ≡ got d) → Gated c n ls d
     from (g, q, t) =
         record {
           gates = g .items;
@@ -138,7 +141,7 @@ module _ (s : Bytes) (c : Cursor) (n : Counts) (g w : List ℕ) (k : Readable n 
       model-accepted u w' l z y g' x =
           let d = verdict-valid answer (sym u ∙ verdict-is) in
           let a = gates-got (starts .circuit) (n .ands) (linesFrom s e) (d .0) (sym answer-is ∙ d .1) in
-          let b : length (a .gates) ≡ n .ands = section-length gateLine (n .ands) (linesFrom s e) (a .gates) (a .rest) (a .takes) in
+          let b : length (a .gates) ≡ n .ands = section-length (gateLine Transition) (n .ands) (linesFrom s e) (a .gates) (a .rest) (a .takes) in
           let y' : m ≡ recordWith (starts .circuit) (length (a .gates)) = starts .model ∙ ap (recordWith (starts .circuit)) (sym b) in
           accepts answer (starts .circuit) (d .0) (a .gates) (d .1) (a .is) g g' w' (length w) (zeros-kept w' l (length w) z y) v m u y' (x (a .gates) (a .rest) (a .takes))
 
@@ -178,16 +181,16 @@ module _ (s : Bytes) (g : List ℕ) (w : ℕ) (b : Bool) (q : b ≡ goodText lim
   unfolding readTransition
   text-refused t w' z r x = refuses text 3 (rw (← q, not-true b t) refl) g w' w z r x
 
-  module _ (t : not b ≡ false) (h : Header) (k : h ≡ headerAt s) where
+  module _ (t : not b ≡ false) (h : Header) (k : TakesCounts s h) where
     pub header-bad : h ≡ header.Refused → (w' : List ℕ) → w' ≡ zeros w → (r : ReadTransition) → r ≡ readOf (refused 4) → Reads text g w r g w'
     unfolding readTransition
-    header-bad e w' z r x = refuses text 4 (rw (← q, not-false b t, header-refused s h k e) refl) g w' w z r x
+    header-bad e w' z r x = let f : headerOf (linesOf s) ≡ refused 4 = rw e at k in refuses text 4 (rw (← q, not-false b t, f) refl) g w' w z r x
 
     pub header-read : (n : Counts) (c : Cursor) → h ≡ header.Got n c → (w₁ : List ℕ) → w₁ ≡ zeros w → (r : ReadTransition) (g' w' : List ℕ)
         → Reads (bodyOf (length g) (length w₁) (linesFrom s c) n) g (length w₁) r g' w' → Reads text g w r g' w'
     unfolding readTransition
     header-read n c e w₁ z r g' w' x =
-        let f = header-counts s h k n c e in
+        let f : Headed s n c = rw e at k in
         let y : length w₁ ≡ w = ap length z ∙ zeros-length w in
         let a : readTransition s (length g) w ≡ bodyOf (length g) w (linesFrom s c) n = rw (← q, not-false b t, f .counts, f .rest) refl in
         rw (a, ← y) x

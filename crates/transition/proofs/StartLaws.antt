@@ -8,6 +8,7 @@ use lib.Seq.{length-take-le}
 use Rattle.lists.specs.Answer.{Answer, refused}
 use Rattle.lists.specs.Parts.{Bytes, front, zeros}
 use Rattle.lists.proofs.ZeroLaws.{zeros-length}
+use Rattle.text.specs.declared.Reader.the-variants.{Transition}
 use Rattle.text.specs.declared.Cursor.{Cursor}
 use Rattle.aiger.proofs.SectionLaws.{section-length}
 use Rattle.model.specs.declared.AigerTransition.{AigerTransition}
@@ -16,12 +17,14 @@ use Rattle.model.specs.declared.AigerLatch.{AigerLatch}
 use Rattle.model.specs.Circuit.{recordFrom, Circuit, noLatch}
 use Rattle.model.specs.Limits.{counted}
 use Rattle.model.proofs.CountLaws.{counted-facts}
-use Rattle.model_text.specs.declared.Place.{Place}
+use Rattle.sections.specs.declared.Place.{Place}
 use Rattle.model_text.specs.declared.TakenLatches.{TakenLatches}
-use Rattle.model_text.specs.ModelLines.{literalLine, latchLine}
-use Rattle.model_text.specs.Places.{linesFrom, Takes, TakesLatches}
+use Rattle.sections.specs.SectionLines.{literalLine}
+use Rattle.model_text.specs.ModelLines.{latchLine}
+use Rattle.sections.specs.Places.{linesFrom, Takes}
+use Rattle.model_text.specs.Places.{TakesLatches}
 use Rattle.transition.specs.Passes.{TakesLiterals, startOf, recordWith, TakesStart}
-use Rattle.model_text.specs.declared.Place.the-variants as place
+use Rattle.sections.specs.declared.Place.the-variants as place
 
 -- the part of an array of zeros that is lent is as long as the section
 pub lent-length : (size n : ℕ) → n ≤ size → n ≡ length (take n (zeros size))
@@ -29,7 +32,7 @@ lent-length size n h = sym (length-take-le n (zeros size) (rw (zeros-length size
 
 -- the array after it was lent
 pub taken-literals : (size : ℕ) (s : Bytes) (c : Cursor) (n : ℕ) (p : Place) (o : List ℕ) → n ≤ size → length o ≡ length (take n (zeros size))
-    → Takes literalLine s c (length (take n (zeros size))) p o → TakesLiterals size s c n p (o ++ drop n (zeros size))
+    → Takes (literalLine Transition) s c (length (take n (zeros size))) p o → TakesLiterals size s c n p (o ++ drop n (zeros size))
 taken-literals size s c n p o h e t =
     let k : length (take n (zeros size)) ≡ n = sym (lent-length size n h) in
     record {
@@ -53,13 +56,13 @@ record-is n is os ls inputs outputs latches a b d li ll lo = rw (a, b, d, li, ll
 
 module _ (s : Bytes) (c : Cursor) (n : Counts) (k : counted n ≡ true) (place₁ : Place) (inputs : List ℕ) (a : TakesLiterals 64 s c (n .inputs) place₁ inputs) where
   inputs-bad : place₁ ≡ place.Bad → startOf n (linesFrom s c) ≡ refused 8
-  inputs-bad e = let f : Takes literalLine s c (n .inputs) place.Bad (a .items) = rw e at (a .takes) in rw f refl
+  inputs-bad e = let f : Takes (literalLine Transition) s c (n .inputs) place.Bad (a .items) = rw e at (a .takes) in rw f refl
 
   pub head-without-inputs : place₁ ≡ place.Bad → (m : AigerTransition) (p : Place) → p ≡ place.Bad → TakesStart s c n m p
   head-without-inputs e m p q = rw q (inputs-bad e)
 
   module _ (c₁ : Cursor) (e : place₁ ≡ place.At c₁) (las : TakenLatches) (b : n .latches ≤ 8 → TakesLatches s c₁ (n .latches) las) where
-    inputs-taken : Takes literalLine s c (n .inputs) (place.At c₁) (a .items)
+    inputs-taken : Takes (literalLine Transition) s c (n .inputs) (place.At c₁) (a .items)
     inputs-taken = rw e at (a .takes)
 
     latches-of : TakesLatches s c₁ (n .latches) las
@@ -82,10 +85,10 @@ module _ (s : Bytes) (c : Cursor) (n : Counts) (k : counted n ≡ true) (place�
 
       model-is : (c₃ : Cursor) → place₃ ≡ place.At c₃ → model ≡ recordWith circuit (n .ands)
       model-is c₃ g =
-          let o : Takes literalLine s c₂ (n .outputs) (place.At c₃) (d .items) = rw g at (d .takes) in
-          let li : length (a .items) ≡ n .inputs = section-length literalLine (n .inputs) (linesFrom s c) (a .items) (linesFrom s c₁) inputs-taken in
+          let o : Takes (literalLine Transition) s c₂ (n .outputs) (place.At c₃) (d .items) = rw g at (d .takes) in
+          let li : length (a .items) ≡ n .inputs = section-length (literalLine Transition) (n .inputs) (linesFrom s c) (a .items) (linesFrom s c₁) inputs-taken in
           let ll : length (latches-of .items) ≡ n .latches = section-length latchLine (n .latches) (linesFrom s c₁) (latches-of .items) (linesFrom s c₂) latches-taken in
-          let lo : length (d .items) ≡ n .outputs = section-length literalLine (n .outputs) (linesFrom s c₂) (d .items) (linesFrom s c₃) o in
+          let lo : length (d .items) ≡ n .outputs = section-length (literalLine Transition) (n .outputs) (linesFrom s c₂) (d .items) (linesFrom s c₃) o in
           record-is n (a .items) (d .items) (latches-of .items) inputs outputs (las .latches) (a .stored) (latches-of .stored) (d .stored) li ll lo
 
       pub head-taken : TakesStart s c n model place₃
@@ -93,10 +96,10 @@ module _ (s : Bytes) (c : Cursor) (n : Counts) (k : counted n ≡ true) (place�
         where
           go : (p : Place) → place₃ ≡ p → TakesStart s c n model p
           go (place.At c₃) g =
-              let o : Takes literalLine s c₂ (n .outputs) (place.At c₃) (d .items) = rw g at (d .takes) in
+              let o : Takes (literalLine Transition) s c₂ (n .outputs) (place.At c₃) (d .items) = rw g at (d .takes) in
               record { circuit = circuit; variables = refl; takes = rw (inputs-taken, latches-taken, o) refl; model = model-is c₃ g }
           go place.Bad g =
-              let o : Takes literalLine s c₂ (n .outputs) place.Bad (d .items) = rw g at (d .takes) in
+              let o : Takes (literalLine Transition) s c₂ (n .outputs) place.Bad (d .items) = rw g at (d .takes) in
               rw (inputs-taken, latches-taken, o) refl
 
 -- ---- what the arrays have room for

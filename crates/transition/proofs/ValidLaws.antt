@@ -28,7 +28,8 @@ use Rattle.model.specs.Checked.{checked, countsOf}
 use Rattle.model.proofs.CountLaws.{counted-facts}
 use Rattle.model.proofs.ValueLaws.{Sound, Fixes, sound-fixes}
 use Rattle.model_text.specs.Header.{headerOf}
-use Rattle.model_text.specs.ModelLines.{literalLine, latchLine, gateLine}
+use Rattle.sections.specs.SectionLines.{literalLine, gateLine}
+use Rattle.model_text.specs.ModelLines.{latchLine}
 use Rattle.transition.specs.Reading.{sectionsOf, modelOf, bodyOf, readTransition, gatesAfter}
 
 -- the sections have as many items as the header says
@@ -41,17 +42,17 @@ pub record AsCounted (n : Counts) (c : Circuit) : Type 0 where
 
 sections-counted : (n : Counts) (c : Circuit) (ls : List Bytes) → sectionsOf n ls ≡ got c → AsCounted n c
 sections-counted n c ls e =
-    let a = andThen-got (section literalLine (n .inputs) ls) _ c e in
+    let a = andThen-got (section (literalLine Transition) (n .inputs) ls) _ c e in
     let b = andThen-got (section latchLine (n .latches) (a .0 .rest)) _ c (a .2) in
-    let d = andThen-got (section literalLine (n .outputs) (b .0 .rest)) _ c (b .2) in
-    let f = andThen-got (section gateLine (n .ands) (d .0 .rest)) _ c (d .2) in
+    let d = andThen-got (section (literalLine Transition) (n .outputs) (b .0 .rest)) _ c (b .2) in
+    let f = andThen-got (section (gateLine Transition) (n .ands) (d .0 .rest)) _ c (d .2) in
     rw (← got-same _ c (f .2))
     (record {
       variables = refl;
-      inputs = section-length literalLine (n .inputs) ls (a .0 .items) (a .0 .rest) (a .1);
+      inputs = section-length (literalLine Transition) (n .inputs) ls (a .0 .items) (a .0 .rest) (a .1);
       latches = section-length latchLine (n .latches) (a .0 .rest) (b .0 .items) (b .0 .rest) (b .1);
-      outputs = section-length literalLine (n .outputs) (b .0 .rest) (d .0 .items) (d .0 .rest) (d .1);
-      gates = section-length gateLine (n .ands) (d .0 .rest) (f .0 .items) (f .0 .rest) (f .1);
+      outputs = section-length (literalLine Transition) (n .outputs) (b .0 .rest) (d .0 .items) (d .0 .rest) (d .1);
+      gates = section-length (gateLine Transition) (n .ands) (d .0 .rest) (f .0 .items) (f .0 .rest) (f .1);
     })
 
 -- what was tested of an accepted text, with g gate words and w work words

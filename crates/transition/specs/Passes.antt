@@ -7,6 +7,7 @@ use lib.ListN.{length}
 use Rattle.lists.specs.Answer.{Answer, got, refused, unless, andThen}
 use Rattle.lists.specs.Parts.{Bytes, front, zeros}
 use Rattle.lists.specs.Words.{wordsOf}
+use Rattle.text.specs.declared.Reader.the-variants.{Transition}
 use Rattle.text.specs.declared.Cursor.{Cursor}
 use Rattle.aiger.specs.declared.Gate.{Gate}
 use Rattle.aiger.specs.Gates.{gateWords}
@@ -19,11 +20,12 @@ use Rattle.model.specs.declared.Verdict.the-variants.{Valid, Refused}
 use Rattle.model.specs.Circuit.{Circuit, recordOf}
 use Rattle.model.specs.Limits.{counted, wellDefined}
 use Rattle.model.specs.Marking.{Marking}
-use Rattle.model_text.specs.declared.Place.{Place}
-use Rattle.model_text.specs.ModelLines.{literalLine, latchLine, gateLine}
-use Rattle.model_text.specs.Places.{linesFrom, Takes}
+use Rattle.sections.specs.declared.Place.{Place}
+use Rattle.sections.specs.SectionLines.{literalLine, gateLine}
+use Rattle.model_text.specs.ModelLines.{latchLine}
+use Rattle.sections.specs.Places.{linesFrom, Takes}
 use Rattle.transition.specs.declared.GateCheck.{GateCheck}
-use Rattle.model_text.specs.declared.Place.the-variants as place
+use Rattle.sections.specs.declared.Place.the-variants as place
 use Rattle.transition.specs.declared.GateCheck.the-variants as check
 
 -- ---- inputs, latches and outputs
@@ -32,7 +34,7 @@ use Rattle.transition.specs.declared.GateCheck.the-variants as check
 pub record TakesLiterals (size : ℕ) (s : Bytes) (c : Cursor) (n : ℕ) (p : Place) (array : List ℕ) : Type 0 where
   pub items : List ℕ
   pub stored : array ≡ front (zeros size) items
-  pub takes : Takes literalLine s c n p items
+  pub takes : Takes (literalLine Transition) s c n p items
 
 -- a model whose gates are still to come, and the lines after its outputs
 pub record Started : Type 0 where
@@ -45,9 +47,9 @@ withGates c gates = record { variables = c .variables; inputs = c .inputs; latch
 -- the first three sections
 abbrev pub startOf : Counts → List Bytes → Answer Started
 startOf n ls =
-    andThen (section literalLine (n .inputs) ls) (λ inputs.
+    andThen (section (literalLine Transition) (n .inputs) ls) (λ inputs.
     andThen (section latchLine (n .latches) (inputs .rest)) (λ latches.
-    andThen (section literalLine (n .outputs) (latches .rest)) (λ outputs.
+    andThen (section (literalLine Transition) (n .outputs) (latches .rest)) (λ outputs.
     got (record {
       circuit = record { variables = n .«max_variable»; inputs = inputs .items; latches = latches .items; outputs = outputs .items; gates = [] };
       rest = outputs .rest;
@@ -88,20 +90,20 @@ AddsNext most work fine g work' r = (leaves : List ℕ) (gates : List Gate) → 
 pub record Found (s : Bytes) (c : Cursor) (n most : ℕ) (fine : Bool) (work : List ℕ) (f : Bool) : Type 0 where
   pub gates : List Gate
   pub rest : List Bytes
-  pub takes : section gateLine n (linesFrom s c) ≡ got (record { items = gates; rest = rest })
+  pub takes : section (gateLine Transition) n (linesFrom s c) ≡ got (record { items = gates; rest = rest })
   pub says : (leaves : List ℕ) → Marking most work leaves [] fine → f ≡ defined most leaves gates
 
 abbrev pub ChecksGates : Bytes → Cursor → ℕ → ℕ → Bool → List ℕ → GateCheck → Type 0
 ChecksGates s c n most fine work (check.Done f) = Found s c n most fine work f
-ChecksGates s c n most fine work check.Bad = section gateLine n (linesFrom s c) ≡ refused 8
+ChecksGates s c n most fine work check.Bad = section (gateLine Transition) n (linesFrom s c) ≡ refused 8
 
 -- the gates of a section that is good stand in front of the words
 abbrev pub Writes : Bytes → Cursor → ℕ → List ℕ → List ℕ → Type 0
-Writes s c n o o' = (gates : List Gate) (rest : List Bytes) → section gateLine n (linesFrom s c) ≡ got (record { items = gates; rest = rest }) → o' ≡ front o (wordsOf gateWords gates)
+Writes s c n o o' = (gates : List Gate) (rest : List Bytes) → section (gateLine Transition) n (linesFrom s c) ≡ got (record { items = gates; rest = rest }) → o' ≡ front o (wordsOf gateWords gates)
 
 -- the gates of a model, and whether it is well defined
 abbrev pub gatesOf : Circuit → ℕ → List Bytes → Answer Circuit
-gatesOf c n ls = andThen (section gateLine n ls) (λ gates. unless 11 (wellDefined (withGates c (gates .items))) (got (withGates c (gates .items))))
+gatesOf c n ls = andThen (section (gateLine Transition) n ls) (λ gates. unless 11 (wellDefined (withGates c (gates .items))) (got (withGates c (gates .items))))
 
 -- the verdict that an answer gives
 abbrev pub verdictOf : Answer Circuit → Verdict

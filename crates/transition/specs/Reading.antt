@@ -16,15 +16,16 @@ use Rattle.model.specs.Circuit.{Circuit, recordOf, wordsOfGates, noCircuit}
 use Rattle.model.specs.Limits.{counted, wellDefined}
 use Rattle.transition.specs.declared.ReadTransition.{ReadTransition}
 use Rattle.model_text.specs.Header.{headerOf}
-use Rattle.model_text.specs.ModelLines.{literalLine, latchLine, gateLine}
+use Rattle.sections.specs.SectionLines.{literalLine, gateLine}
+use Rattle.model_text.specs.ModelLines.{latchLine}
 
 -- 8: the sections of so many lines, in the order of the file. "All lines after the gates are ignored."
 abbrev pub sectionsOf : Counts → List Bytes → Answer Circuit
 sectionsOf n ls =
-    andThen (section literalLine (n .inputs) ls) (λ inputs.
+    andThen (section (literalLine Transition) (n .inputs) ls) (λ inputs.
     andThen (section latchLine (n .latches) (inputs .rest)) (λ latches.
-    andThen (section literalLine (n .outputs) (latches .rest)) (λ outputs.
-    andThen (section gateLine (n .ands) (outputs .rest)) (λ gates.
+    andThen (section (literalLine Transition) (n .outputs) (latches .rest)) (λ outputs.
+    andThen (section (gateLine Transition) (n .ands) (outputs .rest)) (λ gates.
     got (record {
       variables = n .«max_variable»;
       inputs = inputs .items;

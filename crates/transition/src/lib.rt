@@ -8,7 +8,7 @@ ghost use Rattle.lists.specs.Parts.{zeros};
 ghost use mathlib.Core.List.{[]};
 ghost use Rattle.model.specs.Circuit.{circuitOf, recordOf, noCircuit};
 ghost use Rattle.model.specs.Limits.{counted};
-ghost use Rattle.model_text.specs.Places.{linesFrom};
+ghost use Rattle.sections.specs.Places.{linesFrom};
 ghost use Rattle.transition.specs.Reading.{modelOf, bodyOf, readTransition, readOf, Reads};
 ghost use Rattle.transition.specs.Passes.{TakesStart, TakesLiterals, AddsNext, ChecksGates, Writes, gatesOf, verdictOf, Readable};
 use aiger::Gate;
@@ -17,8 +17,8 @@ use model::AigerTransition;
 use model::Counts;
 use model::Verdict;
 use model_text::Header;
-use model_text::Place;
-use model_text::TakenGate;
+use sections::Place;
+use sections::TakenGate;
 use text::Cursor;
 use text::Reader;
 
@@ -76,7 +76,7 @@ fn check_gates(
     let mut good = fine;
     let mut i = 0;
     while i < n {
-        let taken = model_text::take_gate(s, p);
+        let taken = sections::take_gate(Reader::Transition, s, p);
         match taken {
             TakenGate::Got { gate, next } => {
                 good = define_next(work, most, good, gate);
@@ -97,7 +97,7 @@ fn write_gates(s: &[u8], c: Cursor, n: usize, gates: &mut [u64])
     let mut p = c;
     let mut i = 0;
     while i < n {
-        let taken = model_text::take_gate(s, p);
+        let taken = sections::take_gate(Reader::Transition, s, p);
         match taken {
             TakenGate::Got { gate, next } => {
                 gates[3 * i] = gate.output;
@@ -117,7 +117,7 @@ fn take_inputs(s: &[u8], c: Cursor, n: usize) -> TakenInputs
     ensures { λ r. ⌜ TakesLiterals 64 (now (s .entry)) c n (r .place) (r .inputs) ⌝ }
 {
     let mut inputs = [0; 64];
-    let place = model_text::take_literals(s, c, &mut inputs[..n]);
+    let place = sections::take_literals(Reader::Transition, s, c, &mut inputs[..n]);
     TakenInputs {
         place: place,
         inputs: inputs,
@@ -130,7 +130,7 @@ fn take_outputs(s: &[u8], c: Cursor, n: usize) -> TakenOutputs
     ensures { λ r. ⌜ TakesLiterals 128 (now (s .entry)) c n (r .place) (r .outputs) ⌝ }
 {
     let mut outputs = [0; 128];
-    let place = model_text::take_literals(s, c, &mut outputs[..n]);
+    let place = sections::take_literals(Reader::Transition, s, c, &mut outputs[..n]);
     TakenOutputs {
         place: place,
         outputs: outputs,

@@ -13,7 +13,7 @@ take-literals-requires : tie.Need-take-literals-requires
 take-literals-requires c κs = search needs
 
 returns : tie.Need-returns
-returns c = taken-literals 128 _ _ _ _ _ (c .before .before .before .before .pre) (c .before .take-literals .kept .1 .1 .0) (c .before .take-literals .ensures)
+returns c = taken-literals 128 _ _ _ _ _ (c .before .before .before .before .pre) (c .before .take-literals .kept .1 .1 .1 .0) (c .before .take-literals .ensures)
 
 pub take-outputs-spec : {M : Type 1} → statement M
 take-outputs-spec =

@@ -1,8 +1,8 @@
 use borrow.Author.Needs.{needs}
-use Rattle.model_text.proofs.GateLaws.{gate-missing, gate-bad, gate-got}
+use Rattle.sections.proofs.GateLaws.{gate-missing, gate-bad, gate-got}
 use Rattle.text.proofs.LineLaws.{line-ordered, line-within}
-use Rattle.model_text.proofs.take_gate.Statement.{statement}
-use Rattle.model_text.proofs.take_gate.Tie as tie
+use Rattle.sections.proofs.take_gate.Statement.{statement}
+use Rattle.sections.proofs.take_gate.Tie as tie
 
 next-line-requires : tie.Need-next-line-requires
 next-line-requires c κs = search needs

@@ -1,15 +1,15 @@
 use Prim.Native.Nat.{_-_}
 use lib.ListN.{length}
 use borrow.Author.Needs.{needs}
-use Rattle.model_text.proofs.NumbersLaws.{Numbering, numbering-none, numbering-more, numbering-unreadable, numbering-missing, numbering-over, numbering-done}
-use Rattle.model_text.proofs.take_numbers.Statement.{statement}
-use Rattle.model_text.proofs.take_numbers.Tie as tie
+use Rattle.sections.proofs.NumbersLaws.{Numbering, numbering-none, numbering-more, numbering-unreadable, numbering-missing, numbering-over, numbering-done}
+use Rattle.sections.proofs.take_numbers.Statement.{statement}
+use Rattle.sections.proofs.take_numbers.Tie as tie
 
 abbrev Inv-loop : tie.InvT-loop
-Inv-loop l at out₀ i₀ p₀ out i p = Numbering l at out₀ out i p
+Inv-loop reader l at out₀ i₀ p₀ out i p = Numbering reader l at out₀ out i p
 
 abbrev μ-loop : tie.MeasureT-loop
-μ-loop l at out₀ i₀ p₀ out i p = length out₀ - i
+μ-loop reader l at out₀ i₀ p₀ out i p = length out₀ - i
 
 loop-holds : tie.Need-loop-holds Inv-loop μ-loop
 loop-holds c = search numbering-none

@@ -1,15 +1,15 @@
 use Prim.Native.Nat.{_-_}
 use lib.ListN.{length}
 use borrow.Author.Needs.{needs}
-use Rattle.model_text.proofs.StoringLaws.{Literals, literals-none, literals-more, literals-bad, literals-done}
-use Rattle.model_text.proofs.take_literals.Statement.{statement}
-use Rattle.model_text.proofs.take_literals.Tie as tie
+use Rattle.sections.proofs.LiteralLaws.{Literals, literals-none, literals-more, literals-bad, literals-done}
+use Rattle.sections.proofs.take_literals.Statement.{statement}
+use Rattle.sections.proofs.take_literals.Tie as tie
 
 abbrev Inv-loop : tie.InvT-loop
-Inv-loop s out₀ p₀ i₀ out p i = Literals s p₀ out₀ out i p
+Inv-loop reader s out₀ p₀ i₀ out p i = Literals reader s p₀ out₀ out i p
 
 abbrev μ-loop : tie.MeasureT-loop
-μ-loop s out₀ p₀ i₀ out p i = length out₀ - i
+μ-loop reader s out₀ p₀ i₀ out p i = length out₀ - i
 
 loop-holds : tie.Need-loop-holds Inv-loop μ-loop
 loop-holds c = search literals-none
