@@ -1,0 +1,3 @@
+-- The sections of an accepted witness text as words in lent memory.
+pub mod Loaded
+pub mod Loading
