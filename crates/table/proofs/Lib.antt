@@ -1,0 +1,2 @@
+-- 01's table, as one.
+pub mod Table

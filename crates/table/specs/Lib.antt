@@ -1,0 +1,1 @@
+-- No definitions of its own: the table speaks of those of the crates below.
