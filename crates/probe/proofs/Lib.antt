@@ -1,3 +1,4 @@
 -- Laws of the flat answers.
 pub mod FlatLaws
 pub mod MadeLaws
+pub mod LoadLaws

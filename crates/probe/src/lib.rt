@@ -13,6 +13,7 @@ ghost use Rattle.probe.specs.Flat.{readerOf, flatNumber, flatLiteral, fl
 
 mod models;
 mod obligations;
+mod witnesses;
 
 use decimal::Written;
 use text::Cursor;
@@ -77,7 +78,7 @@ fn flat_number(n: Number) -> ProbeNumber
 pub extern "C" fn probe_parse(witness: bool, f: &[u8]) -> ProbeNumber
     ensures { λ r. ⌜ r ≡ flatNumber (numberOf (readerOf witness) (now (f .entry))) ⌝ }
 {
-    flat_number(text::parse_for(reader_of(witness), f))
+    flat_number(text::numbers::parse_for(reader_of(witness), f))
 }
 
 fn flat_literal(l: Literal) -> ProbeLiteral
