@@ -5,6 +5,7 @@ mod lent;
 pub mod model;
 pub mod obligation;
 pub mod text;
+pub mod witness;
 
 use crate::ours;
 use crate::random::Random;

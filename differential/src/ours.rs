@@ -2,6 +2,7 @@
 
 pub mod model;
 pub mod obligation;
+pub mod witness;
 
 use crate::subject::Subject;
 

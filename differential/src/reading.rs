@@ -4,6 +4,7 @@
 pub mod meaning;
 pub mod model;
 pub mod obligation;
+pub mod witness;
 
 use crate::subject::{Part, Rule, Taken, Written};
 

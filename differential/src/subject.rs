@@ -3,6 +3,7 @@
 
 pub mod model;
 pub mod obligation;
+pub mod witness;
 
 /// Which reader's number rule holds.
 #[derive(Clone, Copy, Debug, Eq, PartialEq)]

@@ -13,6 +13,65 @@ const LINES: [u8; 11] = [b'0', b'1', b'9', b'+', b' ', 9, 10, 11, 13, 28, b'a'];
 /// The smallest one, for longer texts of lines. All its bytes are in `LINES`.
 const FEW: [u8; 6] = [b'0', b'1', b'+', b' ', 10, 13];
 
+/// Numbers far from a small circuit's: 2^64 + 2 wraps to 2, and 2^65 + 4 to 4.
+const WILD_NUMBERS: [&str; 14] = [
+    "8",
+    "9",
+    "4294967298",
+    "9223372036854775807",
+    "9223372036854775808",
+    "18446744073709551614",
+    "18446744073709551615",
+    "18446744073709551616",
+    "18446744073709551618",
+    "36893488147419103236",
+    "02",
+    "000000000000000000000000000000000000000002",
+    "+0000000000000000000004",
+    "-2",
+];
+
+/// Calls `each` with a circuit's text in which one digit after the header is a wild number.
+pub fn wild_literals(whole: &[u8], mut each: impl FnMut(&[u8])) {
+    let whole = std::str::from_utf8(whole).expect("ASCII");
+    for (place, _) in whole.match_indices(|byte: char| byte.is_ascii_digit()) {
+        // The header's counts are tried elsewhere.
+        if whole[..place].contains('\n') {
+            for number in WILD_NUMBERS {
+                each(
+                    [&whole[..place], number, &whole[place + 1..]]
+                        .concat()
+                        .as_bytes(),
+                );
+            }
+        }
+    }
+}
+
+/// Calls `each` with a text with each byte inserted and put in at each place, cut off before and
+/// after each place, and with each byte left out.
+pub fn each_byte(whole: &[u8], mut each: impl FnMut(&[u8])) {
+    for place in 0..=whole.len() {
+        for byte in 0..=255 {
+            let mut longer = whole.to_vec();
+            longer.insert(place, byte);
+            each(&longer);
+            if place < whole.len() {
+                let mut changed = whole.to_vec();
+                changed[place] = byte;
+                each(&changed);
+            }
+        }
+        each(&whole[..place]);
+        each(&whole[place..]);
+        if place < whole.len() {
+            let mut shorter = whole.to_vec();
+            shorter.remove(place);
+            each(&shorter);
+        }
+    }
+}
+
 /// Calls `each` with all texts over an alphabet of at most so many bytes.
 pub fn all_texts(alphabet: &[u8], longest: usize, each: impl FnMut(&[u8])) {
     all_lists(alphabet, longest, each);
@@ -59,6 +118,21 @@ pub fn all_line_texts(mut each: impl FnMut(&[u8])) {
             each(text);
         }
     });
+}
+
+/// The form with the digits of a number, in a base of at most 10, in the places of `#`.
+pub fn filled(form: &str, number: u64, base: u64) -> String {
+    let mut rest = number;
+    form.chars()
+        .map(|byte| match byte {
+            '#' => {
+                let digit = (b'0' + (rest % base) as u8) as char;
+                rest /= base;
+                digit
+            }
+            other => other,
+        })
+        .collect()
 }
 
 /// The text as a `str`, where it is one that the published readers can meet.

@@ -136,12 +136,12 @@ pub fn arrange(random: &mut Random, variables: &mut [u64], order: Order) {
     }
 }
 
-fn literal_up_to(random: &mut Random, highest: u64) -> u64 {
+pub fn literal_up_to(random: &mut Random, highest: u64) -> u64 {
     random.below(highest as usize + 1) as u64
 }
 
 /// An operand of the gate with this variable: a literal below 2 x variable.
-fn operand(random: &mut Random, variable: u64, operands: Operands) -> u64 {
+pub fn operand(random: &mut Random, variable: u64, operands: Operands) -> u64 {
     let any = literal_up_to(random, 2 * variable - 1);
     match operands {
         Operands::Any => any,

@@ -2,7 +2,7 @@
 
 use super::check::{Lent, read};
 use super::{Group, K, Q, Run};
-use crate::compare::inputs::all_texts;
+use crate::compare::inputs::{self, all_texts, filled};
 
 pub const HEADERS: Group = Group {
     name: "read: headers of all telling fields",
@@ -101,7 +101,9 @@ fn bodies(run: &mut Run) {
 
 /// Every number of a small circuit's lines at every value from 0 to past 2M + 1, and two gates in all orders.
 fn literals(run: &mut Run) {
-    wild_literals(run);
+    for whole in [K, Q] {
+        inputs::wild_literals(whole, |text| check(run, text));
+    }
     const SHAPES: [(&str, usize, u64); 5] = [
         ("aag 1 0 1 1 0\n# #\n#\n", 3, 6),
         ("aag 2 1 1 1 0\n#\n# #\n#\n", 4, 8),
@@ -124,71 +126,9 @@ fn literals(run: &mut Run) {
     }
 }
 
-/// Each number of K and Q, after their headers, at values far from the others: 2^64 + 2 wraps to 2,
-/// and 2^65 + 4 to 4.
-fn wild_literals(run: &mut Run) {
-    const NUMBERS: [&str; 12] = [
-        "8",
-        "4294967298",
-        "9223372036854775807",
-        "9223372036854775808",
-        "18446744073709551614",
-        "18446744073709551615",
-        "18446744073709551616",
-        "18446744073709551618",
-        "36893488147419103236",
-        "000000000000000000000000000000000000000002",
-        "+0000000000000000000004",
-        "-2",
-    ];
-    for text in [K, Q] {
-        let text = std::str::from_utf8(text).expect("ASCII");
-        let places = text.match_indices(|byte: char| byte.is_ascii_digit());
-        for (place, _) in places.skip_while(|&(place, _)| !text[..place].contains('\n')) {
-            for number in NUMBERS {
-                let changed = [&text[..place], number, &text[place + 1..]].concat();
-                check(run, changed.as_bytes());
-            }
-        }
-    }
-}
-
-/// The form with the digits of a number, in a base of at most 10, in the places of `#`.
-fn filled(form: &str, number: u64, base: u64) -> String {
-    let mut rest = number;
-    form.chars()
-        .map(|byte| match byte {
-            '#' => {
-                let digit = (b'0' + (rest % base) as u8) as char;
-                rest /= base;
-                digit
-            }
-            other => other,
-        })
-        .collect()
-}
-
 fn each_byte(run: &mut Run) {
     let ended = b"aag 1 0 1 0 0\n2 2 2\nc\nx\n";
-    for text in [K, Q, ended] {
-        for place in 0..=text.len() {
-            for byte in 0..=255 {
-                let mut longer = text.to_vec();
-                longer.insert(place, byte);
-                check(run, &longer);
-                if place < text.len() {
-                    let mut changed = text.to_vec();
-                    changed[place] = byte;
-                    check(run, &changed);
-                }
-            }
-            check(run, &text[..place]);
-            check(run, &text[place..]);
-            if place < text.len() {
-                let mut shorter = text.to_vec();
-                shorter.remove(place);
-                check(run, &shorter);
-            }
-        }
+    for whole in [K, Q, ended] {
+        inputs::each_byte(whole, |text| check(run, text));
     }
 }
