@@ -14,6 +14,10 @@ mod stepping;
 mod table;
 #[cfg(published)]
 mod texts;
+#[cfg(published)]
+mod witness_texts;
+#[cfg(published)]
+mod witnesses;
 
 #[cfg(published)]
 fn main() {
@@ -22,6 +26,7 @@ fn main() {
     reading::measure(&table);
     stepping::measure(&table);
     obligations::measure(&table);
+    witnesses::measure(&table);
 }
 
 #[cfg(not(published))]

@@ -59,7 +59,8 @@ fn padded() -> Vec<Text> {
     texts
 }
 
-fn filled(start: &str, fill: u8, end: &str) -> Vec<u8> {
+/// A text of the greatest length: a part, one byte over and over, and an end.
+pub fn filled(start: &str, fill: u8, end: &str) -> Vec<u8> {
     let mut text = start.as_bytes().to_vec();
     text.resize(LONGEST_TEXT - end.len(), fill);
     text.extend(end.bytes());
@@ -83,7 +84,7 @@ fn refused(reason: u64, size: usize, last: fn(&Circuit) -> Vec<u64>) -> Text {
     }
 }
 
-fn text(name: impl Into<String>, make: impl Fn() -> Vec<u8> + 'static) -> Text {
+pub fn text(name: impl Into<String>, make: impl Fn() -> Vec<u8> + 'static) -> Text {
     Text {
         name: name.into(),
         make: Box::new(make),
