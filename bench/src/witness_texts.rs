@@ -10,7 +10,7 @@ use differential::reading::LONGEST_TEXT;
 
 /// How many variables the circuits have. With more, mostly gates, a text would be too long.
 const SIZES: [usize; 4] = [100, 1_000, 30_000, 900_000];
-const NAMES: [usize; 3] = [1_000, 100_000, 1_000_000];
+const NAMES: [usize; 5] = [10, 1_000, 30_000, 100_000, 1_000_000];
 /// How many bytes of comments there are.
 const COMMENTS: [usize; 3] = [10_000, 1_000_000, 16_000_000];
 
@@ -180,8 +180,10 @@ fn refused() -> Vec<Text> {
         }
     }
     for count in NAMES {
-        let make = move || (named(count, Order::Any) + "i0 x\n").into();
-        texts.push(refusal(9, format!("{count} names"), make));
+        for (order, word) in ORDERS {
+            let make = move || (named(count, order) + "i0 x\n").into();
+            texts.push(refusal(9, format!("{count} names {word}"), make));
+        }
     }
     for size in COMMENTS {
         let make = move || {

@@ -1,14 +1,16 @@
 -- What `member` and `distinct` say of each element, and lists without repeats taken apart.
-use Prim.Native.Nat.{ℕ}
+use Prim.Native.Nat.{ℕ, _≤_, _<_}
 use mathlib.Core.Bool.{Bool, true, false, not, _||_}
 use mathlib.Core.List.{List, [], _∷_, _++_}
 use mathlib.Core.Path.{_≡_, refl, sym, _∙_}
+use native.Mathlib.Omega.{arith}
 use lib.Dec.{eqb}
 use borrow.Author.Tests.{eqb-true, eqb-false, ne-eqb, not-true}
 use Rattle.lists.specs.Tests.{Each}
 use Rattle.lists.specs.Sets.{member, distinct}
+use Rattle.lists.proofs.TestLaws.{each-so}
 use Rattle.lists.proofs.BoolLaws.{true-false, and-left, and-right, or-left, or-right}
-use Rattle.lists.proofs.OnceLaws.{member-append}
+use Rattle.lists.proofs.OnceLaws.{member-append, distinct-snoc}
 
 pub each-member : (P : ℕ → Type 0) (x : ℕ) (l : List ℕ) → Each P l → member x l ≡ true → P x
 each-member P x [] e h = true-false h refl
@@ -73,3 +75,8 @@ apart-swap xs (y ∷ ys) e = (not-member y xs (heads xs e), apart-swap xs ys (ta
     tails : (l : List ℕ) → Each (λ x. member x (y ∷ ys) ≡ false) l → Each (λ x. member x ys ≡ false) l
     tails [] f = tt
     tails (x ∷ l) f = (member-rest x y ys (f .0), tails l (f .1))
+
+-- a number above all others repeats none of them
+pub distinct-above : (k x : ℕ) (xs : List ℕ) → Each (λ y. y < k) xs → k ≤ x → distinct xs ≡ true → distinct (xs ++ x ∷ []) ≡ true
+distinct-above k x xs e h d =
+    distinct-snoc xs x ∙ rw (d, not-member x xs (each-so (λ y. y < k) (λ y. x ≡ y → ⊥) (λ y b q. omega arith) xs e))

@@ -4,6 +4,7 @@ pub mod NumberedLaws
 pub mod BodyLaws
 pub mod SymbolSetLaws
 pub mod TailLaws
+pub mod RisingLaws
 pub mod CommentLaws
 pub mod AcceptedLaws
 pub mod ReadLaws

@@ -102,7 +102,7 @@ module _ (n : AagCounts) where
   slots-once (s ∷ ss) b = once-step (s .kind) (s .index) ss (b .1) (b .0) (slots-once ss (b .1))
 
 -- an i or l that the first part names twice is named twice
-indices-append : (is : Kind → Bool) (xs ys : List Symbol) → indicesOf is (xs ++ ys) ≡ indicesOf is xs ++ indicesOf is ys
+pub indices-append : (is : Kind → Bool) (xs ys : List Symbol) → indicesOf is (xs ++ ys) ≡ indicesOf is xs ++ indicesOf is ys
 indices-append is [] ys = refl
 indices-append is (x ∷ xs) ys = go (is (x .kind)) (indices-append is xs ys)
   where

@@ -1,7 +1,7 @@
 -- For the contracts of the reader's inner functions: what each of its passes over the lines says of the definitions.
-use Prim.Native.Nat.{ℕ, _+_, _*_, _≤_}
-use mathlib.Core.Bool.{Bool, true, not, _&&_}
-use mathlib.Core.List.{List}
+use Prim.Native.Nat.{ℕ, _+_, _-_, _*_, _≤_, _<_}
+use mathlib.Core.Bool.{Bool, true, false, not, _&&_}
+use mathlib.Core.List.{List, [], _∷_}
 use mathlib.Core.Path.{_≡_}
 use lib.ListN.{length}
 use Rattle.lists.specs.Answer.{Answer, got, refused, andThen}
@@ -19,12 +19,14 @@ use Rattle.witness_text.specs.declared.Kind.{Kind}
 use Rattle.witness_text.specs.declared.Kind.the-variants as kind
 use Rattle.witness_text.specs.declared.Latch.{Latch}
 use Rattle.witness_text.specs.LatchLines.{latchLine}
-use Rattle.witness_text.specs.Symbols.{Symbol}
+use Rattle.witness_text.specs.Symbols.{endsSymbols, Symbol, symbolOf}
 use Rattle.witness.specs.declared.Checked.{Checked}
 use Rattle.witness.specs.declared.Checked.the-variants as checked
+use Rattle.witness.specs.declared.NextSymbol.{NextSymbol}
+use Rattle.witness.specs.declared.NextSymbol.the-variants as next
 use Rattle.witness.specs.declared.Symbols.{Symbols}
 use Rattle.witness.specs.declared.Symbols.the-variants as symbols
-use Rattle.witness.specs.Names.{symbolsOf}
+use Rattle.witness.specs.Names.{tailOf, symbolsOf}
 use Rattle.witness.specs.Order.{bodyOf, defines, latchNumbered, wellNumbered}
 
 module _ {A : Type 0} (item : Bytes → Answer A) (test : List A → Bool) (s : Bytes) (c : Cursor) (n : ℕ) where
@@ -91,6 +93,33 @@ ChecksProperties s c n r = ChecksAll (propertiesOf n) (λ d. d .rest) (propertie
 
 abbrev pub ChecksBody : Bytes → Cursor → AagCounts → Checked → Type 0
 ChecksBody s c n r = ChecksAll (bodyOf n) (λ d. d .rest) (wellNumbered n) s c r
+
+module _ (s : Bytes) (p : Cursor) (n : AagCounts) where
+  -- the line at the cursor p is a symbol line, and the lines after it begin at the cursor e
+  pub record TakenSymbol (kd : Kind) (index : ℕ) (e : Cursor) : Type 0 where
+    pub line : Bytes
+    pub name : Bytes
+    pub lines : linesFrom s p ≡ line ∷ linesFrom s e
+    pub goes : endsSymbols line ≡ false
+    pub is : symbolOf n line ≡ got (record { kind = kd; index = index; name = name })
+    pub less : length s - e .at < length s - p .at
+
+  -- the line at the cursor p is refused with k
+  pub record BadSymbol (k : ℕ) : Type 0 where
+    pub line : Bytes
+    pub rest : List Bytes
+    pub lines : linesFrom s p ≡ line ∷ rest
+    pub goes : endsSymbols line ≡ false
+    pub is : symbolOf n line ≡ refused k
+
+  -- how the symbols end at the cursor p: there is none, and the comments begin at the cursor e, or a line is refused
+  abbrev pub EndsSymbols : Symbols → Type 0
+  EndsSymbols (symbols.Done e) = tailOf n (linesFrom s p) ≡ got (record { symbols = []; comments = linesFrom s e })
+  EndsSymbols (symbols.Refused k) = BadSymbol k
+
+  abbrev pub TakesSymbol : NextSymbol → Type 0
+  TakesSymbol (next.Named kd index e) = TakenSymbol kd index e
+  TakesSymbol (next.End r) = EndsSymbols r
 
 module _ (s : Bytes) (c : Cursor) (n : AagCounts) where
   -- the symbols were taken, and the comments begin at the cursor e

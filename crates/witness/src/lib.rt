@@ -13,6 +13,7 @@ use text::Cursor;
 use text::Reader;
 use witness_text::AagCounts;
 use witness_text::Header;
+use witness_text::Kind;
 
 // The counts of a text that is accepted, or the number of the reason.
 pub enum ReadAag {
@@ -30,6 +31,16 @@ pub enum Checked {
 pub enum Symbols {
     Done(Cursor),
     Refused(u64),
+}
+
+// A symbol with the place of the next line, or how the symbols end.
+pub enum NextSymbol {
+    Named {
+        kind: Kind,
+        index: usize,
+        next: Cursor,
+    },
+    End(Symbols),
 }
 
 // The sections from a cursor on. All lines are looked at before 11, since a bad line, symbol or comment counts more.

@@ -24,6 +24,7 @@ use Rattle.witness_text.specs.Symbols.{endsSymbols, Symbol, symbolOf}
 use Rattle.witness_text.proofs.SymbolLaws.{symbol-below}
 use Rattle.witness.specs.Names.{Tail, withSymbol, tailOf, isInput, isLatch, indicesOf, namedOnce, symbolsOf}
 use Rattle.witness.proofs.AcceptedLaws.{symbols-tail, symbols-once}
+use Rattle.witness.proofs.TailLaws.{tail-comments, tail-symbol}
 use Rattle.witness_words.specs.Loaded.{nameFrom}
 use Rattle.witness_words.specs.Loading.{leafWords, withName, Named, NamesLine, leafNames, LoadsNames}
 use Rattle.witness_words.proofs.NameLaws.{name-new, leaf-named, said-named, leaf-none}
@@ -68,11 +69,11 @@ module _ (s : Bytes) (c : Cursor) (n : AagCounts) where
 
       module _ (a e : ℕ) (m : Cursor) (u : r ≡ line.At a e m) (b : Bool) (v : b ≡ endsSymbols (part s a e)) where
         pub names-stop : b ≡ true → LoadsNames s c n o
-        names-stop w = ended (record { symbols = []; comments = linesFrom s m }) (ap (tailOf n) (lines-some s (p .at) r q a e m u) ∙ rw (sym v ∙ w)) refl
+        names-stop w = ended (record { symbols = []; comments = linesFrom s m }) (ap (tailOf n) (lines-some s (p .at) r q a e m u) ∙ tail-comments n (part s a e) (linesFrom s m) (sym v ∙ w)) refl
 
         module _ (w : b ≡ false) (o' : List ℕ) (y : Bool) (j : NamesLine s (part s a e) n o o' y) where
           first : (x : Answer Symbol) → symbolOf n (part s a e) ≡ x → tailOf n (linesFrom s p) ≡ andThen x (λ z. andThen (tailOf n (linesFrom s m)) (withSymbol z))
-          first x f = ap (tailOf n) (lines-some s (p .at) r q a e m u) ∙ rw (sym v ∙ w, f)
+          first x f = ap (tailOf n) (lines-some s (p .at) r q a e m u) ∙ tail-symbol n (part s a e) (linesFrom s m) (sym v ∙ w) x f
 
           pub names-refused : y ≡ false → LoadsNames s c n o'
           names-refused f t g = got-refused (k .each t g .goes) (first (refused 9) (rw f at j))

@@ -96,7 +96,8 @@ fn name_lines(random: &mut Random, count: usize, order: Order) -> String {
 }
 
 fn names(run: &mut Run) {
-    for count in [1_000, 65_536, 1_000_000] {
+    // With the two latches, around 4,096 and 65,536 that can be named.
+    for count in [1_000, 4_094, 4_095, 65_534, 65_535, 1_000_000] {
         let inputs = Shape {
             inputs: count,
             latches: 2,
@@ -106,7 +107,11 @@ fn names(run: &mut Run) {
         let words = 2 * count + 8;
         for order in [Order::Rising, Order::Falling, Order::Any] {
             let lines = name_lines(&mut run.random, count, order);
-            let named = format!("{start}{lines}l1 x\nl0 \n");
+            let latches = match order {
+                Order::Rising => "l0 \nl1 x\n",
+                _ => "l1 x\nl0 \n",
+            };
+            let named = format!("{start}{lines}{latches}");
             once(run, named.as_bytes(), words);
             // The last line names one twice, the first, the last or any; or one that is not there.
             let any = run.random.below(count);
@@ -117,7 +122,8 @@ fn names(run: &mut Run) {
                 format!("i{count} x"),
                 "l1 x".to_string(),
             ];
-            let tried = if order == Order::Any { 5 } else { 1 };
+            let all = order == Order::Any || count < 100_000;
+            let tried = if all { ends.len() } else { 1 };
             for end in &ends[..tried] {
                 once(run, format!("{named}{end}\n").as_bytes(), words);
             }
