@@ -5,3 +5,4 @@ pub mod Tests
 pub mod Words
 pub mod Bits
 pub mod Sets
+pub mod Firsts
