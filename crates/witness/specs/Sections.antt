@@ -1,7 +1,7 @@
 -- The sections of a text that item 4 of 01 accepts. Inputs, latches and gates are numbered one after the other: counted from 0, number k
 -- of them all defines variable k + 1. The counts I, L, O, A, B, C are the lengths.
 use Prim.Native.Nat.{ℕ, _+_}
-use mathlib.Core.List.{List}
+use mathlib.Core.List.{List, _++_, map}
 use mathlib.Core.Option.{Option}
 use lib.ListN.{length}
 use Rattle.lists.specs.Parts.{Bytes}
@@ -29,3 +29,11 @@ leaves s = length (s .inputs) + length (s .latches)
 -- M
 abbrev pub variables : Sections → ℕ
 variables s = leaves s + length (s .gates)
+
+-- the names of the latches
+abbrev pub latchNames : Sections → List (Option Bytes)
+latchNames s = map (λ q. q .name) (s .latches)
+
+-- the names of the inputs, then those of the latches
+abbrev pub namesIn : Sections → List (Option Bytes)
+namesIn s = s .inputs ++ latchNames s

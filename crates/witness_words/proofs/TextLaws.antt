@@ -28,11 +28,11 @@ use Rattle.witness_text.specs.Header.{headerOf}
 use Rattle.witness_text.specs.LatchLines.{latchLine}
 use Rattle.witness_text.specs.Symbols.{Symbol}
 use Rattle.witness_text.specs.Inner.{Headed, TakesCounts}
-use Rattle.witness.specs.Sections.{Sections}
+use Rattle.witness.specs.Sections.{Sections, namesIn}
 use Rattle.witness.specs.Names.{isLatch, symbolsOf, nameOf, namesOf}
 use Rattle.witness.specs.Order.{Body, bodyOf}
 use Rattle.witness.specs.Reading.{namedLatches, countsIn}
-use Rattle.witness_words.specs.Loaded.{namesIn, latchWords, operandWords, literalWords, wordCount}
+use Rattle.witness_words.specs.Loaded.{latchWords, operandWords, literalWords, wordCount}
 use Rattle.witness_words.specs.Loading.{storedWords, bodyWords, bodyRoom, LoadsBody, leafWords, leafNames, LoadsNames, HasRoom, Loadable, LoadsText}
 use Rattle.witness.proofs.AcceptedLaws.{Parts, body-parts, parts-counts, Accepted, read-accepted}
 

@@ -11,7 +11,7 @@ use Rattle.lists.specs.Parts.{Bytes, part, front}
 use Rattle.lists.specs.Words.{pairsOf, wordsOf}
 use Rattle.aiger.specs.declared.Gate.{Gate}
 use Rattle.witness.specs.declared.ReadAag.{ReadAag}
-use Rattle.witness.specs.Sections.{NamedLatch, Sections, leaves}
+use Rattle.witness.specs.Sections.{NamedLatch, Sections, leaves, namesIn}
 use Rattle.witness.specs.Reading.{countsRead}
 
 -- The name that two words say: where it begins in the text and how long it is; two zeros say that there is none, since the header stands at place 0.
@@ -21,10 +21,6 @@ nameFrom t offset n =
     cond (eqb offset 0)
     (cond (eqb n 0) (some none) none)
     (cond (leb (offset + n) (length t)) (some (some (part t offset (offset + n)))) none)
-
--- the names of the inputs, then those of the latches
-abbrev pub namesIn : Sections → List (Option Bytes)
-namesIn x = x .inputs ++ map (λ q. q .name) (x .latches)
 
 abbrev pub latchWords : NamedLatch → List ℕ
 latchWords q = q .next ∷ q .reset ∷ []
