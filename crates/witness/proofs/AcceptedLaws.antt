@@ -3,8 +3,9 @@ use Prim.Native.Nat.{ℕ, zero, suc}
 use mathlib.Core.Bool.{Bool, true}
 use mathlib.Core.List.{List, [], _∷_}
 use mathlib.Core.Path.{_≡_, refl, sym, ap, _∙_, subst}
+use native.Mathlib.Omega.{arith}
 use lib.ListN.{length, drop}
-use Rattle.lists.specs.Answer.{got, unless, andThen}
+use Rattle.lists.specs.Answer.{Answer, got, refused, unless, andThen}
 use Rattle.lists.specs.Parts.{Bytes}
 use Rattle.lists.proofs.AnswerLaws.{andThen-got, unless-test, unless-got, got-same}
 use Rattle.text.specs.declared.Reader.the-variants.{Witness}
@@ -20,11 +21,12 @@ use Rattle.witness_text.specs.Header.{headerOf, counted, withoutLiveness}
 use Rattle.witness_text.specs.LatchLines.{latchLine}
 use Rattle.witness_text.specs.Symbols.{Symbol}
 use Rattle.witness_text.proofs.CountLaws.{counted-sum, liveness-facts}
+use Rattle.witness.specs.declared.ReadAag.the-variants as read
 use Rattle.witness.specs.Sections.{Sections}
 use Rattle.witness.specs.Names.{Tail, isInput, tailOf, namedOnce, symbolsOf, namesOf}
 use Rattle.witness.specs.Comments.{plainComments}
 use Rattle.witness.specs.Order.{Body, bodyOf, wellNumbered}
-use Rattle.witness.specs.Reading.{namedLatches, sectionsFrom, sectionsOf, afterHeader, readAag, countsIn}
+use Rattle.witness.specs.Reading.{namedLatches, sectionsFrom, sectionsOf, afterHeader, readAag, countsIn, countsRead}
 
 -- ---- the section lines
 
@@ -180,3 +182,12 @@ read-accepted lim witness t x e =
 -- the counts that a call returns are those of the header
 pub read-header : (lim : Limits) (witness : Bool) (t : Bytes) (x : Sections) → readAag lim witness t ≡ got x → headerOf (linesOf t) ≡ got (countsIn x)
 read-header lim witness t x e = read-accepted lim witness t x e .heads
+
+-- what an answer with counts was made from
+pub read-got : (a : Answer Sections) (n : AagCounts) → read.Got n ≡ countsRead a → (x : Sections) × (a ≡ got x) × (n ≡ countsIn x)
+read-got (got x) n e = let s : n ≡ countsIn x = cc in (x, refl, s)
+read-got (refused k) n e = let z : _≡_ {A = ℕ} 0 1 = cc in absurd (omega arith)
+
+pub read-refused : (a : Answer Sections) (k : ℕ) → read.Refused k ≡ countsRead a → a ≡ refused k
+read-refused (got x) k e = let z : _≡_ {A = ℕ} 0 1 = cc in absurd (omega arith)
+read-refused (refused j) k e = let s : k ≡ j = cc in rw s refl

@@ -7,7 +7,7 @@ use native.Mathlib.Omega.{arith}
 use borrow.Author.Tests.{leb-true, leb-false, le-leb, lt-leb, not-true, not-false}
 use lib.Dec.{leb}
 use lib.ListN.{length}
-use Rattle.lists.specs.Answer.{Answer, got, refused}
+use Rattle.lists.specs.Answer.{got, refused}
 use Rattle.lists.specs.Parts.{Bytes}
 use Rattle.text.specs.Texts.{limited}
 use Rattle.witness_text.specs.declared.AagCounts.{AagCounts}
@@ -16,7 +16,7 @@ use Rattle.witness_text.proofs.CountLaws.{counts-gates}
 use Rattle.witness.specs.declared.ReadAag.{ReadAag}
 use Rattle.witness.specs.Sections.{Sections}
 use Rattle.witness.specs.Reading.{readAag, countsIn, countsRead}
-use Rattle.witness.proofs.AcceptedLaws.{read-accepted}
+use Rattle.witness.proofs.AcceptedLaws.{read-accepted, read-got, read-refused}
 use Rattle.witness_words.specs.Loaded.{wordCount, Loads}
 use Rattle.witness_words.specs.Loading.{leafWords, bodyRoom, HasRoom, Loadable, LoadsText}
 use Rattle.witness_words.proofs.TextLaws.{words-counted}
@@ -70,15 +70,6 @@ module _ (n : AagCounts) (h : counted limited n ≡ true) where
   fixed-words-fit = omega (arith, small)
 
 -- ---- load_aag
-
--- the sections that were read
-read-got : (a : Answer Sections) (n : AagCounts) → read.Got n ≡ countsRead a → (x : Sections) × (a ≡ got x) × (n ≡ countsIn x)
-read-got (got x) n e = let s : n ≡ countsIn x = cc in (x, refl, s)
-read-got (refused k) n e = let z : _≡_ {A = ℕ} 0 1 = cc in absurd (omega arith)
-
-read-refused : (a : Answer Sections) (k : ℕ) → read.Refused k ≡ countsRead a → a ≡ refused k
-read-refused (got x) k e = let z : _≡_ {A = ℕ} 0 1 = cc in absurd (omega arith)
-read-refused (refused j) k e = let s : k ≡ j = cc in rw s refl
 
 module _ (s : Bytes) (witness : Bool) (w : List ℕ) (r : ReadAag) (q : r ≡ countsRead (readAag limited witness s)) where
   pub call-refused : (k : ℕ) → r ≡ read.Refused k → Loads s (readAag limited witness s) w w (read.Refused k)

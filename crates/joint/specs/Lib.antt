@@ -1,0 +1,2 @@
+-- All witnesses side by side, as one circuit.
+pub mod Joint
