@@ -13,4 +13,6 @@ pub mod OnceLaws
 pub mod DistinctLaws
 pub mod CountLaws
 pub mod RisingLaws
+pub mod FirstLaws
+pub mod SetLaws
 pub mod Examples
