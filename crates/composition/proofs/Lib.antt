@@ -1,2 +1,5 @@
 -- Laws of the composition of witnesses: demand 3 of 01.
+pub mod SolveLaws
+pub mod ShareLaws
+pub mod PlacedLaws
 mod Examples
