@@ -2,4 +2,8 @@
 pub mod SolveLaws
 pub mod ShareLaws
 pub mod PlacedLaws
+pub mod RangeLaws
+pub mod WholeLaws
+pub mod KeepLaws
+pub mod MeaningLaws
 mod Examples
