@@ -6,4 +6,5 @@ pub mod RangeLaws
 pub mod WholeLaws
 pub mod KeepLaws
 pub mod MeaningLaws
+pub mod NameLaws
 mod Examples
