@@ -7,4 +7,6 @@ pub mod WholeLaws
 pub mod KeepLaws
 pub mod MeaningLaws
 pub mod NameLaws
+pub mod SymbolLaws
+pub mod BodyLaws
 mod Examples
