@@ -9,4 +9,6 @@ pub mod MeaningLaws
 pub mod NameLaws
 pub mod SymbolLaws
 pub mod BodyLaws
+pub mod PlainLaws
+pub mod BackLaws
 mod Examples
