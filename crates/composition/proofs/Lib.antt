@@ -11,4 +11,6 @@ pub mod SymbolLaws
 pub mod BodyLaws
 pub mod PlainLaws
 pub mod BackLaws
+pub mod PrintableLaws
+pub mod DemandLaws
 mod Examples
