@@ -32,6 +32,7 @@ pub record AllRead (ts : List Bytes) (ws : List Sections) : Type 0 where
   pub count : length ws ≡ length ts
   pub granted : Each Granted ws
 
+-- so it is where the texts of all witnesses are read
 pub all-read : (ts : List Bytes) (ws : List Sections) → readAll ts ≡ got ws → AllRead ts ws
 all-read [] ws e = rw (← got-same [] ws e) (record { count = refl; granted = tt })
 all-read (t ∷ ts) ws e =
@@ -46,6 +47,7 @@ pub record Composed (m : Sections) (ws : List Sections) (s : Sections) : Type 0 
   pub agreed : agree (allDefined (whole m ws)) ≡ true
   pub is : composed m ws ≡ s
 
+-- so it is where `compose` gives s
 pub compose-got : (m : Sections) (ws : List Sections) (s : Sections) → compose m ws ≡ got s → Composed m ws s
 unfolding compose
 compose-got m ws s e =
@@ -65,7 +67,8 @@ compose-got m ws s e =
     }
 
 -- the sections that were read, and the text of their composition
-made : (model : Bytes) (ts : List Bytes) (text : Bytes) (m : Sections) (ws : List Sections) (s : Sections) → readAag limited false model ≡ got m → readAll ts ≡ got ws → length ts ≤ 64
+made : (model : Bytes) (ts : List Bytes) (text : Bytes) (m : Sections) (ws : List Sections) (s : Sections) → readAag limited false model ≡ got m → readAll ts ≡ got ws
+    → length ts ≤ 64
     → Composed m ws s → printed s ≡ text → Composition model ts text
 made model ts text m ws s rm rs few c e =
     let a = all-read ts ws rs in
@@ -81,6 +84,7 @@ made model ts text m ws s rm rs few c e =
       means = composed-means m ws (each-so Granted InRange (λ w g. g .range) ws (a .granted)) (c .agreed);
     }
 
+-- the same for the text that is made of the texts
 texts-mean : (work room : ℕ) (model : Bytes) (ts : List Bytes) (text : Bytes) → length ts ≤ 64 → composeTexts work room model ts ≡ got text → Composition model ts text
 texts-mean work room model ts text few e =
     let a = andThen-got (readAag limited false model) (λ m. andThen (readAll ts) (λ ws. unless 15 (leb (16 * sizes (m ∷ ws) + 1024) work) (composeSections room m ws))) text e in

@@ -1,8 +1,8 @@
 -- What the composition keeps: bads, constraints, and next and reset values of latches.
-use Prim.Native.Nat.{ℕ, zero, suc, _+_, _*_, _≤_, _<_}
+use Prim.Native.Nat.{ℕ, zero, suc, _+_, _≤_, _<_}
 use mathlib.Core.Bool.{Bool, true}
 use mathlib.Core.List.{List, [], _∷_, map}
-use mathlib.Core.Path.{_≡_, refl, ap, sym, _∙_}
+use mathlib.Core.Path.{_≡_, refl, ap, _∙_}
 use native.Mathlib.Nat.{add-zero, add-suc, suc-add}
 use native.Mathlib.Omega.{arith}
 use lib.Dec.{eqb}
@@ -28,10 +28,12 @@ use Rattle.composition.proofs.WholeLaws.{Matched, Both, Ready}
 
 -- tests that agree on each element agree on the list
 module _ {A : Type 0} (f g : A → Bool) where
+  -- some passes
   any-each : (xs : List A) → Each (λ x. f x ≡ g x) xs → any f xs ≡ any g xs
   any-each [] e = refl
   any-each (x ∷ xs) e = rw (e .0, any-each xs (e .1))
 
+  -- all pass
   all-each : (xs : List A) → Each (λ x. f x ≡ g x) xs → all f xs ≡ all g xs
   all-each [] e = refl
   all-each (x ∷ xs) e = rw (e .0, all-each xs (e .1))
@@ -41,15 +43,19 @@ module _ (u : Valuation) (x : Valued) (q : Placed) (t : Matched u x q) where
   literal-kept : (l : ℕ) → Within (variables (x .placed .sections)) l → value u (translate (q .vars) l) ≡ value (x .values) l
   literal-kept l h = translate-value u (x .values) (q .vars) l (t .values (variable l) (omega (arith, t .long)))
 
+  -- so has each of a list
   literals-kept : (ls : List ℕ) → Each (Within (variables (x .placed .sections))) ls → Each (λ l. value u (translate (q .vars) l) ≡ value (x .values) l) ls
   literals-kept ls e = each-so (Within (variables (x .placed .sections))) (λ l. value u (translate (q .vars) l) ≡ value (x .values) l) literal-kept ls e
 
+  -- some literal of a list is true exactly when some composed one is
   any-kept : (ls : List ℕ) → Each (Within (variables (x .placed .sections))) ls → any (value u) (map (translate (q .vars)) ls) ≡ any (value (x .values)) ls
   any-kept ls e = any-map (translate (q .vars)) (value u) ls ∙ any-each (λ l. value u (translate (q .vars) l)) (value (x .values)) ls (literals-kept ls e)
 
+  -- all are true exactly when all composed ones are
   all-kept : (ls : List ℕ) → Each (Within (variables (x .placed .sections))) ls → all (value u) (map (translate (q .vars)) ls) ≡ all (value (x .values)) ls
   all-kept ls e = all-map (translate (q .vars)) (value u) ls ∙ all-each (λ l. value u (translate (q .vars) l)) (value (x .values)) ls (literals-kept ls e)
 
+-- safety literals are in range where bads and outputs are
 safety-within : (m : ℕ) (bs os : List ℕ) → Each (Within m) bs → Each (Within m) os → Each (Within m) (orOutputs bs os)
 safety-within m [] os e f = f
 safety-within m (b ∷ bs) os e f = e
@@ -59,6 +65,7 @@ abbrev translatedIn : (Sections → List ℕ) → Placed → List ℕ
 translatedIn list q = map (translate (q .vars)) (list (q .sections))
 
 module _ (u : Valuation) (I L : ℕ) where
+  -- some composed safety literal is true exactly when a witness is unsafe
   bads-at : (xs : List Valued) (qs : List Placed) → Both (Matched u) xs qs → Each (Ready u I L) xs → any (λ q. any (value u) (translatedIn safety q)) qs ≡ any unsafe xs
   bads-at [] [] b e = refl
   bads-at [] (q ∷ qs) b e = absurd b
@@ -70,6 +77,7 @@ module _ (u : Valuation) (I L : ℕ) where
       any-kept u x q (b .0) (safety s) (safety-within (variables s) (s .bads) (s .outputs) (r .bads) (r .outputs)) in
       rw (b .0 .same, k, bads-at xs qs (b .1) (e .1)) refl
 
+  -- all composed constraints hold exactly when every witness is constrained
   constraints-at : (xs : List Valued) (qs : List Placed) → Both (Matched u) xs qs → Each (Ready u I L) xs
       → all (λ q. all (value u) (translatedIn (λ s. s .constraints) q)) qs ≡ all constrained xs
   constraints-at [] [] b e = refl
@@ -112,15 +120,18 @@ composed-latch-at x (e ∷ es) ds (suc k) h = rw (add-suc x k, ← suc-add x k) 
 abbrev pub Agreed : List Defined → Defined → Type 0
 Agreed ds d = sameDefined (definitionOf (d .variable) ds) d ≡ true
 
+-- definitions that agree have the same next literal
 agreed-next : (a d : Defined) → sameDefined a d ≡ true → a .next ≡ d .next
 agreed-next a d h = eqb-true (a .next) (d .next) (and-left (eqb (a .next) (d .next)) (eqb (a .reset) (d .reset)) h)
 
+-- and the same reset
 agreed-reset : (a d : Defined) → sameDefined a d ≡ true → a .reset ≡ d .reset
 agreed-reset a d h = eqb-true (a .reset) (d .reset) (and-right (eqb (a .next) (d .next)) (eqb (a .reset) (d .reset)) h)
 
 module _ (I L : ℕ) (u : Valuation) (ds : List Defined) (s : Sections) (hI : length (s .inputs) ≡ I) (hL : length (s .latches) ≡ L)
     (hD : (k : ℕ) → k < L → IsDefined (getD (s .latches) k noLatch) (definitionOf (suc I + k) ds)) where
   module _ (x : Valued) (q : Placed) (t : Matched u x q) (r : Ready u I L x) where
+    -- a latch of the witness keeps its next and reset value
     latch-kept : (y : ℕ) (c : NamedLatch) → length (x .placed .sections .inputs) < y → y < length (x .placed .vars) → LatchWithin (variables (x .placed .sections)) c
         → Agreed ds (record { variable = getD (q .vars) y 0; next = translate (q .vars) (c .next); reset = translate (q .vars) (c .reset) })
         → LatchKept s u x y c
@@ -139,21 +150,22 @@ module _ (I L : ℕ) (u : Valuation) (ds : List Defined) (s : Sections) (hI : le
           reset = rw (is .reset, agreed-reset f d a′) (literal-kept u x q t (c .reset) (w .1));
         }
 
+    -- so do all its latches from variable y on
     latches-kept : (y : ℕ) (cs : List NamedLatch) → length (x .placed .sections .inputs) < y → y + length cs ≤ length (x .placed .vars)
         → Each (LatchWithin (variables (x .placed .sections))) cs → Each (Agreed ds) (definedFrom (q .vars) y cs) → LatchesKept s u x y cs
     latches-kept y [] h k w a = tt
     latches-kept y (c ∷ cs) h k w a = (latch-kept y c h (omega arith) (w .0) (a .0), latches-kept (suc y) cs (omega arith) (omega arith) (w .1) (a .1))
 
   -- each latch of each witness keeps its next and reset value, where all definitions of a latch are as its first
-  pub all-latches-kept : (xs : List Valued) (qs : List Placed) → Both (Matched u) xs qs → Each (Ready u I L) xs → Each (Agreed ds) (allDefined qs) → Each (AllLatchesKept s u) xs
+  pub all-latches-kept : (xs : List Valued) (qs : List Placed) → Both (Matched u) xs qs → Each (Ready u I L) xs → Each (Agreed ds) (allDefined qs)
+      → Each (AllLatchesKept s u) xs
   all-latches-kept [] [] b e a = tt
   all-latches-kept [] (q ∷ qs) b e a = absurd b
   all-latches-kept (x ∷ xs) [] b e a = absurd b
   all-latches-kept (x ∷ xs) (q ∷ qs) b e a =
       let p : Placed = x .placed in
       let c = each-split (Agreed ds) (definedIn q) (allDefined qs) a in
-      let mine : Each (Agreed ds) (definedFrom (q .vars) (suc (length (p .sections .inputs))) (p .sections .latches)) = rw (b .0 .same) at (c .0) in
-      (
+      let mine : Each (Agreed ds) (definedFrom (q .vars) (suc (length (p .sections .inputs))) (p .sections .latches)) = rw (b .0 .same) at (c .0) in (
         latches-kept x q (b .0) (e .0) (suc (length (p .sections .inputs))) (p .sections .latches) (omega arith) (omega (arith, e .0 .seated .long)) (e .0 .range .latches) mine,
         all-latches-kept xs qs (b .1) (e .1) (c .1),
       )

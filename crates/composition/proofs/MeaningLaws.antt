@@ -1,23 +1,23 @@
 -- Demand 3 for compositions, on sections: the composition of witnesses in range means what it should where all definitions of a latch agree.
-use Prim.Native.Nat.{ℕ, suc, _+_, _≤_, _<_}
+use Prim.Native.Nat.{ℕ, suc}
 use mathlib.Core.Bool.{true}
 use mathlib.Core.List.{List, [], map}
 use mathlib.Core.Option.{some}
-use mathlib.Core.Path.{_≡_, sym, ap, _∙_, subst}
+use mathlib.Core.Path.{_≡_, ap, subst}
 use native.Mathlib.Omega.{arith}
-use lib.ListN.{length, getD, length-map}
+use lib.ListN.{length, length-map}
 use Rattle.lists.specs.Tests.{Each}
 use Rattle.lists.proofs.FirstLaws.{begins-self}
 use Rattle.lists.proofs.TestLaws.{each-of-all, each-so, each-with, each-of-map}
 use Rattle.aiger.specs.Gates.{Valuation, Follows}
 use Rattle.witness.specs.Sections.{Sections, leaves}
 use Rattle.composition.specs.Numbering.{inputEntries, latchEntries, inputFirsts, latchFirsts, Placed, placed, leafCount}
-use Rattle.composition.specs.Sharing.{Operands, gatesFrom, gatesAfter, wholeAfter}
+use Rattle.composition.specs.Sharing.{gatesAfter, wholeAfter}
 use Rattle.composition.specs.Composing.{Defined, allDefined, definitionOf, sameDefined, agree, composedGates, whole, composed}
 use Rattle.composition.specs.Meaning.{Valued, given, Solution, Takes, Keeps, InputsPlaced, Means}
 use Rattle.composition.proofs.SolveLaws.{GatesFrom, sections-solved, sections-fixed}
 use Rattle.composition.proofs.ShareLaws.{OperandsFrom, operands-gates}
-use Rattle.composition.proofs.PlacedLaws.{firsts-apart, Spot, Seated, placed-seated, placed-everyone}
+use Rattle.composition.proofs.PlacedLaws.{firsts-apart, Seated, placed-seated, placed-everyone}
 use Rattle.composition.proofs.RangeLaws.{InRange}
 use Rattle.composition.proofs.WholeLaws.{after-order, Matched, Both, Ready, match-all}
 use Rattle.composition.proofs.KeepLaws.{bads-kept, constraints-kept, composed-latches-length, composed-latch-at, Agreed, all-latches-kept}
@@ -34,9 +34,11 @@ module _ (m : Sections) (ws : List Sections) where
   pub composed-inputs : length (composed m ws .inputs) ≡ I
   composed-inputs = length-map (inputFirsts m ws) (λ e. some (e .name))
 
+  -- and so many latches
   pub composed-latches : length (composed m ws .latches) ≡ L
   composed-latches = composed-latches-length (suc I) (latchFirsts m ws) (allDefined (whole m ws))
 
+  -- together they are those that item 8 numbers
   pub composed-leaves : leaves (composed m ws) ≡ leafCount m ws
   composed-leaves = rw (composed-inputs, composed-latches)
 
@@ -44,6 +46,7 @@ module _ (m : Sections) (ws : List Sections) where
   pub composed-order : OperandsFrom (suc (leafCount m ws)) (composedGates m ws)
   composed-order = after-order I L (placed m ws) [] (placed-seated m ws) tt
 
+  -- so the sections have their gates
   pub composed-gates : GatesFrom (suc (leaves (composed m ws))) (composed m ws .gates)
   composed-gates = rw composed-leaves (operands-gates (suc (leafCount m ws)) (composedGates m ws) composed-order)
 
@@ -55,6 +58,7 @@ module _ (m : Sections) (ws : List Sections) where
       one p s k h = let t = s .input (suc k) (omega arith) (omega arith) in (omega (arith, t .is), omega (arith, t .is, t .there, composed-inputs))
 
   module _ (r : Each InRange ws) where
+    -- the witnesses are in range where they are placed
     placed-range : Each (λ p. InRange (p .sections)) (placed m ws)
     placed-range = each-of-map (λ p. p .sections) InRange (placed m ws) (rw (placed-everyone m ws) r)
 
@@ -63,6 +67,7 @@ module _ (m : Sections) (ws : List Sections) where
     witnesses-solved u = each-so (λ p. InRange (p .sections)) (λ p. Solution (p .sections) (given u p)) (λ p h. sections-solved (p .sections) (h .gates) (given u p)) (placed m ws) placed-range
 
     module _ (u : Valuation) (xs : List Valued) (e : map (λ x. x .placed) xs ≡ placed m ws) where
+      -- each witness has what its values ask for
       all-ready : Each (Takes u) xs → Each (Ready u I L) xs
       all-ready t =
           let seats : Each (λ x. Seated I L (x .placed)) xs = each-of-map (λ x. x .placed) (Seated I L) xs (rw e (placed-seated m ws)) in
@@ -72,6 +77,7 @@ module _ (m : Sections) (ws : List Sections) where
           each-with (λ x. Seated I L (x .placed) × InRange (x .placed .sections)) (Takes u) (Ready u I L)
           (λ x a b. record { seated = a .0; range = a .1; takes = b }) xs both t
 
+      -- each variable of each witness has the value of its composed variable
       all-matched : Follows (composed m ws .gates) u → Each (Takes u) xs → Both (Matched u) xs (whole m ws)
       all-matched f t =
           let n : ℕ = suc (leafCount m ws) in
@@ -81,10 +87,13 @@ module _ (m : Sections) (ws : List Sections) where
           subst (λ (ps : List Placed). Both (Matched u) xs (wholeAfter n ps [])) e r
 
     module _ (a : agree (allDefined (whole m ws)) ≡ true) where
+      -- every definition of a latch is as its first
       agreed : Each (Agreed (allDefined (whole m ws))) (allDefined (whole m ws))
       agreed = each-of-all (λ d. sameDefined (definitionOf (d .variable) (allDefined (whole m ws))) d) (allDefined (whole m ws)) a
 
-      composed-keeps : (u : Valuation) → Follows (composed m ws .gates) u → (xs : List Valued) → map (λ x. x .placed) xs ≡ placed m ws → Each (Takes u) xs → Keeps (composed m ws) u xs
+      -- the composition keeps bads, constraints and latches
+      composed-keeps : (u : Valuation) → Follows (composed m ws .gates) u → (xs : List Valued) → map (λ x. x .placed) xs ≡ placed m ws → Each (Takes u) xs
+          → Keeps (composed m ws) u xs
       composed-keeps u f xs e t =
           let ds : List Defined = allDefined (whole m ws) in
           let ready = all-ready u xs e t in

@@ -6,7 +6,7 @@ use mathlib.Core.Option.{Option, some, none}
 use mathlib.Core.Path.{_≡_, refl, sym, ap, _∙_, subst}
 use lib.Dec.{ltb, eqb}
 use lib.ListN.{length, take, drop}
-use Rattle.lists.specs.Answer.{Answer, got, refused, andThen}
+use Rattle.lists.specs.Answer.{Answer, got, andThen}
 use Rattle.lists.specs.Parts.{Bytes}
 use Rattle.lists.specs.Tests.{all, Each}
 use Rattle.lists.proofs.AnswerLaws.{got-refused, got-same, unless-got, andThen-got}
@@ -30,7 +30,7 @@ use Rattle.witness_text.proofs.CountLaws.{counted-facts}
 use Rattle.witness.specs.Sections.{Sections, variables, latchNames}
 use Rattle.witness.specs.Names.{Tail, withSymbol, tailOf, isInput, isLatch, nameOf, namesOf}
 use Rattle.witness.specs.Order.{Body}
-use Rattle.witness.specs.Reading.{namedLatches, sectionsFrom, readAag, countsIn}
+use Rattle.witness.specs.Reading.{namedLatches, readAag, countsIn}
 use Rattle.witness.proofs.AcceptedLaws.{Parts, body-parts, symbols-tail, read-accepted}
 use Rattle.composition.proofs.RangeLaws.{InRange, read-range}
 
@@ -51,11 +51,13 @@ PlainName (some x) = Plain x
 pub plain-bytes : (l : Bytes) → Plain l → all isWitnessByte l ≡ true
 plain-bytes l h = and-left (all isWitnessByte l) (all inLine l) (sym (all-and isWitnessByte inLine l) ∙ h)
 
+-- none of them is byte 10
 pub plain-line : (l : Bytes) → Plain l → all inLine l ≡ true
 plain-line l h = and-right (all isWitnessByte l) (all inLine l) (sym (all-and isWitnessByte inLine l) ∙ h)
 
 -- ---- the lines of a text
 
+-- a plain byte in front of plain lines
 head-plain : (b : ℕ) (ls : List Bytes) → plain b ≡ true → Each Plain ls → Each Plain (consHead b ls)
 head-plain b [] h e = (and-both (plain b) true h refl, tt)
 head-plain b (l ∷ ls) h e = (and-both (plain b) (all plain l) h (e .0), e .1)
@@ -71,15 +73,18 @@ lines-plain (b ∷ bs) h = go (eqb b 10) refl (lines-plain bs (and-right (isWitn
         let n : inLine b ≡ true = ap not e in
         head-plain b (linesOf bs) (and-both (isWitnessByte b) (inLine b) (and-left (isWitnessByte b) (all isWitnessByte bs) h) n) ih
 
+-- what holds of each element holds of those that are left
 each-drop : {A : Type 0} (P : A → Type 0) (n : ℕ) (l : List A) → Each P l → Each P (drop n l)
 each-drop P zero l e = e
 each-drop P (suc n) [] e = tt
 each-drop P (suc n) (x ∷ l) e = each-drop P n l (e .1)
 
 -- the lines after a section are lines of the text
-after-section : {A : Type 0} (item : Bytes → Answer A) (n : ℕ) (ls : List Bytes) (xs : List A) (rest : List Bytes) → section item n ls ≡ sectionOf xs rest → Each Plain ls → Each Plain rest
+after-section : {A : Type 0} (item : Bytes → Answer A) (n : ℕ) (ls : List Bytes) (xs : List A) (rest : List Bytes) → section item n ls ≡ sectionOf xs rest
+    → Each Plain ls → Each Plain rest
 after-section item n ls xs rest h e = rw (section-rest item n ls xs rest h) (each-drop Plain n ls e)
 
+-- so are those after all section lines
 after-body : (n : AagCounts) (ls : List Bytes) (d : Body) → Parts n ls d → Each Plain ls → Each Plain (d .rest)
 after-body n ls d p e =
     after-section (gateLine Witness) (n .gates) (p .after-constraints) (d .gates) (d .rest) (p .gates)
@@ -101,15 +106,18 @@ module _ (n : AagCounts) where
       let y : Symbol = record { kind = k .0; index = i .0; name = name } in
       ap (λ (z : Symbol). z .name) (got-same y x (unless-got 9 (got y) x (ltb (i .0) (countOf n (k .0))) (i .2)))
 
+  -- the name of a symbol line is what stands behind its first byte 32
   symbol-name : (l : Bytes) (x : Symbol) → symbolOf n l ≡ got x → drop (suc (beforeSpace l)) l ≡ x .name
   unfolding symbolOf
   symbol-name l x e =
       let b : ℕ = beforeSpace l in
       from-name (take b l) (drop (suc b) l) x (unless-got 9 (symbolFrom n (take b l) (drop (suc b) l)) x (ltb b (length l)) e)
 
+  -- the name in a plain line is plain
   symbol-plain : (l : Bytes) (x : Symbol) → symbolOf n l ≡ got x → Plain l → Plain (x .name)
   symbol-plain l x e h = rw (← symbol-name l x e) (all-drop plain (suc (beforeSpace l)) l h)
 
+  -- so is the name of each symbol in plain lines
   tail-plain : (ls : List Bytes) (t : Tail) → tailOf n ls ≡ got t → Each Plain ls → Each (λ s. Plain (s .name)) (t .symbols)
   tail-plain [] t e p = subst (λ (x : Tail). Each (λ s. Plain (s .name)) (x .symbols)) (got-same (record { symbols = []; comments = [] }) t e) tt
   tail-plain (l ∷ ls) t e p = go (endsSymbols l) e (tail-plain ls)
@@ -124,6 +132,7 @@ module _ (n : AagCounts) where
           (symbol-plain l (s .0) (s .1) (p .0), ih (r .0) (r .1) (p .1))
 
 module _ (ss : List Symbol) (e : Each (λ s. Plain (s .name)) ss) where
+  -- the name that plain symbols give is plain
   name-plain : (is : Kind → Bool) (k : ℕ) → PlainName (nameOf is k ss)
   name-plain is k = by ss e
     where
@@ -135,10 +144,12 @@ module _ (ss : List Symbol) (e : Each (λ s. Plain (s .name)) ss) where
           go true ih = f .0
           go false ih = ih
 
+  -- so are all names of a kind
   names-plain : (is : Kind → Bool) (k n : ℕ) → Each PlainName (namesOf is k n ss)
   names-plain is k zero = tt
   names-plain is k (suc n) = (name-plain is k, names-plain is (suc k) n)
 
+  -- and those of latches
   latch-names-plain : (k : ℕ) (qs : List Latch) → Each PlainName (map (λ q. q .name) (namedLatches k qs ss))
   latch-names-plain k [] = tt
   latch-names-plain k (q ∷ qs) = (name-plain isLatch k, latch-names-plain (suc k) qs)
@@ -151,6 +162,7 @@ pub record Granted (s : Sections) : Type 0 where
   pub inputNames : Each PlainName (s .inputs)
   pub latchNames : Each PlainName (latchNames s)
 
+-- a text that is not refused with 3 has a witness's bytes
 text-bytes : (lim : Limits) (t : Bytes) → goodText lim Witness t ≡ true → all isWitnessByte t ≡ true
 unfolding goodText
 text-bytes lim t h = every-facts (within lim 16777216 (length t) ∷ all isWitnessByte t ∷ endsIn10 t ∷ []) h .1 .0

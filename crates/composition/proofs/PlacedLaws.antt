@@ -1,6 +1,6 @@
 -- Where the inputs and latches of the witnesses stand in the composition.
 use Prim.Native.Nat.{ℕ, zero, suc, _+_, _-_, _≤_, _<_}
-use mathlib.Core.Bool.{Bool, true, false, _&&_}
+use mathlib.Core.Bool.{Bool, true, false}
 use mathlib.Core.List.{List, [], _∷_, _++_, map}
 use mathlib.Core.Option.{Option}
 use mathlib.Core.Path.{_≡_, refl, ap, ap₂, _∙_}
@@ -24,10 +24,12 @@ use Rattle.composition.proofs.ShareLaws.{Low}
 
 -- ---- which entries are the same
 
+-- a key is the same as itself
 key-self : (k : Key) → sameKey k k ≡ true
 key-self (shared l) = eq-eqb l l refl
 key-self (alone w k) = rw (eq-eqb w w refl, eq-eqb k k refl)
 
+-- keys that are the same are equal
 key-same : (a b : Key) → sameKey a b ≡ true → a ≡ b
 key-same (shared l) (shared m) h = ap shared (eqb-true l m h)
 key-same (shared l) (alone w k) h = true-false h refl
@@ -48,6 +50,7 @@ entry-alike x y z h = ap (λ (k : Key). sameKey k (z .key)) (key-same (x .key) (
 abbrev Among : List Entry → Entry → Type 0
 Among firsts e = any (sameEntry e) firsts ≡ true
 
+-- two of the first ones have one variable exactly when they are the same
 numbered-apart : (n : ℕ) (firsts : List Entry) (e f : Entry) → Among firsts e → Among firsts f → eqb (numbered n firsts e) (numbered n firsts f) ≡ sameEntry e f
 numbered-apart n firsts e f h k = go (place sameEntry e firsts) (place sameEntry f firsts) (place-apart sameEntry entry-self entry-alike e f firsts h k)
   where
@@ -75,6 +78,7 @@ pub record Spot (vars : List ℕ) (i n count : ℕ) : Type 0 where
   pub there : k < count
   pub is : getD vars i 0 ≡ n + k
 
+-- the variable of each appearance is one of those that are numbered
 numbered-spot : (n : ℕ) (firsts es : List Entry) → Each (Among firsts) es → (i : ℕ) → i < length es → Spot (map (numbered n firsts) es) i n (length firsts)
 numbered-spot n firsts [] a i h = absurd (omega arith)
 numbered-spot n firsts (e ∷ es) a zero h = record { k = place sameEntry e firsts; there = place-inside sameEntry e firsts (a .0); is = refl }
@@ -83,7 +87,8 @@ numbered-spot n firsts (e ∷ es) a (suc i) h =
     record { k = r .k; there = r .there; is = r .is }
 
 -- there is an entry for each name
-pub entries-length : (p : ModelLeaves) (unnamed : Bytes) (w : ℕ) (named : Bool) (k : ℕ) (names : List (Option Bytes)) → length (entriesFrom p unnamed w named k names) ≡ length names
+pub entries-length : (p : ModelLeaves) (unnamed : Bytes) (w : ℕ) (named : Bool) (k : ℕ) (names : List (Option Bytes))
+    → length (entriesFrom p unnamed w named k names) ≡ length names
 entries-length p unnamed w named k [] = refl
 entries-length p unnamed w named k (x ∷ xs) = ap suc (entries-length p unnamed w named (suc k) xs)
 
@@ -91,6 +96,7 @@ entries-length p unnamed w named k (x ∷ xs) = ap suc (entries-length p unnamed
 pub inputs-in-length : (m : Sections) (w : ℕ) (s : Sections) → length (inputsIn m w s) ≡ length (s .inputs)
 inputs-in-length m w s = entries-length (modelInputs m) private-input w (mapsByName s) 0 (s .inputs)
 
+-- and so many latches
 pub latches-in-length : (m : Sections) (w : ℕ) (s : Sections) → length (latchesIn m w s) ≡ length (s .latches)
 latches-in-length m w s = entries-length (modelLatches m) private-latch w (mapsByName s) 0 (latchNames s) ∙ length-map (s .latches) (λ q. q .name)
 
@@ -102,10 +108,12 @@ pub record Seated (I L : ℕ) (p : Placed) : Type 0 where
   pub latch : (x : ℕ) → length (p .sections .inputs) < x → x < length (p .vars) → Spot (p .vars) x (suc I) L
 
 module _ (fs bs : List ℕ) where
+  -- the first variables behind the constant
   in-front : (x : ℕ) → 0 < x → x ≤ length fs → getD (0 ∷ (fs ++ bs)) x 0 ≡ getD fs (x - 1) 0
   in-front zero h k = absurd (omega arith)
   in-front (suc x) h k = let e : suc x - 1 ≡ x = omega arith in rw e (List·getD-append fs bs 0 x (omega arith))
 
+  -- those after them
   behind : (x : ℕ) → length fs < x → getD (0 ∷ (fs ++ bs)) x 0 ≡ getD bs (x - suc (length fs)) 0
   behind zero h = absurd (omega arith)
   behind (suc x) h =
@@ -114,6 +122,7 @@ module _ (fs bs : List ℕ) where
 
 module _ (is qs : List Entry) (s : Sections) (xs ys : List Entry) (hx : Each (Among is) xs) (hy : Each (Among qs) ys)
     (lx : length xs ≡ length (s .inputs)) (ly : length ys ≡ length (s .latches)) where
+  -- a witness with the variables of its entries is seated
   seat : Seated (length is) (length qs) (record { sections = s; vars = 0 ∷ (map (numbered 1 is) xs ++ map (numbered (suc (length is)) qs) ys) })
   seat =
       let fs : List ℕ = map (numbered 1 is) xs in
@@ -135,13 +144,13 @@ module _ (is qs : List Entry) (s : Sections) (xs ys : List Entry) (hx : Each (Am
             record { k = t .k; there = t .there; is = behind fs bs x (omega arith) ∙ t .is };
       }
 
+-- so is each of the witnesses
 seats : (m : Sections) (is qs : List Entry) (w : ℕ) (ws : List Sections) → Each (Among is) (inputEntries m w ws) → Each (Among qs) (latchEntries m w ws)
     → Each (Seated (length is) (length qs)) (placedFrom m is qs w ws)
 seats m is qs w [] hi hq = tt
 seats m is qs w (s ∷ ss) hi hq =
     let i = each-split (Among is) (inputsIn m w s) (inputEntries m (suc w) ss) hi in
-    let q = each-split (Among qs) (latchesIn m w s) (latchEntries m (suc w) ss) hq in
-    (
+    let q = each-split (Among qs) (latchesIn m w s) (latchEntries m (suc w) ss) hq in (
       seat is qs s (inputsIn m w s) (latchesIn m w s) (i .0) (q .0) (inputs-in-length m w s) (latches-in-length m w s),
       seats m is qs (suc w) ss (i .1) (q .1),
     )
@@ -152,6 +161,7 @@ placed-seated m ws =
     seats m (inputFirsts m ws) (latchFirsts m ws) 0 ws
     (appearing-any sameEntry entry-self [] (inputEntries m 0 ws)) (appearing-any sameEntry entry-self [] (latchEntries m 0 ws))
 
+-- each witness stands in its place
 everyone : (m : Sections) (is qs : List Entry) (w : ℕ) (ws : List Sections) → map (λ p. p .sections) (placedFrom m is qs w ws) ≡ ws
 everyone m is qs w [] = refl
 everyone m is qs w (s ∷ ss) = ap (λ (r : List Sections). s ∷ r) (everyone m is qs (suc w) ss)
@@ -162,6 +172,7 @@ placed-everyone m ws = everyone m (inputFirsts m ws) (latchFirsts m ws) 0 ws
 
 -- all composed variables of a seated witness are inputs, latches or the constant
 module _ (I L : ℕ) (p : Placed) (s : Seated I L p) where
+  -- an input or a latch
   by-kind : (x : ℕ) → 0 < x → x < length (p .vars) → (t : Bool) → ltb (length (p .sections .inputs)) x ≡ t → getD (p .vars) x 0 < suc (I + L)
   by-kind x h k true e =
       let r = s .latch x (ltb-true (length (p .sections .inputs)) x e) k in
@@ -170,10 +181,12 @@ module _ (I L : ℕ) (p : Placed) (s : Seated I L p) where
       let r = s .input x h (ltb-false (length (p .sections .inputs)) x e) in
       omega (arith, r .is, r .there)
 
+  -- the constant too, and whatever is asked for past the end
   by-place : (x : ℕ) → (b : Bool) → ltb x (length (p .vars)) ≡ b → getD (p .vars) x 0 < suc (I + L)
   by-place zero b e = rw (s .constant) (omega arith)
   by-place (suc x) true e = by-kind (suc x) (omega arith) (ltb-true (suc x) (length (p .vars)) e) (ltb (length (p .sections .inputs)) (suc x)) refl
   by-place (suc x) false e = rw (List·getD-eq-default (p .vars) 0 {n = suc x} (ltb-false (suc x) (length (p .vars)) e)) (omega arith)
 
+  -- they are below the first composed gate's
   pub seated-low : Low (suc (I + L)) (p .vars)
   seated-low x = by-place x (ltb x (length (p .vars))) refl

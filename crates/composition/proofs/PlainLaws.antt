@@ -28,22 +28,27 @@ decimal-plain = decimal-all plain (λ b h k. simp (le-leb b 127 (omega arith), n
 pub plain-append : (a b : Bytes) → Plain a → Plain b → Plain (a ++ b)
 plain-append a b h k = all-append plain a b ∙ and-both (all plain a) (all plain b) h k
 
+-- so are those of several numbers
 decimals-plain : (ns : List ℕ) → Each Plain (map decimal ns)
 decimals-plain ns = each-map decimal Plain ns (each-any (λ n. Plain (decimal n)) decimal-plain ns)
 
+-- so is a line of numbers
 numbers-plain : (ns : List ℕ) → Plain (numberLine ns)
 numbers-plain ns = spaced-all plain refl (map decimal ns) (decimals-plain ns)
 
 -- ---- the lines of each section
 
+-- of inputs
 inputs-plain : {A : Type 0} (x : ℕ) (is : List A) → Each Plain (inputLines x is)
 inputs-plain x [] = tt
 inputs-plain x (i ∷ is) = (numbers-plain (2 * x ∷ []), inputs-plain (suc x) is)
 
+-- of latches
 latches-plain : (x : ℕ) (qs : List NamedLatch) → Each Plain (latchLines x qs)
 latches-plain x [] = tt
 latches-plain x (q ∷ qs) = (numbers-plain (2 * x ∷ q .next ∷ q .reset ∷ []), latches-plain (suc x) qs)
 
+-- of symbols, where their names are plain
 symbols-plain : (byte : ℕ) → plain byte ≡ true → (k : ℕ) (xs : List (Option Bytes)) → Each PlainName xs → Each Plain (symbolLines byte k xs)
 symbols-plain byte h k [] e = tt
 symbols-plain byte h k (none ∷ xs) e = symbols-plain byte h (suc k) xs (e .1)
@@ -53,6 +58,7 @@ symbols-plain byte h k (some x ∷ xs) e = (
 )
 
 module _ (s : Sections) (i : Each PlainName (s .inputs)) (l : Each PlainName (latchNames s)) where
+  -- all lines after the gates
   tail-plain : Each Plain (tailLines s)
   tail-plain =
       let cs : List Bytes = (99 ∷ []) ∷ closing ∷ [] in
@@ -73,13 +79,12 @@ module _ (s : Sections) (i : Each PlainName (s .inputs)) (l : Each PlainName (la
       λ ls. each-map (λ x. numberLine (x ∷ [])) Plain ls (each-any (λ x. Plain (numberLine (x ∷ []))) (λ x. numbers-plain (x ∷ [])) ls) in
       let gates : Each Plain (gateLines (s .gates)) =
       each-map (λ g. numberLine (g .output ∷ g .left ∷ g .right ∷ [])) Plain (s .gates)
-      (each-any (λ g. Plain (numberLine (g .output ∷ g .left ∷ g .right ∷ []))) (λ g. numbers-plain (g .output ∷ g .left ∷ g .right ∷ [])) (s .gates)) in
-      (
+      (each-any (λ g. Plain (numberLine (g .output ∷ g .left ∷ g .right ∷ []))) (λ g. numbers-plain (g .output ∷ g .left ∷ g .right ∷ [])) (s .gates)) in (
         spaced-all plain refl (aag ∷ map decimal ns) (refl, decimals-plain ns),
         each-append Plain (inputLines 1 (s .inputs)) t0 (inputs-plain 1 (s .inputs))
-        (each-append Plain (latchLines (suc (length (s .inputs))) (s .latches)) t1 (latches-plain (suc (length (s .inputs))) (s .latches))
-        (each-append Plain (literalLines (s .outputs)) t2 (literals (s .outputs))
-        (each-append Plain (literalLines (s .bads)) t3 (literals (s .bads))
-        (each-append Plain (literalLines (s .constraints)) t4 (literals (s .constraints))
-        (each-append Plain (gateLines (s .gates)) t5 gates tail-plain))))),
+            (each-append Plain (latchLines (suc (length (s .inputs))) (s .latches)) t1 (latches-plain (suc (length (s .inputs))) (s .latches))
+            (each-append Plain (literalLines (s .outputs)) t2 (literals (s .outputs))
+            (each-append Plain (literalLines (s .bads)) t3 (literals (s .bads))
+            (each-append Plain (literalLines (s .constraints)) t4 (literals (s .constraints))
+            (each-append Plain (gateLines (s .gates)) t5 gates tail-plain))))),
       )

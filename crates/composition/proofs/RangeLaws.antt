@@ -2,7 +2,7 @@
 use Prim.Native.Nat.{ℕ, suc, _+_, _*_, _≤_}
 use mathlib.Core.Bool.{Bool, true}
 use mathlib.Core.List.{List, [], _∷_}
-use mathlib.Core.Path.{_≡_, ap, subst}
+use mathlib.Core.Path.{_≡_, subst}
 use native.Mathlib.Omega.{arith}
 use lib.ListN.{length}
 use borrow.Author.Tests.{eqb-true}
@@ -40,9 +40,11 @@ pub record InRange (s : Sections) : Type 0 where
   pub bads : Each (Within (variables s)) (s .bads)
   pub constraints : Each (Within (variables s)) (s .constraints)
 
+-- literals that the reader's test passes are in range
 literals-within : (m : ℕ) (ls : List ℕ) → all (literal m) ls ≡ true → Each (Within m) ls
 literals-within m ls h = each-so (λ l. literal m l ≡ true) (Within m) (literal-low m) ls (each-of-all (literal m) ls h)
 
+-- so a gate that it passes is one of its variable
 gate-at : (k : ℕ) (g : Gate) → gateNumbered k g ≡ true → GateAt k g
 unfolding gateNumbered
 gate-at k g h =
@@ -52,17 +54,18 @@ gate-at k g h =
     let v : variable (g .output) ≡ k = omega arith in
     record { output = e; left = rw v at (o .left); right = rw v at (o .right) }
 
+-- and all gates are
 gates-from : (k : ℕ) (gs : List Gate) → allFrom gateNumbered k gs ≡ true → GatesFrom k gs
 gates-from k [] h = tt
 gates-from k (g ∷ gs) h =
     (gate-at k g (and-left (gateNumbered k g) (allFrom gateNumbered (suc k) gs) h), gates-from (suc k) gs (and-right (gateNumbered k g) (allFrom gateNumbered (suc k) gs) h))
 
+-- the literals of latches that it passes are in range
 latches-within : (m k j : ℕ) (qs : List Latch) (ss : List Symbol) → allFrom (latchNumbered m) k qs ≡ true → Each (LatchWithin m) (namedLatches j qs ss)
 unfolding latchNumbered
 latches-within m k j [] ss h = tt
 latches-within m k j (q ∷ qs) ss h =
-    let f = every-facts (defines k (q .current) ∷ literal m (q .next) ∷ literal m (q .reset) ∷ []) (and-left (latchNumbered m k q) (allFrom (latchNumbered m) (suc k) qs) h) in
-    (
+    let f = every-facts (defines k (q .current) ∷ literal m (q .next) ∷ literal m (q .reset) ∷ []) (and-left (latchNumbered m k q) (allFrom (latchNumbered m) (suc k) qs) h) in (
       (literal-low m (q .next) (f .1 .0), literal-low m (q .reset) (f .1 .1 .0)),
       latches-within m (suc k) (suc j) qs ss (and-right (latchNumbered m k q) (allFrom (latchNumbered m) (suc k) qs) h),
     )

@@ -2,7 +2,7 @@
 use Prim.Native.Nat.{ℕ, zero, suc, _+_, _*_, _/_, _%_, _≤_, _<_}
 use mathlib.Core.Bool.{Bool, true, false, cond, _&&_, and-comm}
 use mathlib.Core.List.{List, [], _∷_, _++_}
-use mathlib.Core.Path.{_≡_, refl, sym, ap, ap₂, _∙_}
+use mathlib.Core.Path.{_≡_, refl, sym, ap₂, _∙_}
 use native.Mathlib.Nat.{add-zero, add-suc, suc-add}
 use native.Mathlib.Omega.{arith}
 use lib.Dec.{leb, eqb}
@@ -28,6 +28,7 @@ translate-variable vars l = half (getD vars (variable l) 0)
     half : (y : ℕ) → (2 * y + l % 2) / 2 ≡ y
     half y = omega arith
 
+-- the sign is kept
 translate-sign : (vars : List ℕ) (l : ℕ) → translate vars l % 2 ≡ l % 2
 translate-sign vars l = half (getD vars (variable l) 0)
   where
@@ -78,12 +79,14 @@ Low m vars = (i : ℕ) → getD vars i 0 < m
 pub low-more : (k m : ℕ) (vars : List ℕ) → k ≤ m → Low k vars → Low m vars
 low-more k m vars h l i = omega (arith, l i)
 
+-- one variable more that is below m
 low-snoc : (m : ℕ) (vars : List ℕ) (y : ℕ) → Low m vars → y < m → Low m (vars ++ (y ∷ []))
 low-snoc m [] y l h zero = h
 low-snoc m [] y l h (suc i) = l 0
 low-snoc m (x ∷ xs) y l h zero = l 0
 low-snoc m (x ∷ xs) y l h (suc i) = low-snoc m xs y (λ j. l (suc j)) h i
 
+-- translated operands are below m where the variables are
 translated-under : (m : ℕ) (vars : List ℕ) (g : Gate) → Low m vars → Under m (translated vars g)
 translated-under m vars g l = go (leb (translate vars (g .left)) (translate vars (g .right)))
   where
@@ -93,14 +96,17 @@ translated-under m vars g l = go (leb (translate vars (g .left)) (translate vars
     b : variable (translate vars (g .right)) < m
     b = rw (translate-variable vars (g .right)) (l (variable (g .right)))
 
-    go : (q : Bool) → Under m (cond q (record { left = translate vars (g .left); right = translate vars (g .right) }) (record { left = translate vars (g .right); right = translate vars (g .left) }))
+    go : (q : Bool)
+        → Under m (cond q (record { left = translate vars (g .left); right = translate vars (g .right) }) (record { left = translate vars (g .right); right = translate vars (g .left) }))
     go true = (a, b)
     go false = (b, a)
 
+-- one gate more with smaller operands
 operands-snoc : (n : ℕ) (gs : List Operands) (g : Operands) → OperandsFrom n gs → Under (n + length gs) g → OperandsFrom n (gs ++ (g ∷ []))
 operands-snoc n [] g o u = let e : n + 0 ≡ n = omega arith in (rw e at u, tt)
 operands-snoc n (h ∷ hs) g o u = (o .0, operands-snoc (suc n) hs g (o .1) (rw (suc-add n (length hs), ← add-suc n (length hs)) u))
 
+-- likewise where it may be there already
 operands-joined : (n : ℕ) (gs : List Operands) (g : Operands) → OperandsFrom n gs → Under (n + length gs) g → OperandsFrom n (joined sameOperands g gs)
 operands-joined n gs g o u = go (any (sameOperands g) gs)
   where
@@ -128,6 +134,7 @@ pub record Sound (n : ℕ) (t : Shared) : Type 0 where
   pub low : Low (n + length (t .gates)) (t .vars)
   pub order : OperandsFrom n (t .gates)
 
+-- one gate keeps that
 sound-one : (n : ℕ) (g : Gate) (t : Shared) → Sound n t → Sound n (oneShared n g t)
 sound-one n g t s =
     let c : Operands = translated (t .vars) g in
@@ -190,6 +197,7 @@ gates-solved u n (g ∷ gs) e (suc p) h = rw (add-suc n p, ← suc-add n p) (gat
 abbrev pub Agrees : Valuation → Valuation → List ℕ → Type 0
 Agrees v u vars = (i : ℕ) → i < length vars → v i ≡ u (getD vars i 0)
 
+-- one variable more that agrees
 agrees-snoc : (v u : Valuation) (vars : List ℕ) (y : ℕ) → Agrees v u vars → v (length vars) ≡ u y → Agrees v u (vars ++ (y ∷ []))
 agrees-snoc v u vars y a e i h = go (eqb i (length vars)) refl
   where

@@ -72,9 +72,11 @@ record Extends (n : ℕ) (gs : List Gate) (v : Valuation) : Type 0 where
 abbrev but : ℕ → Bool → Valuation → Valuation
 but n b v x = cond (eqb x n) b (v x)
 
+-- below n they are v's
 but-same : (n : ℕ) (b : Bool) (v : Valuation) (x : ℕ) → x < n → but n b v x ≡ v x
 but-same n b v x h = rw (ne-eqb x n (λ e. omega arith))
 
+-- there are such values: each gate gets its own
 extend : (n : ℕ) (gs : List Gate) → GatesFrom n gs → (v : Valuation) → Extends n gs v
 extend n [] a v = record { values = v; conjunctions = tt; same = λ x h. refl }
 extend n (g ∷ gs) a v =

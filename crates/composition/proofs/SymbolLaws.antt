@@ -1,16 +1,15 @@
 -- Printed symbol lines read back: the symbols, the names of inputs and latches, and none named twice.
-use Prim.Native.Nat.{ℕ, zero, suc, _+_, _^_, _≤_, _<_}
-use mathlib.Core.Bool.{Bool, true, false, _&&_}
-use mathlib.Core.List.{List, [], _∷_, _++_, map}
+use Prim.Native.Nat.{ℕ, suc, _+_, _^_, _≤_, _<_}
+use mathlib.Core.Bool.{Bool, true, false}
+use mathlib.Core.List.{List, [], _∷_, _++_}
 use mathlib.Core.Option.{Option, some, none}
 use mathlib.Core.Path.{_≡_, refl, ap, ap₂, _∙_}
-use native.Mathlib.Nat.{add-zero, add-suc, suc-add}
 use native.Mathlib.Omega.{arith}
-use lib.Dec.{ltb, eqb}
-use lib.ListN.{length, take, drop, length-append}
+use lib.Dec.{eqb}
+use lib.ListN.{length, drop, length-append}
 use lib.Seq.{take-append-seam, drop-append-add}
 use borrow.Author.Tests.{lt-ltb, eq-eqb, ne-eqb}
-use Rattle.lists.specs.Answer.{Answer, got}
+use Rattle.lists.specs.Answer.{got}
 use Rattle.lists.specs.Parts.{Bytes}
 use Rattle.lists.specs.Sets.{member, distinct}
 use Rattle.lists.specs.Tests.{all}
@@ -23,16 +22,17 @@ use Rattle.decimal.proofs.ReadLaws.{decimal-read}
 use Rattle.witness_text.specs.declared.AagCounts.{AagCounts}
 use Rattle.witness_text.specs.declared.Kind.{Kind}
 use Rattle.witness_text.specs.Symbols.{Symbol, kindOf, countOf, symbolFrom, notSpace, beforeSpace, symbolOf}
-use Rattle.witness.specs.Sections.{NamedLatch}
 use Rattle.witness.specs.Names.{Tail, tailOf, indicesOf, nameOf}
 use Rattle.composition.specs.Printing.{symbolLine, symbolLines}
 
 -- ---- one line
 
+-- bytes that pass a test, up to one that does not
 span-stops : (p : ℕ → Bool) (front : Bytes) (b : ℕ) (rest : Bytes) → all p front ≡ true → p b ≡ false → span p (front ++ b ∷ rest) ≡ length front
 span-stops p [] b rest h e = rw e
 span-stops p (x ∷ front) b rest h e = rw (and-left (p x) (all p front) h) (ap suc (span-stops p front b rest (and-right (p x) (all p front) h) e))
 
+-- digits are no byte 32
 decimal-no-space : (k : ℕ) → all notSpace (decimal k) ≡ true
 decimal-no-space = decimal-all notSpace (λ b h k. rw (ne-eqb b 32 (λ e. omega arith)))
 
@@ -85,6 +85,7 @@ module _ (is : Kind → Bool) (kd : Kind) where
   name-of-other e k j (some x ∷ xs) rest = rw e (name-of-other e k (suc j) xs rest)
 
   module _ (e : is kd ≡ true) where
+    -- none of them has an index below the first
     name-below : (k j : ℕ) (xs : List (Option Bytes)) (rest : List Symbol) → k < j → nameOf is k (symbolsFrom kd j xs ++ rest) ≡ nameOf is k rest
     name-below k j [] rest h = refl
     name-below k j (none ∷ xs) rest h = name-below k (suc j) xs rest (omega arith)
@@ -92,27 +93,33 @@ module _ (is : Kind → Bool) (kd : Kind) where
 
     -- those of this kind name what was printed
     module _ (rest : List Symbol) (r : (k : ℕ) → nameOf is k rest ≡ none) where
+      -- the first
       pub name-first : (j : ℕ) (x : Option Bytes) (xs : List (Option Bytes)) → nameOf is j (symbolsFrom kd j (x ∷ xs) ++ rest) ≡ x
       name-first j none xs = name-below j (suc j) xs rest (omega arith) ∙ r j
       name-first j (some x) xs = rw (e, eq-eqb j j refl)
 
-      pub name-later : (k j : ℕ) (x : Option Bytes) (xs : List (Option Bytes)) → j < k → nameOf is k (symbolsFrom kd j (x ∷ xs) ++ rest) ≡ nameOf is k (symbolsFrom kd (suc j) xs ++ rest)
+      -- the others
+      pub name-later : (k j : ℕ) (x : Option Bytes) (xs : List (Option Bytes)) → j < k
+          → nameOf is k (symbolsFrom kd j (x ∷ xs) ++ rest) ≡ nameOf is k (symbolsFrom kd (suc j) xs ++ rest)
       name-later k j none xs h = refl
       name-later k j (some x) xs h = rw (e, ne-eqb k j (λ q. omega arith))
 
   -- ---- none is named twice
 
+  -- symbols of another kind have no index of this one
   pub indices-of-other : is kd ≡ false → (j : ℕ) (xs : List (Option Bytes)) (rest : List Symbol) → indicesOf is (symbolsFrom kd j xs ++ rest) ≡ indicesOf is rest
   indices-of-other e j [] rest = refl
   indices-of-other e j (none ∷ xs) rest = indices-of-other e (suc j) xs rest
   indices-of-other e j (some x ∷ xs) rest = rw e (indices-of-other e (suc j) xs rest)
 
   module _ (e : is kd ≡ true) (rest : List Symbol) (r : indicesOf is rest ≡ []) where
+    -- none of them has an index below the first
     index-new : (k j : ℕ) (xs : List (Option Bytes)) → k < j → member k (indicesOf is (symbolsFrom kd j xs ++ rest)) ≡ false
     index-new k j [] h = rw r
     index-new k j (none ∷ xs) h = index-new k (suc j) xs (omega arith)
     index-new k j (some x ∷ xs) h = rw (e, ne-eqb k j (λ q. omega arith)) (index-new k (suc j) xs (omega arith))
 
+    -- those of this kind have different ones
     pub indices-once : (j : ℕ) (xs : List (Option Bytes)) → distinct (indicesOf is (symbolsFrom kd j xs ++ rest)) ≡ true
     indices-once j [] = rw r
     indices-once j (none ∷ xs) = indices-once (suc j) xs

@@ -1,9 +1,9 @@
 -- The composed gates of all witnesses, and each witness with the composed variables of all its variables.
-use Prim.Native.Nat.{ℕ, zero, suc, _+_, _≤_, _<_}
+use Prim.Native.Nat.{ℕ, zero, suc, _+_, _≤_}
 use mathlib.Core.List.{List, [], _∷_, map}
 use mathlib.Core.Path.{_≡_, refl, sym, _∙_}
 use native.Mathlib.Omega.{arith}
-use lib.ListN.{length, getD}
+use lib.ListN.{length}
 use Rattle.lists.specs.Tests.{Each}
 use Rattle.lists.proofs.FirstLaws.{Begins, begins-self, begins-then, begins-length}
 use Rattle.aiger.specs.Gates.{Valuation, Follows}
@@ -11,7 +11,7 @@ use Rattle.witness.specs.Sections.{variables}
 use Rattle.composition.specs.Numbering.{Placed}
 use Rattle.composition.specs.Sharing.{Operands, Shared, shareWitness, gatesAfter, wholeAfter, gatesFrom}
 use Rattle.composition.specs.Meaning.{Valued, Takes}
-use Rattle.composition.proofs.ShareLaws.{OperandsFrom, Low, low-more, Sound, sound-shared, GoesOn, shared-goes, Solves, gates-solved, Agrees, shared-values}
+use Rattle.composition.proofs.ShareLaws.{OperandsFrom, Low, low-more, Sound, sound-shared, shared-goes, gates-solved, Agrees, shared-values}
 use Rattle.composition.proofs.PlacedLaws.{Seated, seated-low}
 use Rattle.composition.proofs.RangeLaws.{InRange}
 
@@ -31,9 +31,11 @@ module _ (I L : ℕ) where
   abbrev first : ℕ
   first = suc (I + L)
 
+  -- the variables of a seated witness are sound
   before-sound : (p : Placed) (cs : List Operands) → Seated I L p → OperandsFrom first cs → Sound first (before p cs)
   before-sound p cs s o = record { low = low-more first (first + length cs) (p .vars) (omega arith) (seated-low I L p s); order = o }
 
+  -- and stay so with its gates
   witness-sound : (p : Placed) (cs : List Operands) → Seated I L p → OperandsFrom first cs → Sound first (shareWitness first p cs)
   witness-sound p cs s o = sound-shared first (p .sections .gates) (before p cs) (before-sound p cs s o)
 
@@ -76,10 +78,12 @@ pub record Ready (u : Valuation) (I L : ℕ) (x : Valued) : Type 0 where
   pub takes : Takes u x
 
 module _ (I L : ℕ) (u : Valuation) (fs : List Operands) (f : Follows (gatesFrom (first I L) fs) u) where
+  -- inputs and latches have the values of their composed variables
   leaves-agree : (x : Valued) → Ready u I L x → Agrees (x .values) u (x .placed .vars)
   leaves-agree x r zero h = r .takes .follows .constant ∙ sym (rw (r .seated .constant) (f .constant))
   leaves-agree x r (suc i) h = r .takes .same i (omega (arith, r .seated .long))
 
+  -- so have all variables of a witness
   match-one : (x : Valued) (cs : List Operands) → Ready u I L x → Begins (shareWitness (first I L) (x .placed) cs .gates) fs
       → Matched u x (record { sections = x .placed .sections; vars = shareWitness (first I L) (x .placed) cs .vars })
   match-one x cs r b =
