@@ -52,9 +52,8 @@ pub record Printable (s : Sections) : Type 0 where
 
 -- ---- names
 
--- symbols that give the numbers from j on the same names
 module _ (is : Kind → Bool) (ss ts : List Symbol) where
-  -- they give the same names
+  -- two lists of symbols that name the numbers from j on alike give the same names
   names-same : (j n : ℕ) → ((k : ℕ) → j ≤ k → nameOf is k ss ≡ nameOf is k ts) → namesOf is j n ss ≡ namesOf is j n ts
   names-same j zero h = refl
   names-same j (suc n) h = ap₂ (λ (x : Option Bytes) (xs : List (Option Bytes)). x ∷ xs) (h j (omega arith)) (names-same (suc j) n (λ k l. h k (omega arith)))
@@ -82,11 +81,11 @@ evens-length x [] = refl
 evens-length x (i ∷ is) = ap suc (evens-length (suc x) is)
 
 module _ (s : Sections) where
-  -- the symbols that are printed: those of the latches behind those of the inputs
+  -- the symbols of latches
   abbrev latchSymbols : List Symbol
   latchSymbols = symbolsFrom Latch 0 (latchNames s) ++ []
 
-  -- both
+  -- the symbols of inputs and latches
   abbrev symbolsIn : List Symbol
   symbolsIn = symbolsFrom Input 0 (s .inputs) ++ latchSymbols
 

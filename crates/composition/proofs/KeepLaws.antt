@@ -28,12 +28,12 @@ use Rattle.composition.proofs.WholeLaws.{Matched, Both, Ready}
 
 -- tests that agree on each element agree on the list
 module _ {A : Type 0} (f g : A → Bool) where
-  -- some passes
+  -- where some element is asked for
   any-each : (xs : List A) → Each (λ x. f x ≡ g x) xs → any f xs ≡ any g xs
   any-each [] e = refl
   any-each (x ∷ xs) e = rw (e .0, any-each xs (e .1))
 
-  -- all pass
+  -- where all are
   all-each : (xs : List A) → Each (λ x. f x ≡ g x) xs → all f xs ≡ all g xs
   all-each [] e = refl
   all-each (x ∷ xs) e = rw (e .0, all-each xs (e .1))

@@ -23,14 +23,15 @@ use Rattle.composition.proofs.WholeLaws.{after-order, Matched, Both, Re
 use Rattle.composition.proofs.KeepLaws.{bads-kept, constraints-kept, composed-latches-length, composed-latch-at, Agreed, all-latches-kept}
 
 module _ (m : Sections) (ws : List Sections) where
-  -- how many inputs and latches the composition has
+  -- how many inputs the composition has
   abbrev I : ℕ
   I = length (inputFirsts m ws)
 
+  -- how many latches
   abbrev L : ℕ
   L = length (latchFirsts m ws)
 
-  -- its sections have so many
+  -- its sections have so many inputs
   pub composed-inputs : length (composed m ws .inputs) ≡ I
   composed-inputs = length-map (inputFirsts m ws) (λ e. some (e .name))
 
@@ -42,11 +43,11 @@ module _ (m : Sections) (ws : List Sections) where
   pub composed-leaves : leaves (composed m ws) ≡ leafCount m ws
   composed-leaves = rw (composed-inputs, composed-latches)
 
-  -- its gates come one after the other, with smaller operands
+  -- the operands of its gates have smaller variables
   pub composed-order : OperandsFrom (suc (leafCount m ws)) (composedGates m ws)
   composed-order = after-order I L (placed m ws) [] (placed-seated m ws) tt
 
-  -- so the sections have their gates
+  -- so the gates of its sections come one after the other with smaller operands
   pub composed-gates : GatesFrom (suc (leaves (composed m ws))) (composed m ws .gates)
   composed-gates = rw composed-leaves (operands-gates (suc (leafCount m ws)) (composedGates m ws) composed-order)
 
@@ -67,7 +68,7 @@ module _ (m : Sections) (ws : List Sections) where
     witnesses-solved u = each-so (λ p. InRange (p .sections)) (λ p. Solution (p .sections) (given u p)) (λ p h. sections-solved (p .sections) (h .gates) (given u p)) (placed m ws) placed-range
 
     module _ (u : Valuation) (xs : List Valued) (e : map (λ x. x .placed) xs ≡ placed m ws) where
-      -- each witness has what its values ask for
+      -- each witness with values is seated, in range and takes these values
       all-ready : Each (Takes u) xs → Each (Ready u I L) xs
       all-ready t =
           let seats : Each (λ x. Seated I L (x .placed)) xs = each-of-map (λ x. x .placed) (Seated I L) xs (rw e (placed-seated m ws)) in

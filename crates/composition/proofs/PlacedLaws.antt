@@ -92,11 +92,11 @@ pub entries-length : (p : ModelLeaves) (unnamed : Bytes) (w : ℕ) (named : Bool
 entries-length p unnamed w named k [] = refl
 entries-length p unnamed w named k (x ∷ xs) = ap suc (entries-length p unnamed w named (suc k) xs)
 
--- so many inputs a witness has, and so many latches
+-- a witness has as many entries of inputs as inputs
 pub inputs-in-length : (m : Sections) (w : ℕ) (s : Sections) → length (inputsIn m w s) ≡ length (s .inputs)
 inputs-in-length m w s = entries-length (modelInputs m) private-input w (mapsByName s) 0 (s .inputs)
 
--- and so many latches
+-- and as many of latches as latches
 pub latches-in-length : (m : Sections) (w : ℕ) (s : Sections) → length (latchesIn m w s) ≡ length (s .latches)
 latches-in-length m w s = entries-length (modelLatches m) private-latch w (mapsByName s) 0 (latchNames s) ∙ length-map (s .latches) (λ q. q .name)
 
@@ -108,12 +108,12 @@ pub record Seated (I L : ℕ) (p : Placed) : Type 0 where
   pub latch : (x : ℕ) → length (p .sections .inputs) < x → x < length (p .vars) → Spot (p .vars) x (suc I) L
 
 module _ (fs bs : List ℕ) where
-  -- the first variables behind the constant
+  -- variables in the first part stand behind the constant
   in-front : (x : ℕ) → 0 < x → x ≤ length fs → getD (0 ∷ (fs ++ bs)) x 0 ≡ getD fs (x - 1) 0
   in-front zero h k = absurd (omega arith)
   in-front (suc x) h k = let e : suc x - 1 ≡ x = omega arith in rw e (List·getD-append fs bs 0 x (omega arith))
 
-  -- those after them
+  -- those of the second part stand behind the first
   behind : (x : ℕ) → length fs < x → getD (0 ∷ (fs ++ bs)) x 0 ≡ getD bs (x - suc (length fs)) 0
   behind zero h = absurd (omega arith)
   behind (suc x) h =
@@ -172,7 +172,7 @@ placed-everyone m ws = everyone m (inputFirsts m ws) (latchFirsts m ws) 0 ws
 
 -- all composed variables of a seated witness are inputs, latches or the constant
 module _ (I L : ℕ) (p : Placed) (s : Seated I L p) where
-  -- an input or a latch
+  -- an input's or a latch's composed variable is below the first gate's
   by-kind : (x : ℕ) → 0 < x → x < length (p .vars) → (t : Bool) → ltb (length (p .sections .inputs)) x ≡ t → getD (p .vars) x 0 < suc (I + L)
   by-kind x h k true e =
       let r = s .latch x (ltb-true (length (p .sections .inputs)) x e) k in
@@ -181,12 +181,12 @@ module _ (I L : ℕ) (p : Placed) (s : Seated I L p) where
       let r = s .input x h (ltb-false (length (p .sections .inputs)) x e) in
       omega (arith, r .is, r .there)
 
-  -- the constant too, and whatever is asked for past the end
+  -- so is the constant's, and what is read past the end
   by-place : (x : ℕ) → (b : Bool) → ltb x (length (p .vars)) ≡ b → getD (p .vars) x 0 < suc (I + L)
   by-place zero b e = rw (s .constant) (omega arith)
   by-place (suc x) true e = by-kind (suc x) (omega arith) (ltb-true (suc x) (length (p .vars)) e) (ltb (length (p .sections .inputs)) (suc x)) refl
   by-place (suc x) false e = rw (List·getD-eq-default (p .vars) 0 {n = suc x} (ltb-false (suc x) (length (p .vars)) e)) (omega arith)
 
-  -- they are below the first composed gate's
+  -- each is below the first composed gate's
   pub seated-low : Low (suc (I + L)) (p .vars)
   seated-low x = by-place x (ltb x (length (p .vars))) refl

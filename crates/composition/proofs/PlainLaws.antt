@@ -38,17 +38,17 @@ numbers-plain ns = spaced-all plain refl (map decimal ns) (decimals-plain ns)
 
 -- ---- the lines of each section
 
--- of inputs
+-- the lines of inputs are plain
 inputs-plain : {A : Type 0} (x : ℕ) (is : List A) → Each Plain (inputLines x is)
 inputs-plain x [] = tt
 inputs-plain x (i ∷ is) = (numbers-plain (2 * x ∷ []), inputs-plain (suc x) is)
 
--- of latches
+-- so are those of latches
 latches-plain : (x : ℕ) (qs : List NamedLatch) → Each Plain (latchLines x qs)
 latches-plain x [] = tt
 latches-plain x (q ∷ qs) = (numbers-plain (2 * x ∷ q .next ∷ q .reset ∷ []), latches-plain (suc x) qs)
 
--- of symbols, where their names are plain
+-- and those of symbols, where their names are
 symbols-plain : (byte : ℕ) → plain byte ≡ true → (k : ℕ) (xs : List (Option Bytes)) → Each PlainName xs → Each Plain (symbolLines byte k xs)
 symbols-plain byte h k [] e = tt
 symbols-plain byte h k (none ∷ xs) e = symbols-plain byte h (suc k) xs (e .1)
@@ -58,7 +58,7 @@ symbols-plain byte h k (some x ∷ xs) e = (
 )
 
 module _ (s : Sections) (i : Each PlainName (s .inputs)) (l : Each PlainName (latchNames s)) where
-  -- all lines after the gates
+  -- and all lines after the gates
   tail-plain : Each Plain (tailLines s)
   tail-plain =
       let cs : List Bytes = (99 ∷ []) ∷ closing ∷ [] in

@@ -147,14 +147,14 @@ entries-plain : (p : ModelLeaves) (unnamed : Bytes) → Plain unnamed → (w : �
 entries-plain p unnamed u w named k [] e = tt
 entries-plain p unnamed u w named k (x ∷ xs) e = (entry-plain unnamed u w k x (e .0) (mappingOf p named k x), entries-plain p unnamed u w named (suc k) xs (e .1))
 
--- of all inputs
+-- so are those of all witnesses' inputs
 inputs-plain : (m : Sections) (w : ℕ) (ws : List Sections) → Each Granted ws → Each Named (inputEntries m w ws)
 inputs-plain m w [] g = tt
 inputs-plain m w (s ∷ ss) g =
     each-append Named (inputsIn m w s) (inputEntries m (suc w) ss) (entries-plain (modelInputs m) private-input refl w (mapsByName s) 0 (s .inputs) (g .0 .inputNames))
     (inputs-plain m (suc w) ss (g .1))
 
--- of all latches
+-- and of all their latches
 latches-plain : (m : Sections) (w : ℕ) (ws : List Sections) → Each Granted ws → Each Named (latchEntries m w ws)
 latches-plain m w [] g = tt
 latches-plain m w (s ∷ ss) g =

@@ -93,12 +93,12 @@ module _ (is : Kind → Bool) (kd : Kind) where
 
     -- those of this kind name what was printed
     module _ (rest : List Symbol) (r : (k : ℕ) → nameOf is k rest ≡ none) where
-      -- the first
+      -- the first name
       pub name-first : (j : ℕ) (x : Option Bytes) (xs : List (Option Bytes)) → nameOf is j (symbolsFrom kd j (x ∷ xs) ++ rest) ≡ x
       name-first j none xs = name-below j (suc j) xs rest (omega arith) ∙ r j
       name-first j (some x) xs = rw (e, eq-eqb j j refl)
 
-      -- the others
+      -- the names after it
       pub name-later : (k j : ℕ) (x : Option Bytes) (xs : List (Option Bytes)) → j < k
           → nameOf is k (symbolsFrom kd j (x ∷ xs) ++ rest) ≡ nameOf is k (symbolsFrom kd (suc j) xs ++ rest)
       name-later k j none xs h = refl
