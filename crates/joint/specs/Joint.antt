@@ -67,13 +67,21 @@ shiftOf i q b s =
       «by_gate» = i + q + b .gates - leaves s;
     }
 
--- a list of literals of each witness, as joint literals
-abbrev pub jointFrom : (Sections → List ℕ) → ℕ → ℕ → Before → List Sections → List ℕ
-jointFrom list i q b [] = []
-jointFrom list i q b (s ∷ ss) = map (shiftedLiteral (shiftOf i q b s)) (list s) ++ jointFrom list i q (beyond b s) ss
+-- words of each witness, one list after the other; w counts the witnesses before, and b what they have
+abbrev pub gatheredFrom : (ℕ → Before → Sections → List ℕ) → ℕ → Before → List Sections → List ℕ
+gatheredFrom words w b [] = []
+gatheredFrom words w b (s ∷ ss) = words w b s ++ gatheredFrom words (suc w) (beyond b s) ss
 
+abbrev pub gathered : (ℕ → Before → Sections → List ℕ) → List Sections → List ℕ
+gathered words ws = gatheredFrom words 0 nothingBefore ws
+
+-- a list of literals of a witness as joint literals, where there are i inputs and q latches in all
+abbrev pub jointLiterals : (Sections → List ℕ) → ℕ → ℕ → ℕ → Before → Sections → List ℕ
+jointLiterals list i q w b s = map (shiftedLiteral (shiftOf i q b s)) (list s)
+
+-- those of all witnesses
 abbrev pub joint : (Sections → List ℕ) → List Sections → List ℕ
-joint list ws = jointFrom list (totalOf inputCount ws) (totalOf latchCount ws) nothingBefore ws
+joint list ws = gathered (jointLiterals list (totalOf inputCount ws) (totalOf latchCount ws)) ws
 
 abbrev pub listOf : Literals → Sections → List ℕ
 listOf literals.Latches s = wordsOf latchWords (s .latches)
@@ -102,12 +110,10 @@ abbrev pub originsFrom : ModelLeaves → ℕ → Bool → ℕ → List (Option B
 originsFrom p w named k [] = []
 originsFrom p w named k (name ∷ names) = originWord w (mappingOf p named k name) ∷ originsFrom p w named (suc k) names
 
--- those of all witnesses; the first has the index w
-abbrev pub jointOrigins : Leaves → Sections → ℕ → List Sections → List ℕ
-jointOrigins leaf m w [] = []
-jointOrigins leaf m w (s ∷ ss) = originsFrom (modelOf leaf m) w (mapsByName s) 0 (namesOf leaf s) ++ jointOrigins leaf m (suc w) ss
+-- those of witness w
+abbrev pub jointOrigins : Leaves → Sections → ℕ → Before → Sections → List ℕ
+jointOrigins leaf m w b s = originsFrom (modelOf leaf m) w (mapsByName s) 0 (namesOf leaf s)
 
--- and their names
-abbrev pub jointNames : Leaves → List Sections → List (Option Bytes)
-jointNames leaf [] = []
-jointNames leaf (s ∷ ss) = namesOf leaf s ++ jointNames leaf ss
+-- those of all witnesses
+abbrev pub origins : Leaves → Sections → List Sections → List ℕ
+origins leaf m ws = gathered (jointOrigins leaf m) ws

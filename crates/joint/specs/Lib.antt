@@ -1,2 +1,3 @@
 -- All witnesses side by side, as one circuit.
 pub mod Joint
+pub mod Numbers

@@ -1,7 +1,7 @@
 -- Laws of `part`, `put` and `front`, and `Grown`: a lent list that is written from its front on.
 use Prim.Native.Nat.{ℕ, zero, suc, _+_, _-_, _≤_, _<_, min}
 use mathlib.Core.Path.{_≡_, refl, sym, ap, _∙_}
-use mathlib.Core.List.{List, [], _∷_, _++_, append-assoc}
+use mathlib.Core.List.{List, [], _∷_, _++_, append-assoc, append-nil}
 use native.Mathlib.Nat.{add-zero, zero-add, add-assoc, sub-zero}
 use native.Mathlib.Numerals.{add-one, add-two}
 use native.Mathlib.Omega.{arith}
@@ -236,3 +236,18 @@ module _ {A : Type 0} (s : List A) (a e : ℕ) where
 
   pub cut-some : (r t : List A) → t ≡ part s a (length s) → r ≡ take (e - a) t → r ≡ part s a e
   cut-some r t k q = q ∙ ap (take (e - a)) (k ∙ part-drop s a)
+
+-- the part `&mut w[at..]`: what is lent, and what stands there when it is given back
+module _ {A : Type 0} (w : List A) (at : ℕ) where
+  pub tail-lent : take (length w - at) (drop at w) ≡ drop at w
+  tail-lent = take-all (length w - at) (drop at w) (omega (arith, length-drop at w))
+
+  module _ (last : List A) (h : at ≤ length w) where
+    rest-none : last ++ drop (length w - at) (drop at w) ≡ last
+    rest-none = rw (drop-of-length-le (drop at w) {i = length w - at} (omega (arith, length-drop at w))) (append-nil last)
+
+    pub tail-front : take at (take at w ++ (last ++ drop (length w - at) (drop at w))) ≡ take at w
+    tail-front = take-at (take at w) (last ++ drop (length w - at) (drop at w)) at (length-take-le at w h)
+
+    pub tail-back : drop at (take at w ++ (last ++ drop (length w - at) (drop at w))) ≡ last
+    tail-back = drop-at (take at w) (last ++ drop (length w - at) (drop at w)) at (length-take-le at w h) ∙ rest-none
