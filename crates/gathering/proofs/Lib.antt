@@ -1,0 +1,8 @@
+-- Laws of gathering.
+pub mod TextLaws
+pub mod CheckLaws
+pub mod BlockLaws
+pub mod ShiftLaws
+pub mod GatherLaws
+pub mod LiteralLaws
+pub mod TurnLaws

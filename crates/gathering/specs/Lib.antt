@@ -1,0 +1,3 @@
+-- The witnesses checked, loaded, and gathered into joint lists.
+pub mod Checking
+pub mod Gathered
