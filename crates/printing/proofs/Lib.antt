@@ -1,0 +1,4 @@
+-- Laws of printed texts and of sets, laws for the functions' proofs, and worked examples.
+pub mod PrintsLaws
+pub mod WriteLaws
+pub mod LineLaws

@@ -1,0 +1,68 @@
+use native.Mathlib.Omega.{arith}
+use Rattle.printing.proofs.PrintsLaws.{prints-measured, prints-put}
+use Rattle.printing.proofs.WriteLaws.{line-length}
+use borrow.Author.Needs.{needs}
+use Rattle.printing.proofs.print_literal_line.Statement.{statement}
+use Rattle.printing.proofs.print_literal_line.Tie as tie
+use Rattle.printing.proofs.print_literal_line.Reads as reads
+use Rattle.printing.proofs.print_literal_line.Lts as lts
+use Rattle.printing.proofs.advance.Reads as advance-reads
+use Rattle.printing.proofs.digit_count.Reads as digit-count-reads
+use Rattle.printing.proofs.write_field.Reads as write-field-reads
+
+digit-count-requires : tie.Need-digit-count-requires
+digit-count-requires c κs = search needs
+
+add-advance : tie.Need-add-advance
+add-advance c = search needs
+
+advance-requires : tie.Need-advance-requires
+advance-requires c κs = search needs
+
+returns : tie.Need-returns
+returns c = prints-measured _ _ _ _ (line-length _ _ (c .before .before .digit-count .ensures .0)) _ (omega arith) (search needs)
+
+sub-if2 : tie.Need-sub-if2
+sub-if2 c = search needs
+
+add-advance-2 : tie.Need-add-advance-2
+add-advance-2 c = search needs
+
+advance-requires-2 : tie.Need-advance-requires-2
+advance-requires-2 c κs = search needs
+
+returns-2 : tie.Need-returns-2
+returns-2 c = prints-measured _ _ _ _ (line-length _ _ (c .before .before .before .digit-count .ensures .0)) _ (omega arith) (search needs)
+
+write-field-requires : tie.Need-write-field-requires
+write-field-requires c κs = search needs
+
+add-result : tie.Need-add-result
+add-result c = search needs
+
+add-result-2 : tie.Need-add-result-2
+add-result-2 c = search needs
+
+same-length : tie.Need-same-length
+same-length c = search needs
+
+returns-3 : tie.Need-returns-3
+returns-3 c = prints-put _ _ _ _ (line-length _ _ (search needs)) _ (omega arith) (search needs)
+
+pub print-literal-line-spec : {M : Type 1} → statement M
+print-literal-line-spec =
+    tie.close
+    (tie.spec
+    digit-count-requires
+    add-advance
+    advance-requires
+    returns
+    sub-if2
+    add-advance-2
+    advance-requires-2
+    returns-2
+    write-field-requires
+    add-result
+    add-result-2
+    same-length
+    returns-3)

@@ -1,0 +1,55 @@
+use native.Mathlib.Omega.{arith}
+use Rattle.printing.proofs.PrintsLaws.{prints-measured, prints-put}
+use borrow.Author.Needs.{needs}
+use Rattle.printing.proofs.print_number.Statement.{statement}
+use Rattle.printing.proofs.print_number.Tie as tie
+use Rattle.printing.proofs.print_number.Reads as reads
+use Rattle.printing.proofs.print_number.Lts as lts
+use Rattle.printing.proofs.advance.Reads as advance-reads
+use Rattle.printing.proofs.digit_count.Reads as digit-count-reads
+use Rattle.printing.proofs.write_digits.Reads as write-digits-reads
+
+digit-count-requires : tie.Need-digit-count-requires
+digit-count-requires c κs = search needs
+
+advance-requires : tie.Need-advance-requires
+advance-requires c κs = search needs
+
+returns : tie.Need-returns
+returns c = prints-measured _ _ _ _ (c .before .before .digit-count .ensures .0) _ (omega arith) (search needs)
+
+sub-if2 : tie.Need-sub-if2
+sub-if2 c = search needs
+
+advance-requires-2 : tie.Need-advance-requires-2
+advance-requires-2 c κs = search needs
+
+returns-2 : tie.Need-returns-2
+returns-2 c = prints-measured _ _ _ _ (c .before .before .before .digit-count .ensures .0) _ (omega arith) (search needs)
+
+write-digits-requires : tie.Need-write-digits-requires
+write-digits-requires c κs = search needs
+
+add-result : tie.Need-add-result
+add-result c = search needs
+
+same-length : tie.Need-same-length
+same-length c = search needs
+
+returns-3 : tie.Need-returns-3
+returns-3 c = prints-put _ _ _ _ (search needs) _ (omega arith) (search needs)
+
+pub print-number-spec : {M : Type 1} → statement M
+print-number-spec =
+    tie.close
+    (tie.spec
+    digit-count-requires
+    advance-requires
+    returns
+    sub-if2
+    advance-requires-2
+    returns-2
+    write-digits-requires
+    add-result
+    same-length
+    returns-3)

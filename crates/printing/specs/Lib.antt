@@ -1,0 +1,4 @@
+-- Texts printed into a lent buffer, or only measured, and sets of numbers as lists.
+pub mod Prints
+pub mod Lines
+pub mod Elements
