@@ -2,3 +2,5 @@
 pub mod PrintsLaws
 pub mod WriteLaws
 pub mod LineLaws
+pub mod SetLaws
+pub mod WordLaws

@@ -83,6 +83,10 @@ module _ (o₀ : Bytes) (at : ℕ) (all o : Bytes) (to : ℕ) (rest : Bytes) (p 
         same = k ∙ p .same;
       }
 
+  -- the same rest, written otherwise
+  pub printing-as : (rest′ : Bytes) → rest ≡ rest′ → Printing o₀ at all o to rest′
+  printing-as rest′ e = rw (← e) p
+
   pub printing-done : rest ≡ [] → Prints o₀ at all o to
   printing-done e =
       let whole : p .done ≡ all = sym (append-nil (p .done)) ∙ ap (λ (x : Bytes). p .done ++ x) (sym e) ∙ p .left in

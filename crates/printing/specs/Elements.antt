@@ -13,3 +13,7 @@ passing test k (suc n) = cond (test k) (k ∷ passing test (suc k) n) (passing t
 -- the numbers whose bits are set in the words, ascending
 unfoldable pub elements : List ℕ → List ℕ
 elements ws = passing (holds ws) 0 (64 * length ws)
+
+-- those of word j, for the contract of an inner function
+unfoldable pub elementsIn : List ℕ → ℕ → List ℕ
+elementsIn ws j = passing (holds ws) (64 * j) 64

@@ -8,7 +8,7 @@ ghost use Rattle.decimal.specs.Decimal.{decimal};
 ghost use Rattle.decimal.specs.Printed.{numberLine, textOf};
 ghost use Rattle.printing.specs.Prints.{capped, Prints};
 ghost use Rattle.printing.specs.Lines.{literalLines, literalsFrom, gateLines};
-ghost use Rattle.printing.specs.Elements.{elements};
+ghost use Rattle.printing.specs.Elements.{elements, elementsIn};
 use decimal::Written;
 
 // The place n bytes further on. Places that no word can hold are the largest word.
@@ -184,6 +184,46 @@ pub fn print_pairs(out: &mut [u8], at: usize, first: u64, words: &[u64]) -> usiz
         to = print_three(out, to, 2 * x, words[i], words[i + 1]);
         x += 1;
         i += 2;
+    }
+    to
+}
+
+// Prints a line for each bit that is set in word j; the numbers of its bits begin at 64 * j. Zeros are passed over eight at a time where they can be.
+fn print_word(out: &mut [u8], at: usize, words: &[u64], j: usize) -> usize
+    requires { ⌜ (j < length (now words)) × (64 * length (now words) < 2 ^ 64) ⌝ }
+    ensures { λ r. ⌜ Prints (now (out .entry)) at (textOf (literalLines (elementsIn (now (words .entry)) j))) (now (out .exit)) r ⌝ }
+{
+    let mut to = at;
+    let mut rest = words[j];
+    let mut k = (64 * j) as u64;
+    while 0 < rest {
+        if rest % 256 == 0 {
+            rest = rest / 256;
+            k += 8;
+            continue;
+        }
+        if rest % 2 == 0 {
+            rest = rest / 2;
+            k += 1;
+            continue;
+        }
+        to = print_literal_line(out, to, k);
+        rest = rest / 2;
+        k += 1;
+    }
+    to
+}
+
+// Prints a line for each number whose bit is set, ascending. A word that is 0 takes no turn of the inner loop.
+pub fn print_set(out: &mut [u8], at: usize, words: &[u64]) -> usize
+    requires { ⌜ 64 * length (now words) < 2 ^ 64 ⌝ }
+    ensures { λ r. ⌜ Prints (now (out .entry)) at (textOf (literalLines (elements (now (words .entry))))) (now (out .exit)) r ⌝ }
+{
+    let mut to = at;
+    let mut j = 0;
+    while j < words.len() {
+        to = print_word(out, to, words, j);
+        j += 1;
     }
     to
 }
