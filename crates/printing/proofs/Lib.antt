@@ -4,3 +4,4 @@ pub mod WriteLaws
 pub mod LineLaws
 pub mod SetLaws
 pub mod WordLaws
+pub mod Examples
