@@ -1,5 +1,6 @@
 -- Laws of printed texts and of sets, laws for the functions' proofs, and worked examples.
 pub mod PrintsLaws
+pub mod DigitPairLaws
 pub mod WriteLaws
 pub mod LineLaws
 pub mod SetLaws

@@ -37,16 +37,16 @@ last-of : (q t : ℕ) → t < 10 → (10 * q + t) % 10 ≡ t
 last-of q t h = omega arith
 
 module _ (o₀ : Bytes) (at n : ℕ) (o : Bytes) (left rest : ℕ) (w : Writing o₀ at n o left rest) where
-  pub writing-two : 2 ≤ left
-      → Writing o₀ at n (set (set o (at + (left - 1)) (48 + rest % 100 % 10)) (at + (left - 2)) (48 + rest % 100 / 10)) (left - 2) (rest / 100)
-  writing-two h =
+  pub writing-two : (two a b : ℕ) → 2 ≤ left → two ≡ rest % 100 → a ≡ 48 + two % 10 → b ≡ 48 + two / 10
+      → Writing o₀ at n (set (set o (at + (left - 1)) a) (at + (left - 2)) b) (left - 2) (rest / 100)
+  writing-two two a b h e f g =
       let low : rest % 100 % 10 ≡ rest % 10 = omega arith in
       let tens : rest / 10 ≡ 10 * (rest / 100) + rest % 100 / 10 = omega arith in
       let high : rest % 100 / 10 ≡ rest / 10 % 10 = sym (ap (λ (k : ℕ). k % 10) tens ∙ last-of (rest / 100) (rest % 100 / 10) (omega arith)) in
       let fewer : left - 2 ≡ left - 1 - 1 = omega arith in
       let less : rest / 100 ≡ rest / 10 / 10 = omega arith in
       let last : Bytes = set o (at + (left - 1)) (48 + rest % 10) in
-      rw (low, high, fewer, less)
+      rw (f, g, e, low, high, fewer, less)
       (writing-more o₀ at n last (left - 1) (rest / 10) (writing-more o₀ at n o left rest w (omega arith)) (omega arith))
 
   pub writing-first : left ≡ 1 → set o at (48 + rest % 10) ≡ put o₀ at (decimal n)

@@ -2,3 +2,4 @@
 pub mod Prints
 pub mod Lines
 pub mod Elements
+pub mod DigitPairs

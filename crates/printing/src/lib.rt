@@ -8,6 +8,7 @@ ghost use Rattle.decimal.specs.Decimal.{decimal};
 ghost use Rattle.decimal.specs.Printed.{numberLine, textOf};
 ghost use Rattle.printing.specs.Prints.{capped, Prints};
 ghost use Rattle.printing.specs.Lines.{literalLines, literalsFrom, gateLines};
+ghost use Rattle.printing.specs.DigitPairs.{digitPairs};
 ghost use Rattle.printing.specs.Elements.{elements, elementsIn};
 use decimal::Written;
 
@@ -172,20 +173,83 @@ pub fn print_consecutive(out: &mut [u8], at: usize, first: u64, count: usize) ->
     to
 }
 
-// Prints the lines of gates in a row; the words are their operands, two for each.
-pub fn print_pairs(out: &mut [u8], at: usize, first: u64, words: &[u64]) -> usize
-    requires { ⌜ 2 * (first + length (now words)) < 2 ^ 63 ⌝ }
+// Writes the digits of n as write_digits does; looking two digits up is quicker than dividing, where the table is at hand.
+fn look_up_digits(out: &mut [u8], at: usize, n: u64, size: usize, pairs: &[u8])
+    requires { ⌜ (size ≡ length (decimal n)) × ((at + size ≤ length (now out)) × (now pairs ≡ digitPairs)) ⌝ }
+    ensures { λ _. ⌜ now (out .exit) ≡ put (now (out .entry)) at (decimal n) ⌝ }
+{
+    let mut rest = n;
+    let mut left = size;
+    while 2 <= left {
+        let two = lists::index(rest % 100);
+        let high = pairs[2 * two];
+        let low = pairs[2 * two + 1];
+        out[at + (left - 1)] = low;
+        out[at + (left - 2)] = high;
+        left -= 2;
+        rest = rest / 100;
+    }
+    if left == 1 {
+        out[at] = 48 + (rest % 10) as u8;
+    }
+}
+
+// Writes the digits of n and a byte behind them.
+fn look_up_field(out: &mut [u8], at: usize, n: u64, size: usize, end: u8, pairs: &[u8])
+    requires { ⌜ (size ≡ length (decimal n)) × ((at + size < length (now out)) × (now pairs ≡ digitPairs)) ⌝ }
+    ensures { λ _. ⌜ now (out .exit) ≡ put (now (out .entry)) at (decimal n ++ (end ∷ [])) ⌝ }
+{
+    look_up_digits(out, at, n, size, pairs);
+    out[at + size] = end;
+}
+
+// Prints a line of three numbers, with the table of digits.
+fn look_up_three(out: &mut [u8], at: usize, x: u64, y: u64, z: u64, pairs: &[u8]) -> usize
+    requires { ⌜ now pairs ≡ digitPairs ⌝ }
+    ensures { λ r. ⌜ Prints (now (out .entry)) at (numberLine (x ∷ y ∷ z ∷ []) ++ 10 ∷ []) (now (out .exit)) r ⌝ }
+{
+    let first = digit_count(x);
+    let second = digit_count(y);
+    let third = digit_count(z);
+    let size = first + second + third + 3;
+    if out.len() < at {
+        return advance(at, size);
+    }
+    if out.len() - at < size {
+        return advance(at, size);
+    }
+    let middle = at + (first + 1);
+    let last = middle + (second + 1);
+    look_up_field(out, at, x, first, 32, pairs);
+    look_up_field(out, middle, y, second, 32, pairs);
+    look_up_field(out, last, z, third, 10, pairs);
+    at + size
+}
+
+// Prints the lines of gates in a row, with the table of digits.
+fn look_up_gates(out: &mut [u8], at: usize, first: u64, words: &[u64], pairs: &[u8]) -> usize
+    requires { ⌜ (2 * (first + length (now words)) < 2 ^ 63) × (now pairs ≡ digitPairs) ⌝ }
     ensures { λ r. ⌜ Prints (now (out .entry)) at (textOf (gateLines first (now (words .entry)))) (now (out .exit)) r ⌝ }
 {
     let mut to = at;
     let mut x = first;
     let mut i = 0;
     while i + 1 < words.len() {
-        to = print_three(out, to, 2 * x, words[i], words[i + 1]);
+        to = look_up_three(out, to, 2 * x, words[i], words[i + 1], pairs);
         x += 1;
         i += 2;
     }
     to
+}
+
+// Prints the lines of gates in a row; the words are their operands, two for each.
+pub fn print_pairs(out: &mut [u8], at: usize, first: u64, words: &[u64]) -> usize
+    requires { ⌜ 2 * (first + length (now words)) < 2 ^ 63 ⌝ }
+    ensures { λ r. ⌜ Prints (now (out .entry)) at (textOf (gateLines first (now (words .entry)))) (now (out .exit)) r ⌝ }
+{
+    let pairs =
+        b"00010203040506070809101112131415161718192021222324252627282930313233343536373839404142434445464748495051525354555657585960616263646566676869707172737475767778798081828384858687888990919293949596979899";
+    look_up_gates(out, at, first, words, pairs)
 }
 
 // Prints a line for each bit that is set in word j; the numbers of its bits begin at 64 * j. Zeros are passed over eight at a time where they can be.

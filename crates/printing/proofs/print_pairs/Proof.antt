@@ -1,91 +1,21 @@
-use Prim.Native.Nat.{_+_, _-_, _*_, _≤_}
-use mathlib.Core.Path.{_≡_}
-use native.Mathlib.Omega.{arith}
-use lib.ListN.{length, drop}
-use Rattle.decimal.specs.Printed.{textOf}
-use Rattle.printing.specs.Lines.{gateLines}
-use Rattle.printing.proofs.PrintsLaws.{Printing, printing-none, printing-more, printing-done}
-use Rattle.printing.proofs.LineLaws.{gates-more, gates-end}
+use mathlib.Core.Path.{refl}
+use Rattle.printing.specs.DigitPairs.{digitPairs}
 use borrow.Author.Needs.{needs}
 use Rattle.printing.proofs.print_pairs.Statement.{statement}
 use Rattle.printing.proofs.print_pairs.Tie as tie
 use Rattle.printing.proofs.print_pairs.Reads as reads
 use Rattle.printing.proofs.print_pairs.Lts as lts
-use Rattle.printing.proofs.print_three.Reads as print-three-reads
+use Rattle.printing.proofs.look_up_gates.Reads as look-up-gates-reads
 
-abbrev Inv-loop : tie.InvT-loop
-Inv-loop out₀ at first words to₀ x₀ i₀ out to x i =
-    Printing out₀ at (textOf (gateLines first words)) out to (textOf (gateLines x (drop i words))) × ((2 * x ≡ 2 * first + i) × (i ≤ length words))
+look-up-gates-requires : tie.Need-look-up-gates-requires
+unfolding digitPairs
+look-up-gates-requires c κs = (search needs, refl)
 
-abbrev μ-loop : tie.MeasureT-loop
-μ-loop out₀ at first words to₀ x₀ i₀ out to x i = length words - i
-
-loop-holds : tie.Need-loop-holds Inv-loop μ-loop
-loop-holds c = (printing-none _ _ _ (omega arith), (omega arith, omega arith))
-
-add-loop : tie.Need-add-loop Inv-loop μ-loop
-add-loop c = search needs
-
-mul-print-three : tie.Need-mul-print-three Inv-loop μ-loop
-mul-print-three c = search needs
-
-mul-print-three-2 : tie.Need-mul-print-three-2 Inv-loop μ-loop
-mul-print-three-2 c = search needs
-
-shared-slice-read-print-three : tie.Need-shared-slice-read-print-three Inv-loop μ-loop
-shared-slice-read-print-three c = search needs
-
-add-print-three : tie.Need-add-print-three Inv-loop μ-loop
-add-print-three c = search needs
-
-mul-print-three-3 : tie.Need-mul-print-three-3 Inv-loop μ-loop
-mul-print-three-3 c = search needs
-
-shared-slice-read-print-three-2 : tie.Need-shared-slice-read-print-three-2 Inv-loop μ-loop
-shared-slice-read-print-three-2 c = search needs
-
-print-three-requires : tie.Need-print-three-requires Inv-loop μ-loop
-print-three-requires c κs = search needs
-
-add-x : tie.Need-add-x Inv-loop μ-loop
-add-x c = search needs
-
-add-i : tie.Need-add-i Inv-loop μ-loop
-add-i c = search needs
-
-loop-less : tie.Need-loop-less Inv-loop μ-loop
-loop-less c = search needs
-
-loop-again : tie.Need-loop-again Inv-loop μ-loop
-loop-again c =
-    let l = c .before .before .before .before .before .before .before .loop in
-    let p = c .before .before .print-three in
-    (printing-more _ _ _ _ _ _ (l .inv .0) _ _ _ _ (omega arith) (gates-more (l .x) _ (l .i) (omega arith)) (omega (arith, p .kept .0)) (p .ensures), (omega arith, omega arith))
-
-same-length : tie.Need-same-length Inv-loop μ-loop
+same-length : tie.Need-same-length
 same-length c = search needs
 
-returns : tie.Need-returns Inv-loop μ-loop
-returns c = search (printing-done, gates-end)
+returns : tie.Need-returns
+returns c = search needs
 
 pub print-pairs-spec : {M : Type 1} → statement M
-print-pairs-spec =
-    tie.close
-    (tie.spec
-    Inv-loop
-    μ-loop
-    loop-holds
-    add-loop
-    mul-print-three
-    mul-print-three-2
-    shared-slice-read-print-three
-    add-print-three
-    mul-print-three-3
-    shared-slice-read-print-three-2
-    print-three-requires
-    add-x
-    add-i
-    loop-less
-    loop-again
-    same-length
-    returns)
+print-pairs-spec = tie.close (tie.spec look-up-gates-requires same-length returns)

@@ -1,3 +1,5 @@
+use Prim.Native.Nat.{_%_}
+use mathlib.Core.Path.{refl}
 use native.Mathlib.Omega.{arith}
 use lib.ListN.{length-set}
 use Rattle.decimal.proofs.WritingLaws.{Writing, writing-none, writing-done}
@@ -48,7 +50,7 @@ loop-less : tie.Need-loop-less Inv-loop μ-loop
 loop-less c = search needs
 
 loop-again : tie.Need-loop-again Inv-loop μ-loop
-loop-again c = search writing-two
+loop-again c = let l = c .before .loop in writing-two _ _ _ _ (l .left) (l .rest) (l .inv) (l .rest % 100) _ _ (omega arith) refl refl refl
 
 cast-out-3 : tie.Need-cast-out-3 Inv-loop μ-loop
 cast-out-3 c = search needs
