@@ -135,43 +135,8 @@ pub fn print_literal_line(out: &mut [u8], at: usize, x: u64) -> usize
     at + (size + 1)
 }
 
-// Prints a line of three numbers.
-pub fn print_three(out: &mut [u8], at: usize, x: u64, y: u64, z: u64) -> usize
-    ensures { λ r. ⌜ Prints (now (out .entry)) at (numberLine (x ∷ y ∷ z ∷ []) ++ 10 ∷ []) (now (out .exit)) r ⌝ }
-{
-    let first = digit_count(x);
-    let second = digit_count(y);
-    let third = digit_count(z);
-    let size = first + second + third + 3;
-    if out.len() < at {
-        return advance(at, size);
-    }
-    if out.len() - at < size {
-        return advance(at, size);
-    }
-    let middle = at + (first + 1);
-    let last = middle + (second + 1);
-    write_field(out, at, x, first, 32);
-    write_field(out, middle, y, second, 32);
-    write_field(out, last, z, third, 10);
-    at + size
-}
-
-// Prints the lines of the literals of variables in a row.
-pub fn print_consecutive(out: &mut [u8], at: usize, first: u64, count: usize) -> usize
-    requires { ⌜ 2 * (first + count) < 2 ^ 63 ⌝ }
-    ensures { λ r. ⌜ Prints (now (out .entry)) at (textOf (literalLines (literalsFrom first count))) (now (out .exit)) r ⌝ }
-{
-    let mut to = at;
-    let mut x = first;
-    let mut left = count;
-    while 0 < left {
-        to = print_literal_line(out, to, 2 * x);
-        x += 1;
-        left -= 1;
-    }
-    to
-}
+// The digits of 0 to 99, two for each.
+const PAIRS: [u8; 200] = *b"00010203040506070809101112131415161718192021222324252627282930313233343536373839404142434445464748495051525354555657585960616263646566676869707172737475767778798081828384858687888990919293949596979899";
 
 // Writes the digits of n as write_digits does; looking two digits up is quicker than dividing, where the table is at hand.
 fn look_up_digits(out: &mut [u8], at: usize, n: u64, size: usize, pairs: &[u8])
@@ -224,6 +189,29 @@ fn look_up_three(out: &mut [u8], at: usize, x: u64, y: u64, z: u64, pairs: &[u8]
     look_up_field(out, middle, y, second, 32, pairs);
     look_up_field(out, last, z, third, 10, pairs);
     at + size
+}
+
+// Prints a line of three numbers.
+pub fn print_three(out: &mut [u8], at: usize, x: u64, y: u64, z: u64) -> usize
+    ensures { λ r. ⌜ Prints (now (out .entry)) at (numberLine (x ∷ y ∷ z ∷ []) ++ 10 ∷ []) (now (out .exit)) r ⌝ }
+{
+    look_up_three(out, at, x, y, z, &PAIRS)
+}
+
+// Prints the lines of the literals of variables in a row.
+pub fn print_consecutive(out: &mut [u8], at: usize, first: u64, count: usize) -> usize
+    requires { ⌜ 2 * (first + count) < 2 ^ 63 ⌝ }
+    ensures { λ r. ⌜ Prints (now (out .entry)) at (textOf (literalLines (literalsFrom first count))) (now (out .exit)) r ⌝ }
+{
+    let mut to = at;
+    let mut x = first;
+    let mut left = count;
+    while 0 < left {
+        to = print_literal_line(out, to, 2 * x);
+        x += 1;
+        left -= 1;
+    }
+    to
 }
 
 // Prints the lines of gates in a row, with the table of digits.

@@ -1,100 +1,25 @@
-use native.Mathlib.Omega.{arith}
-use Rattle.printing.proofs.PrintsLaws.{prints-measured, prints-put}
-use Rattle.printing.proofs.WriteLaws.{three-length, three-put}
+use mathlib.Core.Path.{refl}
+use Rattle.printing.specs.DigitPairs.{digitPairs}
 use borrow.Author.Needs.{needs}
 use Rattle.printing.proofs.print_three.Statement.{statement}
 use Rattle.printing.proofs.print_three.Tie as tie
 use Rattle.printing.proofs.print_three.Reads as reads
 use Rattle.printing.proofs.print_three.Lts as lts
-use Rattle.printing.proofs.advance.Reads as advance-reads
-use Rattle.printing.proofs.digit_count.Reads as digit-count-reads
-use Rattle.printing.proofs.write_field.Reads as write-field-reads
+use Rattle.printing.proofs.look_up_three.Reads as look-up-three-reads
 
-digit-count-requires : tie.Need-digit-count-requires
-digit-count-requires c κs = search needs
+slice-aggregate-look-up-three : tie.Need-slice-aggregate-look-up-three
+slice-aggregate-look-up-three c = search needs
 
-digit-count-requires-2 : tie.Need-digit-count-requires-2
-digit-count-requires-2 c κs = search needs
-
-digit-count-requires-3 : tie.Need-digit-count-requires-3
-digit-count-requires-3 c κs = search needs
-
-add-size : tie.Need-add-size
-add-size c = search needs
-
-add-size-2 : tie.Need-add-size-2
-add-size-2 c = search needs
-
-add-size-3 : tie.Need-add-size-3
-add-size-3 c = search needs
-
-advance-requires : tie.Need-advance-requires
-advance-requires c κs = search needs
-
-returns : tie.Need-returns
-returns c = prints-measured _ _ _ _ (three-length _ _ _ _ _ _ (c .before .before .before .before .digit-count .ensures .0) (c .before .before .before .digit-count2 .ensures .0) (c .before .before .digit-count3 .ensures .0)) _ (omega arith) (search needs)
-
-sub-if2 : tie.Need-sub-if2
-sub-if2 c = search needs
-
-advance-requires-2 : tie.Need-advance-requires-2
-advance-requires-2 c κs = search needs
-
-returns-2 : tie.Need-returns-2
-returns-2 c = prints-measured _ _ _ _ (three-length _ _ _ _ _ _ (c .before .before .before .before .before .digit-count .ensures .0) (c .before .before .before .before .digit-count2 .ensures .0) (c .before .before .before .digit-count3 .ensures .0)) _ (omega arith) (search needs)
-
-add-middle : tie.Need-add-middle
-add-middle c = search needs
-
-add-middle-2 : tie.Need-add-middle-2
-add-middle-2 c = search needs
-
-add-last : tie.Need-add-last
-add-last c = search needs
-
-add-last-2 : tie.Need-add-last-2
-add-last-2 c = search needs
-
-write-field-requires : tie.Need-write-field-requires
-write-field-requires c κs = search needs
-
-write-field-requires-2 : tie.Need-write-field-requires-2
-write-field-requires-2 c κs = search needs
-
-write-field-requires-3 : tie.Need-write-field-requires-3
-write-field-requires-3 c κs = search needs
-
-add-result : tie.Need-add-result
-add-result c = search needs
+look-up-three-requires : tie.Need-look-up-three-requires
+unfolding digitPairs
+look-up-three-requires c κs = refl
 
 same-length : tie.Need-same-length
 same-length c = search needs
 
-returns-3 : tie.Need-returns-3
-returns-3 c = prints-put _ _ _ _ (three-length _ _ _ _ _ _ (c .before .before .before .before .before .before .before .before .before .before .before .before .before .before .before .before .digit-count .ensures .0) (c .before .before .before .before .before .before .before .before .before .before .before .before .before .before .before .digit-count2 .ensures .0) (c .before .before .before .before .before .before .before .before .before .before .before .before .before .before .digit-count3 .ensures .0)) _ (omega arith) (three-put _ _ _ _ _ _ (c .before .before .before .before .before .before .before .before .before .before .before .before .before .before .before .before .digit-count .ensures .0) (c .before .before .before .before .before .before .before .before .before .before .before .before .before .before .before .digit-count2 .ensures .0) (c .before .before .before .before .before .before .before .before .before .before .before .before .before .before .digit-count3 .ensures .0) _ _ _ _ _ (omega arith) (c .before .before .before .before .before .before .before .before .before .before .write-field .ensures) (c .before .before .before .before .before .before .write-field2 .ensures) (c .before .before .write-field3 .ensures))
+returns : tie.Need-returns
+returns c = search needs
 
 pub print-three-spec : {M : Type 1} → statement M
 print-three-spec =
-    tie.close
-    (tie.spec
-    digit-count-requires
-    digit-count-requires-2
-    digit-count-requires-3
-    add-size
-    add-size-2
-    add-size-3
-    advance-requires
-    returns
-    sub-if2
-    advance-requires-2
-    returns-2
-    add-middle
-    add-middle-2
-    add-last
-    add-last-2
-    write-field-requires
-    write-field-requires-2
-    write-field-requires-3
-    add-result
-    same-length
-    returns-3)
+    tie.close (tie.spec slice-aggregate-look-up-three look-up-three-requires same-length returns)
