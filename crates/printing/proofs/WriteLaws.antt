@@ -1,19 +1,16 @@
 -- Digits, fields and lines written where there is room for them.
 use Prim.Native.Nat.{ℕ, zero, suc, _+_, _-_, _*_, _/_, _%_, _^_, _≤_, _<_}
-use mathlib.Core.Path.{_≡_, refl, sym, ap, ap₂, _∙_}
+use mathlib.Core.Path.{_≡_, sym, ap, _∙_}
 use mathlib.Core.List.{[], _∷_, _++_, append-assoc}
 use native.Mathlib.Nat.{pow-succ'}
 use native.Mathlib.Omega.{arith}
 use lib.ListN.{length, set, length-append}
-use lib.Pow.{pow-pos}
 use Rattle.lists.specs.Parts.{Bytes, put}
 use Rattle.lists.proofs.PartLaws.{put-one, put-put, put-length}
 use Rattle.decimal.specs.Decimal.{decimal}
 use Rattle.decimal.specs.Printed.{numberLine}
 use Rattle.decimal.proofs.DecimalLaws.{decimal-some, decimal-length-le, length-more}
 use Rattle.decimal.proofs.WritingLaws.{Writing, writing-more, writing-done}
-use Rattle.printing.specs.Prints.{capped, Prints}
-use Rattle.printing.proofs.PrintsLaws.{Word, prints-measured, prints-put}
 
 -- ---- how many digits
 

@@ -77,69 +77,12 @@ fn digit_count(n: u64) -> usize
     decimal::decimal_length(n)
 }
 
-// Writes the digits of n, from the last to the first, two at a time.
-fn write_digits(out: &mut [u8], at: usize, n: u64, size: usize)
-    requires { ⌜ (size ≡ length (decimal n)) × (at + size ≤ length (now out)) ⌝ }
-    ensures { λ _. ⌜ now (out .exit) ≡ put (now (out .entry)) at (decimal n) ⌝ }
-{
-    let mut rest = n;
-    let mut left = size;
-    while 2 <= left {
-        let two = rest % 100;
-        out[at + (left - 1)] = 48 + (two % 10) as u8;
-        out[at + (left - 2)] = 48 + (two / 10) as u8;
-        left -= 2;
-        rest = rest / 100;
-    }
-    if left == 1 {
-        out[at] = 48 + (rest % 10) as u8;
-    }
-}
-
-// Writes the digits of n and a byte behind them.
-fn write_field(out: &mut [u8], at: usize, n: u64, size: usize, end: u8)
-    requires { ⌜ (size ≡ length (decimal n)) × (at + size < length (now out)) ⌝ }
-    ensures { λ _. ⌜ now (out .exit) ≡ put (now (out .entry)) at (decimal n ++ (end ∷ [])) ⌝ }
-{
-    write_digits(out, at, n, size);
-    out[at + size] = end;
-}
-
-// Prints the digits of a number.
-pub fn print_number(out: &mut [u8], at: usize, n: u64) -> usize
-    ensures { λ r. ⌜ Prints (now (out .entry)) at (decimal n) (now (out .exit)) r ⌝ }
-{
-    let size = digit_count(n);
-    if out.len() < at {
-        return advance(at, size);
-    }
-    if out.len() - at < size {
-        return advance(at, size);
-    }
-    write_digits(out, at, n, size);
-    at + size
-}
-
-// Prints a line of one number.
-pub fn print_literal_line(out: &mut [u8], at: usize, x: u64) -> usize
-    ensures { λ r. ⌜ Prints (now (out .entry)) at (numberLine (x ∷ []) ++ 10 ∷ []) (now (out .exit)) r ⌝ }
-{
-    let size = digit_count(x);
-    if out.len() <= at {
-        return advance(at, size + 1);
-    }
-    if out.len() - at <= size {
-        return advance(at, size + 1);
-    }
-    write_field(out, at, x, size, 10);
-    at + (size + 1)
-}
-
 // The digits of 0 to 99, two for each.
-const PAIRS: [u8; 200] = *b"00010203040506070809101112131415161718192021222324252627282930313233343536373839404142434445464748495051525354555657585960616263646566676869707172737475767778798081828384858687888990919293949596979899";
+const PAIRS: [u8; 200] =
+    *b"00010203040506070809101112131415161718192021222324252627282930313233343536373839404142434445464748495051525354555657585960616263646566676869707172737475767778798081828384858687888990919293949596979899";
 
-// Writes the digits of n as write_digits does; looking two digits up is quicker than dividing, where the table is at hand.
-fn look_up_digits(out: &mut [u8], at: usize, n: u64, size: usize, pairs: &[u8])
+// Writes the digits of n, from the last to the first, two at a time. Looking two digits up is quicker than dividing.
+fn write_digits(out: &mut [u8], at: usize, n: u64, size: usize, pairs: &[u8])
     requires { ⌜ (size ≡ length (decimal n)) × ((at + size ≤ length (now out)) × (now pairs ≡ digitPairs)) ⌝ }
     ensures { λ _. ⌜ now (out .exit) ≡ put (now (out .entry)) at (decimal n) ⌝ }
 {
@@ -160,16 +103,46 @@ fn look_up_digits(out: &mut [u8], at: usize, n: u64, size: usize, pairs: &[u8])
 }
 
 // Writes the digits of n and a byte behind them.
-fn look_up_field(out: &mut [u8], at: usize, n: u64, size: usize, end: u8, pairs: &[u8])
+fn write_field(out: &mut [u8], at: usize, n: u64, size: usize, end: u8, pairs: &[u8])
     requires { ⌜ (size ≡ length (decimal n)) × ((at + size < length (now out)) × (now pairs ≡ digitPairs)) ⌝ }
     ensures { λ _. ⌜ now (out .exit) ≡ put (now (out .entry)) at (decimal n ++ (end ∷ [])) ⌝ }
 {
-    look_up_digits(out, at, n, size, pairs);
+    write_digits(out, at, n, size, pairs);
     out[at + size] = end;
 }
 
+// Prints the digits of a number.
+pub fn print_number(out: &mut [u8], at: usize, n: u64) -> usize
+    ensures { λ r. ⌜ Prints (now (out .entry)) at (decimal n) (now (out .exit)) r ⌝ }
+{
+    let size = digit_count(n);
+    if out.len() < at {
+        return advance(at, size);
+    }
+    if out.len() - at < size {
+        return advance(at, size);
+    }
+    write_digits(out, at, n, size, &PAIRS);
+    at + size
+}
+
+// Prints a line of one number.
+pub fn print_literal_line(out: &mut [u8], at: usize, x: u64) -> usize
+    ensures { λ r. ⌜ Prints (now (out .entry)) at (numberLine (x ∷ []) ++ 10 ∷ []) (now (out .exit)) r ⌝ }
+{
+    let size = digit_count(x);
+    if out.len() <= at {
+        return advance(at, size + 1);
+    }
+    if out.len() - at <= size {
+        return advance(at, size + 1);
+    }
+    write_field(out, at, x, size, 10, &PAIRS);
+    at + (size + 1)
+}
+
 // Prints a line of three numbers, with the table of digits.
-fn look_up_three(out: &mut [u8], at: usize, x: u64, y: u64, z: u64, pairs: &[u8]) -> usize
+fn print_three_with(out: &mut [u8], at: usize, x: u64, y: u64, z: u64, pairs: &[u8]) -> usize
     requires { ⌜ now pairs ≡ digitPairs ⌝ }
     ensures { λ r. ⌜ Prints (now (out .entry)) at (numberLine (x ∷ y ∷ z ∷ []) ++ 10 ∷ []) (now (out .exit)) r ⌝ }
 {
@@ -185,9 +158,9 @@ fn look_up_three(out: &mut [u8], at: usize, x: u64, y: u64, z: u64, pairs: &[u8]
     }
     let middle = at + (first + 1);
     let last = middle + (second + 1);
-    look_up_field(out, at, x, first, 32, pairs);
-    look_up_field(out, middle, y, second, 32, pairs);
-    look_up_field(out, last, z, third, 10, pairs);
+    write_field(out, at, x, first, 32, pairs);
+    write_field(out, middle, y, second, 32, pairs);
+    write_field(out, last, z, third, 10, pairs);
     at + size
 }
 
@@ -195,7 +168,7 @@ fn look_up_three(out: &mut [u8], at: usize, x: u64, y: u64, z: u64, pairs: &[u8]
 pub fn print_three(out: &mut [u8], at: usize, x: u64, y: u64, z: u64) -> usize
     ensures { λ r. ⌜ Prints (now (out .entry)) at (numberLine (x ∷ y ∷ z ∷ []) ++ 10 ∷ []) (now (out .exit)) r ⌝ }
 {
-    look_up_three(out, at, x, y, z, &PAIRS)
+    print_three_with(out, at, x, y, z, &PAIRS)
 }
 
 // Prints the lines of the literals of variables in a row.
@@ -215,7 +188,7 @@ pub fn print_consecutive(out: &mut [u8], at: usize, first: u64, count: usize) ->
 }
 
 // Prints the lines of gates in a row, with the table of digits.
-fn look_up_gates(out: &mut [u8], at: usize, first: u64, words: &[u64], pairs: &[u8]) -> usize
+fn print_gates_with(out: &mut [u8], at: usize, first: u64, words: &[u64], pairs: &[u8]) -> usize
     requires { ⌜ (2 * (first + length (now words)) < 2 ^ 63) × (now pairs ≡ digitPairs) ⌝ }
     ensures { λ r. ⌜ Prints (now (out .entry)) at (textOf (gateLines first (now (words .entry)))) (now (out .exit)) r ⌝ }
 {
@@ -223,7 +196,7 @@ fn look_up_gates(out: &mut [u8], at: usize, first: u64, words: &[u64], pairs: &[
     let mut x = first;
     let mut i = 0;
     while i + 1 < words.len() {
-        to = look_up_three(out, to, 2 * x, words[i], words[i + 1], pairs);
+        to = print_three_with(out, to, 2 * x, words[i], words[i + 1], pairs);
         x += 1;
         i += 2;
     }
@@ -237,7 +210,7 @@ pub fn print_pairs(out: &mut [u8], at: usize, first: u64, words: &[u64]) -> usiz
 {
     let pairs =
         b"00010203040506070809101112131415161718192021222324252627282930313233343536373839404142434445464748495051525354555657585960616263646566676869707172737475767778798081828384858687888990919293949596979899";
-    look_up_gates(out, at, first, words, pairs)
+    print_gates_with(out, at, first, words, pairs)
 }
 
 // Prints a line for each bit that is set in word j; the numbers of its bits begin at 64 * j. Zeros are passed over eight at a time where they can be.

@@ -1,3 +1,4 @@
+-- Each comparison bounds the number between two powers of ten.
 use mathlib.Core.Path.{sym}
 use native.Mathlib.Omega.{arith}
 use Rattle.decimal.proofs.DecimalLaws.{length-one, decimal-length-word}
@@ -5,9 +6,6 @@ use Rattle.printing.proofs.WriteLaws.{digits-are}
 use borrow.Author.Needs.{needs}
 use Rattle.printing.proofs.digit_count.Statement.{statement}
 use Rattle.printing.proofs.digit_count.Tie as tie
-use Rattle.printing.proofs.digit_count.Reads as reads
-use Rattle.printing.proofs.digit_count.Lts as lts
-use Rattle.decimal.proofs.decimal_length.Reads as decimal-length-reads
 
 returns : tie.Need-returns
 returns c = (sym (length-one _ (omega arith)), omega arith)

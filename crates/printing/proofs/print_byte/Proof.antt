@@ -1,13 +1,10 @@
+-- One byte is written, or only counted.
 use native.Mathlib.Omega.{arith}
 use lib.ListN.{length}
 use Rattle.printing.proofs.PrintsLaws.{Word, prints-kept, prints-wrote}
 use borrow.Author.Needs.{needs}
 use Rattle.printing.proofs.print_byte.Statement.{statement}
 use Rattle.printing.proofs.print_byte.Tie as tie
-use Rattle.printing.proofs.print_byte.Reads as reads
-use Rattle.printing.proofs.print_byte.Lts as lts
-use Rattle.decimal.proofs.write_byte.Reads as write-byte-reads
-use Rattle.printing.proofs.advance.Reads as advance-reads
 
 write-byte-requires : tie.Need-write-byte-requires
 write-byte-requires c κs = search needs

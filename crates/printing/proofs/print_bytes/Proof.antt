@@ -1,13 +1,10 @@
+-- The bytes are written, or only counted.
 use native.Mathlib.Omega.{arith}
 use lib.ListN.{length}
 use Rattle.printing.proofs.PrintsLaws.{Word, prints-kept, prints-wrote}
 use borrow.Author.Needs.{needs}
 use Rattle.printing.proofs.print_bytes.Statement.{statement}
 use Rattle.printing.proofs.print_bytes.Tie as tie
-use Rattle.printing.proofs.print_bytes.Reads as reads
-use Rattle.printing.proofs.print_bytes.Lts as lts
-use Rattle.decimal.proofs.write_bytes.Reads as write-bytes-reads
-use Rattle.printing.proofs.advance.Reads as advance-reads
 
 write-bytes-requires : tie.Need-write-bytes-requires
 write-bytes-requires c κs = search needs

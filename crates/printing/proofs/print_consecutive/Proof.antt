@@ -1,3 +1,4 @@
+-- The loop has printed the literals in front of variable x, and `left` are still to come.
 use Prim.Native.Nat.{_+_}
 use mathlib.Core.Path.{_≡_, refl}
 use native.Mathlib.Omega.{arith}
@@ -8,9 +9,6 @@ use Rattle.printing.proofs.LineLaws.{literals-more, literals-end}
 use borrow.Author.Needs.{needs}
 use Rattle.printing.proofs.print_consecutive.Statement.{statement}
 use Rattle.printing.proofs.print_consecutive.Tie as tie
-use Rattle.printing.proofs.print_consecutive.Reads as reads
-use Rattle.printing.proofs.print_consecutive.Lts as lts
-use Rattle.printing.proofs.print_literal_line.Reads as print-literal-line-reads
 
 abbrev Inv-loop : tie.InvT-loop
 Inv-loop out₀ at first count to₀ x₀ left₀ out to x left =

@@ -1,14 +1,12 @@
+-- The digits and byte 10 are counted, and written where there is room for all.
+use mathlib.Core.Path.{refl}
 use native.Mathlib.Omega.{arith}
+use Rattle.printing.specs.DigitPairs.{digitPairs}
 use Rattle.printing.proofs.PrintsLaws.{prints-measured, prints-put}
 use Rattle.printing.proofs.WriteLaws.{line-length}
 use borrow.Author.Needs.{needs}
 use Rattle.printing.proofs.print_literal_line.Statement.{statement}
 use Rattle.printing.proofs.print_literal_line.Tie as tie
-use Rattle.printing.proofs.print_literal_line.Reads as reads
-use Rattle.printing.proofs.print_literal_line.Lts as lts
-use Rattle.printing.proofs.advance.Reads as advance-reads
-use Rattle.printing.proofs.digit_count.Reads as digit-count-reads
-use Rattle.printing.proofs.write_field.Reads as write-field-reads
 
 digit-count-requires : tie.Need-digit-count-requires
 digit-count-requires c κs = search needs
@@ -34,8 +32,12 @@ advance-requires-2 c κs = search needs
 returns-2 : tie.Need-returns-2
 returns-2 c = prints-measured _ _ _ _ (line-length _ _ (c .before .before .before .digit-count .ensures .0)) _ (omega arith) (search needs)
 
+slice-aggregate-write-field : tie.Need-slice-aggregate-write-field
+slice-aggregate-write-field c = search needs
+
 write-field-requires : tie.Need-write-field-requires
-write-field-requires c κs = search needs
+unfolding digitPairs
+write-field-requires c κs = (search needs, (omega arith, refl))
 
 add-result : tie.Need-add-result
 add-result c = search needs
@@ -61,6 +63,7 @@ print-literal-line-spec =
     add-advance-2
     advance-requires-2
     returns-2
+    slice-aggregate-write-field
     write-field-requires
     add-result
     add-result-2

@@ -1,13 +1,11 @@
+-- The digits are counted, and written where there is room for all.
+use mathlib.Core.Path.{refl}
 use native.Mathlib.Omega.{arith}
+use Rattle.printing.specs.DigitPairs.{digitPairs}
 use Rattle.printing.proofs.PrintsLaws.{prints-measured, prints-put}
 use borrow.Author.Needs.{needs}
 use Rattle.printing.proofs.print_number.Statement.{statement}
 use Rattle.printing.proofs.print_number.Tie as tie
-use Rattle.printing.proofs.print_number.Reads as reads
-use Rattle.printing.proofs.print_number.Lts as lts
-use Rattle.printing.proofs.advance.Reads as advance-reads
-use Rattle.printing.proofs.digit_count.Reads as digit-count-reads
-use Rattle.printing.proofs.write_digits.Reads as write-digits-reads
 
 digit-count-requires : tie.Need-digit-count-requires
 digit-count-requires c κs = search needs
@@ -27,8 +25,12 @@ advance-requires-2 c κs = search needs
 returns-2 : tie.Need-returns-2
 returns-2 c = prints-measured _ _ _ _ (c .before .before .before .digit-count .ensures .0) _ (omega arith) (search needs)
 
+slice-aggregate-write-digits : tie.Need-slice-aggregate-write-digits
+slice-aggregate-write-digits c = search needs
+
 write-digits-requires : tie.Need-write-digits-requires
-write-digits-requires c κs = search needs
+unfolding digitPairs
+write-digits-requires c κs = (search needs, (omega arith, refl))
 
 add-result : tie.Need-add-result
 add-result c = search needs
@@ -49,6 +51,7 @@ print-number-spec =
     sub-if2
     advance-requires-2
     returns-2
+    slice-aggregate-write-digits
     write-digits-requires
     add-result
     same-length

@@ -1,15 +1,13 @@
+-- The table is the one that the inner function asks for.
 use mathlib.Core.Path.{refl}
 use Rattle.printing.specs.DigitPairs.{digitPairs}
 use borrow.Author.Needs.{needs}
 use Rattle.printing.proofs.print_pairs.Statement.{statement}
 use Rattle.printing.proofs.print_pairs.Tie as tie
-use Rattle.printing.proofs.print_pairs.Reads as reads
-use Rattle.printing.proofs.print_pairs.Lts as lts
-use Rattle.printing.proofs.look_up_gates.Reads as look-up-gates-reads
 
-look-up-gates-requires : tie.Need-look-up-gates-requires
+print-gates-with-requires : tie.Need-print-gates-with-requires
 unfolding digitPairs
-look-up-gates-requires c κs = (search needs, refl)
+print-gates-with-requires c κs = (search needs, refl)
 
 same-length : tie.Need-same-length
 same-length c = search needs
@@ -18,4 +16,4 @@ returns : tie.Need-returns
 returns c = search needs
 
 pub print-pairs-spec : {M : Type 1} → statement M
-print-pairs-spec = tie.close (tie.spec look-up-gates-requires same-length returns)
+print-pairs-spec = tie.close (tie.spec print-gates-with-requires same-length returns)

@@ -1,3 +1,4 @@
+-- The loop has printed the elements in the words in front of word j.
 use Prim.Native.Nat.{_-_}
 use native.Mathlib.Omega.{arith}
 use lib.ListN.{length}
@@ -7,9 +8,6 @@ use Rattle.printing.proofs.WordLaws.{linesOf, elementsFrom, set-none, s
 use borrow.Author.Needs.{needs}
 use Rattle.printing.proofs.print_set.Statement.{statement}
 use Rattle.printing.proofs.print_set.Tie as tie
-use Rattle.printing.proofs.print_set.Reads as reads
-use Rattle.printing.proofs.print_set.Lts as lts
-use Rattle.printing.proofs.print_word.Reads as print-word-reads
 
 abbrev Inv-loop : tie.InvT-loop
 Inv-loop out₀ at words to₀ j₀ out to j = Printing out₀ at (linesOf (elements words)) out to (linesOf (elementsFrom words j))

@@ -1,18 +1,16 @@
+-- The table is the one that the inner function asks for.
 use mathlib.Core.Path.{refl}
 use Rattle.printing.specs.DigitPairs.{digitPairs}
 use borrow.Author.Needs.{needs}
 use Rattle.printing.proofs.print_three.Statement.{statement}
 use Rattle.printing.proofs.print_three.Tie as tie
-use Rattle.printing.proofs.print_three.Reads as reads
-use Rattle.printing.proofs.print_three.Lts as lts
-use Rattle.printing.proofs.look_up_three.Reads as look-up-three-reads
 
-slice-aggregate-look-up-three : tie.Need-slice-aggregate-look-up-three
-slice-aggregate-look-up-three c = search needs
+slice-aggregate-print-three-with : tie.Need-slice-aggregate-print-three-with
+slice-aggregate-print-three-with c = search needs
 
-look-up-three-requires : tie.Need-look-up-three-requires
+print-three-with-requires : tie.Need-print-three-with-requires
 unfolding digitPairs
-look-up-three-requires c κs = refl
+print-three-with-requires c κs = refl
 
 same-length : tie.Need-same-length
 same-length c = search needs
@@ -22,4 +20,4 @@ returns c = search needs
 
 pub print-three-spec : {M : Type 1} → statement M
 print-three-spec =
-    tie.close (tie.spec slice-aggregate-look-up-three look-up-three-requires same-length returns)
+    tie.close (tie.spec slice-aggregate-print-three-with print-three-with-requires same-length returns)

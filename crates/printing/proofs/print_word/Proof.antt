@@ -1,3 +1,4 @@
+-- The loop has printed the numbers in front of k; `rest` has the bits from k on.
 use Prim.Native.Nat.{_+_, _*_}
 use native.Mathlib.Omega.{arith}
 use Rattle.printing.specs.Elements.{elementsIn}
@@ -5,9 +6,6 @@ use Rattle.printing.proofs.WordLaws.{linesOf, InWord, word-none, word-r
 use borrow.Author.Needs.{needs}
 use Rattle.printing.proofs.print_word.Statement.{statement}
 use Rattle.printing.proofs.print_word.Tie as tie
-use Rattle.printing.proofs.print_word.Reads as reads
-use Rattle.printing.proofs.print_word.Lts as lts
-use Rattle.printing.proofs.print_literal_line.Reads as print-literal-line-reads
 
 abbrev Inv-loop : tie.InvT-loop
 Inv-loop out₀ at words j to₀ rest₀ k₀ out to rest k = InWord words (64 * j + 64) out₀ at (linesOf (elementsIn words j)) out to k rest

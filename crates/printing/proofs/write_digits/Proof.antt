@@ -1,47 +1,51 @@
-use Prim.Native.Nat.{_%_}
-use mathlib.Core.Path.{refl}
+-- The loop stores the digits of `rest`, of which `left` are still to be written.
 use native.Mathlib.Omega.{arith}
 use lib.ListN.{length-set}
 use Rattle.decimal.proofs.WritingLaws.{Writing, writing-none, writing-done}
 use Rattle.printing.proofs.WriteLaws.{writing-two, writing-first}
+use Rattle.printing.proofs.DigitPairLaws.{pairs-length, tens-in, ones-in}
 use borrow.Author.Needs.{needs}
 use Rattle.printing.proofs.write_digits.Statement.{statement}
 use Rattle.printing.proofs.write_digits.Tie as tie
-use Rattle.printing.proofs.write_digits.Reads as reads
-use Rattle.printing.proofs.write_digits.Lts as lts
 
 abbrev Inv-loop : tie.InvT-loop
-Inv-loop out₀ at n size rest₀ left₀ out rest left = Writing out₀ at n out left rest
+Inv-loop out₀ at n size pairs rest₀ left₀ out rest left = Writing out₀ at n out left rest
 
 abbrev μ-loop : tie.MeasureT-loop
-μ-loop out₀ at n size rest₀ left₀ out rest left = left
+μ-loop out₀ at n size pairs rest₀ left₀ out rest left = left
 
 loop-holds : tie.Need-loop-holds Inv-loop μ-loop
 loop-holds c = writing-none _ _ _ _ (search needs) (omega arith)
 
-cast-out : tie.Need-cast-out Inv-loop μ-loop
-cast-out c = search needs
+index-requires : tie.Need-index-requires Inv-loop μ-loop
+index-requires c κs = search needs
 
-add-out : tie.Need-add-out Inv-loop μ-loop
-add-out c = search needs
+mul-high : tie.Need-mul-high Inv-loop μ-loop
+mul-high c = search needs
+
+shared-slice-read-high : tie.Need-shared-slice-read-high Inv-loop μ-loop
+shared-slice-read-high c = omega (arith, pairs-length (c .before .before .before .before .before .before .args .pairs .now) (search needs))
+
+mul-low : tie.Need-mul-low Inv-loop μ-loop
+mul-low c = search needs
+
+add-low : tie.Need-add-low Inv-loop μ-loop
+add-low c = search needs
+
+shared-slice-read-low : tie.Need-shared-slice-read-low Inv-loop μ-loop
+shared-slice-read-low c = omega (arith, pairs-length (c .before .before .before .before .before .before .before .args .pairs .now) (search needs))
 
 sub-out : tie.Need-sub-out Inv-loop μ-loop
 sub-out c = search needs
 
-add-out-2 : tie.Need-add-out-2 Inv-loop μ-loop
-add-out-2 c = search needs
+add-out : tie.Need-add-out Inv-loop μ-loop
+add-out c = search needs
 
 slice-write-out : tie.Need-slice-write-out Inv-loop μ-loop
 slice-write-out c = search needs
 
-cast-out-2 : tie.Need-cast-out-2 Inv-loop μ-loop
-cast-out-2 c = search needs
-
-add-out-3 : tie.Need-add-out-3 Inv-loop μ-loop
-add-out-3 c = search needs
-
-add-out-4 : tie.Need-add-out-4 Inv-loop μ-loop
-add-out-4 c = search needs
+add-out-2 : tie.Need-add-out-2 Inv-loop μ-loop
+add-out-2 c = search needs
 
 slice-write-out-2 : tie.Need-slice-write-out-2 Inv-loop μ-loop
 slice-write-out-2 c = simp length-set (omega arith)
@@ -50,13 +54,31 @@ loop-less : tie.Need-loop-less Inv-loop μ-loop
 loop-less c = search needs
 
 loop-again : tie.Need-loop-again Inv-loop μ-loop
-loop-again c = let l = c .before .loop in writing-two _ _ _ _ (l .left) (l .rest) (l .inv) (l .rest % 100) _ _ (omega arith) refl refl refl
+loop-again c =
+    let l = c .before .before .before .before .loop in
+    let two = c .before .before .index in
+    let table = c .before .before .before .before .before .before .before .args .pairs .now in
+    writing-two
+    _
+    _
+    _
+    _
+    (l .left)
+    (l .rest)
+    (l .inv)
+    (two .result)
+    _
+    _
+    (omega arith)
+    (two .ensures)
+    (ones-in table (search needs) (two .result) (omega arith))
+    (tens-in table (search needs) (two .result) (omega arith))
 
-cast-out-3 : tie.Need-cast-out-3 Inv-loop μ-loop
-cast-out-3 c = search needs
+cast-out : tie.Need-cast-out Inv-loop μ-loop
+cast-out c = search needs
 
-add-out-5 : tie.Need-add-out-5 Inv-loop μ-loop
-add-out-5 c = search needs
+add-out-3 : tie.Need-add-out-3 Inv-loop μ-loop
+add-out-3 c = search needs
 
 slice-write-out-3 : tie.Need-slice-write-out-3 Inv-loop μ-loop
 slice-write-out-3 c = search needs
@@ -80,19 +102,21 @@ write-digits-spec =
     Inv-loop
     μ-loop
     loop-holds
-    cast-out
-    add-out
+    index-requires
+    mul-high
+    shared-slice-read-high
+    mul-low
+    add-low
+    shared-slice-read-low
     sub-out
-    add-out-2
+    add-out
     slice-write-out
-    cast-out-2
-    add-out-3
-    add-out-4
+    add-out-2
     slice-write-out-2
     loop-less
     loop-again
-    cast-out-3
-    add-out-5
+    cast-out
+    add-out-3
     slice-write-out-3
     same-length
     returns

@@ -1,10 +1,8 @@
+-- The digits, and one store behind them.
 use Rattle.printing.proofs.WriteLaws.{field-end}
 use borrow.Author.Needs.{needs}
 use Rattle.printing.proofs.write_field.Statement.{statement}
 use Rattle.printing.proofs.write_field.Tie as tie
-use Rattle.printing.proofs.write_field.Reads as reads
-use Rattle.printing.proofs.write_field.Lts as lts
-use Rattle.printing.proofs.write_digits.Reads as write-digits-reads
 
 write-digits-requires : tie.Need-write-digits-requires
 write-digits-requires c κs = search needs

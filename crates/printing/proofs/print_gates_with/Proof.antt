@@ -1,3 +1,4 @@
+-- The loop has printed the gates of the first i words; x is the next variable.
 use Prim.Native.Nat.{_+_, _-_, _*_, _≤_}
 use mathlib.Core.Path.{_≡_}
 use native.Mathlib.Omega.{arith}
@@ -7,11 +8,8 @@ use Rattle.printing.specs.Lines.{gateLines}
 use Rattle.printing.proofs.PrintsLaws.{Printing, printing-none, printing-more, printing-done}
 use Rattle.printing.proofs.LineLaws.{gates-more, gates-end}
 use borrow.Author.Needs.{needs}
-use Rattle.printing.proofs.look_up_gates.Statement.{statement}
-use Rattle.printing.proofs.look_up_gates.Tie as tie
-use Rattle.printing.proofs.look_up_gates.Reads as reads
-use Rattle.printing.proofs.look_up_gates.Lts as lts
-use Rattle.printing.proofs.look_up_three.Reads as look-up-three-reads
+use Rattle.printing.proofs.print_gates_with.Statement.{statement}
+use Rattle.printing.proofs.print_gates_with.Tie as tie
 
 abbrev Inv-loop : tie.InvT-loop
 Inv-loop out₀ at first words pairs to₀ x₀ i₀ out to x i =
@@ -26,26 +24,26 @@ loop-holds c = (printing-none _ _ _ (omega arith), (omega arith, omega arith))
 add-loop : tie.Need-add-loop Inv-loop μ-loop
 add-loop c = search needs
 
-mul-look-up-three : tie.Need-mul-look-up-three Inv-loop μ-loop
-mul-look-up-three c = search needs
+mul-print-three-with : tie.Need-mul-print-three-with Inv-loop μ-loop
+mul-print-three-with c = search needs
 
-mul-look-up-three-2 : tie.Need-mul-look-up-three-2 Inv-loop μ-loop
-mul-look-up-three-2 c = search needs
+mul-print-three-with-2 : tie.Need-mul-print-three-with-2 Inv-loop μ-loop
+mul-print-three-with-2 c = search needs
 
-shared-slice-read-look-up-three : tie.Need-shared-slice-read-look-up-three Inv-loop μ-loop
-shared-slice-read-look-up-three c = search needs
+shared-slice-read-print-three-with : tie.Need-shared-slice-read-print-three-with Inv-loop μ-loop
+shared-slice-read-print-three-with c = search needs
 
-add-look-up-three : tie.Need-add-look-up-three Inv-loop μ-loop
-add-look-up-three c = search needs
+add-print-three-with : tie.Need-add-print-three-with Inv-loop μ-loop
+add-print-three-with c = search needs
 
-mul-look-up-three-3 : tie.Need-mul-look-up-three-3 Inv-loop μ-loop
-mul-look-up-three-3 c = search needs
+mul-print-three-with-3 : tie.Need-mul-print-three-with-3 Inv-loop μ-loop
+mul-print-three-with-3 c = search needs
 
-shared-slice-read-look-up-three-2 : tie.Need-shared-slice-read-look-up-three-2 Inv-loop μ-loop
-shared-slice-read-look-up-three-2 c = search needs
+shared-slice-read-print-three-with-2 : tie.Need-shared-slice-read-print-three-with-2 Inv-loop μ-loop
+shared-slice-read-print-three-with-2 c = search needs
 
-look-up-three-requires : tie.Need-look-up-three-requires Inv-loop μ-loop
-look-up-three-requires c κs = search needs
+print-three-with-requires : tie.Need-print-three-with-requires Inv-loop μ-loop
+print-three-with-requires c κs = search needs
 
 add-x : tie.Need-add-x Inv-loop μ-loop
 add-x c = search needs
@@ -59,7 +57,7 @@ loop-less c = search needs
 loop-again : tie.Need-loop-again Inv-loop μ-loop
 loop-again c =
     let l = c .before .before .before .before .before .before .before .loop in
-    let p = c .before .before .look-up-three in
+    let p = c .before .before .print-three-with in
     (printing-more _ _ _ _ _ _ (l .inv .0) _ _ _ _ (omega arith) (gates-more (l .x) _ (l .i) (omega arith)) (omega (arith, p .kept .0)) (p .ensures), (omega arith, omega arith))
 
 same-length : tie.Need-same-length Inv-loop μ-loop
@@ -68,21 +66,21 @@ same-length c = search needs
 returns : tie.Need-returns Inv-loop μ-loop
 returns c = search (printing-done, gates-end)
 
-pub look-up-gates-spec : {M : Type 1} → statement M
-look-up-gates-spec =
+pub print-gates-with-spec : {M : Type 1} → statement M
+print-gates-with-spec =
     tie.close
     (tie.spec
     Inv-loop
     μ-loop
     loop-holds
     add-loop
-    mul-look-up-three
-    mul-look-up-three-2
-    shared-slice-read-look-up-three
-    add-look-up-three
-    mul-look-up-three-3
-    shared-slice-read-look-up-three-2
-    look-up-three-requires
+    mul-print-three-with
+    mul-print-three-with-2
+    shared-slice-read-print-three-with
+    add-print-three-with
+    mul-print-three-with-3
+    shared-slice-read-print-three-with-2
+    print-three-with-requires
     add-x
     add-i
     loop-less
