@@ -28,7 +28,11 @@ advance-requires : tie.Need-advance-requires
 advance-requires c κs = search needs
 
 returns : tie.Need-returns
-returns c = prints-measured _ _ _ _ (three-length _ _ _ _ _ _ (c .before .before .before .before .digit-count .ensures .0) (c .before .before .before .digit-count2 .ensures .0) (c .before .before .digit-count3 .ensures .0)) _ (omega arith) (search needs)
+returns c =
+    let a = c .before .before .before .before .digit-count .ensures .0 in
+    let b = c .before .before .before .digit-count2 .ensures .0 in
+    let d = c .before .before .digit-count3 .ensures .0 in
+    prints-measured _ _ _ _ (three-length _ _ _ _ _ _ a b d) _ (omega arith) (search needs)
 
 sub-if2 : tie.Need-sub-if2
 sub-if2 c = search needs
@@ -37,7 +41,11 @@ advance-requires-2 : tie.Need-advance-requires-2
 advance-requires-2 c κs = search needs
 
 returns-2 : tie.Need-returns-2
-returns-2 c = prints-measured _ _ _ _ (three-length _ _ _ _ _ _ (c .before .before .before .before .before .digit-count .ensures .0) (c .before .before .before .before .digit-count2 .ensures .0) (c .before .before .before .digit-count3 .ensures .0)) _ (omega arith) (search needs)
+returns-2 c =
+    let a = c .before .before .before .before .before .digit-count .ensures .0 in
+    let b = c .before .before .before .before .digit-count2 .ensures .0 in
+    let d = c .before .before .before .digit-count3 .ensures .0 in
+    prints-measured _ _ _ _ (three-length _ _ _ _ _ _ a b d) _ (omega arith) (search needs)
 
 add-middle : tie.Need-add-middle
 add-middle c = search needs
@@ -67,7 +75,14 @@ same-length : tie.Need-same-length
 same-length c = search needs
 
 returns-3 : tie.Need-returns-3
-returns-3 c = prints-put _ _ _ _ (three-length _ _ _ _ _ _ (c .before .before .before .before .before .before .before .before .before .before .before .before .before .before .before .before .digit-count .ensures .0) (c .before .before .before .before .before .before .before .before .before .before .before .before .before .before .before .digit-count2 .ensures .0) (c .before .before .before .before .before .before .before .before .before .before .before .before .before .before .digit-count3 .ensures .0)) _ (omega arith) (three-put _ _ _ _ _ _ (c .before .before .before .before .before .before .before .before .before .before .before .before .before .before .before .before .digit-count .ensures .0) (c .before .before .before .before .before .before .before .before .before .before .before .before .before .before .before .digit-count2 .ensures .0) (c .before .before .before .before .before .before .before .before .before .before .before .before .before .before .digit-count3 .ensures .0) _ _ _ _ _ (omega arith) (c .before .before .before .before .before .before .before .before .before .before .write-field .ensures) (c .before .before .before .before .before .before .write-field2 .ensures) (c .before .before .write-field3 .ensures))
+returns-3 c =
+    let a = c .before .before .before .before .before .before .before .before .before .before .before .before .before .before .before .before .digit-count .ensures .0 in
+    let b = c .before .before .before .before .before .before .before .before .before .before .before .before .before .before .before .digit-count2 .ensures .0 in
+    let d = c .before .before .before .before .before .before .before .before .before .before .before .before .before .before .digit-count3 .ensures .0 in
+    let e = c .before .before .before .before .before .before .before .before .before .before .write-field .ensures in
+    let f = c .before .before .before .before .before .before .write-field2 .ensures in
+    let g = c .before .before .write-field3 .ensures in
+    prints-put _ _ _ _ (three-length _ _ _ _ _ _ a b d) _ (omega arith) (three-put _ _ _ _ _ _ a b d _ _ _ _ _ (omega arith) e f g)
 
 pub print-three-with-spec : {M : Type 1} → statement M
 print-three-with-spec =
