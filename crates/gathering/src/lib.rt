@@ -39,7 +39,7 @@ pub enum Checked {
 }
 
 // So many bytes from a place on.
-fn piece(s: &[u8], start: usize, size: usize) -> &[u8]
+pub fn piece(s: &[u8], start: usize, size: usize) -> &[u8]
     requires { ⌜ start + size ≤ length (now s) ⌝ }
     ensures { λ r. ⌜ now r ≡ part (now (s .entry)) start (start + size) ⌝ }
 {

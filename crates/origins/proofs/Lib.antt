@@ -1,0 +1,4 @@
+-- Laws of mapping.
+pub mod MappingLaws
+pub mod NameLaws
+pub mod LoopLaws

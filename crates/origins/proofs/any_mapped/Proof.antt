@@ -1,0 +1,84 @@
+use borrow.Author.Needs.{needs}
+use Rattle.origins.proofs.any_mapped.Statement.{statement}
+use Rattle.origins.proofs.any_mapped.Tie as tie
+use Rattle.origins.proofs.LoopLaws.{Testing, testing-none, testing-says, testing-true, testing-more, testing-end}
+use lib.ListN.{length}
+use Prim.Native.Nat.{_-_, _/_}
+use mathlib.Core.Path.{_≡_}
+
+abbrev Inv-loop : tie.InvT-loop
+Inv-loop text words count i₀ i = Testing text words i × (count ≡ length words / 2)
+
+abbrev μ-loop : tie.MeasureT-loop
+μ-loop text words count i₀ i = count - i
+
+loop-holds : tie.Need-loop-holds Inv-loop μ-loop
+loop-holds c = search (needs, testing-none)
+
+mul-index : tie.Need-mul-index Inv-loop μ-loop
+mul-index c = search needs
+
+mul-index-2 : tie.Need-mul-index-2 Inv-loop μ-loop
+mul-index-2 c = search needs
+
+shared-slice-read-index : tie.Need-shared-slice-read-index Inv-loop μ-loop
+shared-slice-read-index c = search needs
+
+index-requires : tie.Need-index-requires Inv-loop μ-loop
+index-requires c κs = search needs
+
+mul-index-3 : tie.Need-mul-index-3 Inv-loop μ-loop
+mul-index-3 c = search needs
+
+add-index : tie.Need-add-index Inv-loop μ-loop
+add-index c = search needs
+
+mul-index-4 : tie.Need-mul-index-4 Inv-loop μ-loop
+mul-index-4 c = search needs
+
+shared-slice-read-index-2 : tie.Need-shared-slice-read-index-2 Inv-loop μ-loop
+shared-slice-read-index-2 c = search needs
+
+index-requires-2 : tie.Need-index-requires-2 Inv-loop μ-loop
+index-requires-2 c κs = search needs
+
+is-mapped-requires : tie.Need-is-mapped-requires Inv-loop μ-loop
+is-mapped-requires c κs = search testing-says
+
+returns : tie.Need-returns Inv-loop μ-loop
+returns c = search testing-true
+
+add-i : tie.Need-add-i Inv-loop μ-loop
+add-i c = search needs
+
+loop-less : tie.Need-loop-less Inv-loop μ-loop
+loop-less c = search needs
+
+loop-again : tie.Need-loop-again Inv-loop μ-loop
+loop-again c = (search testing-more, search needs)
+
+returns-2 : tie.Need-returns-2 Inv-loop μ-loop
+returns-2 c = search testing-end
+
+pub any-mapped-spec : {M : Type 1} → statement M
+any-mapped-spec =
+    tie.close
+    (tie.spec
+    Inv-loop
+    μ-loop
+    loop-holds
+    mul-index
+    mul-index-2
+    shared-slice-read-index
+    index-requires
+    mul-index-3
+    add-index
+    mul-index-4
+    shared-slice-read-index-2
+    index-requires-2
+    is-mapped-requires
+    returns
+    add-i
+    loop-less
+    loop-again
+    returns-2)
