@@ -1,0 +1,40 @@
+-- Laws of `shareGates` and of 17: gates are only added, so one that is too many stays too many.
+use Prim.Native.Nat.{ℕ, suc, _+_, _≤_, _<_}
+use mathlib.Core.Bool.{Bool, true, false, cond}
+use mathlib.Core.List.{List, [], _∷_, _++_}
+use mathlib.Core.Path.{_≡_, refl, _∙_}
+use native.Mathlib.Omega.{arith}
+use borrow.Author.Tests.{le-leb, lt-leb}
+use lib.Dec.{leb}
+use lib.ListN.{length, length-append}
+use Rattle.lists.specs.Firsts.{joined}
+use Rattle.lists.specs.Tests.{any}
+use Rattle.aiger.specs.declared.Gate.{Gate}
+use Rattle.composition.specs.Sharing.{Operands, sameOperands, translated, Shared, shareGates}
+use Rattle.composition.specs.Composing.{gatesFit}
+
+-- the composed gates and variables after one gate more
+abbrev pub withGate : ℕ → Gate → Shared → Shared
+withGate n g t = shareGates n (g ∷ []) t
+
+joined-grows : (g : Operands) (gs : List Operands) → length gs ≤ length (joined sameOperands g gs)
+joined-grows g gs = go (any (sameOperands g) gs)
+  where
+    go : (q : Bool) → length gs ≤ length (cond q gs (gs ++ g ∷ []))
+    go true = omega arith
+    go false = omega (arith, length-append gs (g ∷ []))
+
+pub gates-grow : (n : ℕ) (gs : List Gate) (t : Shared) → length (t .gates) ≤ length (shareGates n gs t .gates)
+gates-grow n [] t = omega arith
+gates-grow n (g ∷ gs) t = omega (arith, joined-grows (translated (t .vars) g) (t .gates), gates-grow n gs (withGate n g t))
+
+some-fit : (leaves : ℕ) (gs : List Operands) → 0 < length gs → gatesFit leaves gs ≡ leb (leaves + length gs) 2000000
+some-fit leaves [] h = absurd (omega arith)
+some-fit leaves (g ∷ gs) h = refl
+
+pub fit-true : (leaves : ℕ) (gs : List Operands) → leaves + length gs ≤ 2000000 → gatesFit leaves gs ≡ true
+fit-true leaves [] h = refl
+fit-true leaves (g ∷ gs) h = le-leb (leaves + length (g ∷ gs)) 2000000 h
+
+pub fit-false : (leaves : ℕ) (gs : List Operands) → 0 < length gs → 2000000 < leaves + length gs → gatesFit leaves gs ≡ false
+fit-false leaves gs k h = some-fit leaves gs k ∙ lt-leb (leaves + length gs) 2000000 h

@@ -1,0 +1,88 @@
+// The gates of all witnesses, which stand side by side in lent words, become the gates of the composition.
+ghost use mathlib.Core.Path.{_≡_};
+ghost use Prim.Native.Nat.{_+_, _<_, max};
+ghost use lib.ListN.{drop};
+ghost use Rattle.composition.specs.Sharing.{translate, unordered};
+ghost use Rattle.linking.specs.Linked.{Translatable, keyOf, Keyable, keyAt, Findable, FindsIn, Sharable, Shares};
+use lists::index;
+
+// How many gates the composition has, or reason 17.
+pub enum SharedGates {
+    All(usize),
+    TooMany,
+}
+
+// The composed literal of a joint one.
+fn translate(work: &[u64], vars: usize, literal: u64) -> u64
+    requires { ⌜ Translatable vars (now work) literal ⌝ }
+    ensures { λ r. ⌜ r ≡ translate (drop vars (now (work .entry))) literal ⌝ }
+{
+    2 * work[vars + index(literal / 2)] + literal % 2
+}
+
+// The key of a gate with two operands, whichever is first.
+fn key_of(x: u64, y: u64) -> u64
+    requires { ⌜ (x < 2147483648) × (y < 2147483648) ⌝ }
+    ensures { λ r. ⌜ r ≡ keyOf (unordered x y) ⌝ }
+{
+    if x <= y {
+        return x + 4294967296 * y;
+    }
+    y + 4294967296 * x
+}
+
+// The key of the composed gate for the gate whose operands stand at a place.
+fn gate_key(work: &[u64], at: usize, vars: usize) -> u64
+    requires { ⌜ Keyable at vars (now work) ⌝ }
+    ensures { λ r. ⌜ r ≡ keyAt at vars (now (work .entry)) ⌝ }
+{
+    let left = translate(work, vars, work[at]);
+    let right = translate(work, vars, work[at + 1]);
+    key_of(left, right)
+}
+
+// The number of a key in the table at a place, where a new one is added.
+fn number_of(work: &mut [u64], table: usize, count: usize, shared: usize, key: u64) -> usize
+    requires { ⌜ Findable table count shared key (now work) ⌝ }
+    ensures { λ r. ⌜ FindsIn table count shared key (now (work .entry)) (now (work .exit)) r ⌝ }
+{
+    let end = table + (4 * count + 1);
+    sharing::find_or_add(&mut work[table..end], count + 1, shared, key)
+}
+
+fn greater(a: usize, b: usize) -> usize
+    ensures { λ r. ⌜ r ≡ max a b ⌝ }
+{
+    if a < b {
+        return b;
+    }
+    a
+}
+
+// Equal unordered operand pairs share a gate. The composed variables of the gates are stored behind those of the `known` joint variables.
+pub fn share_gates(
+    work: &mut [u64],
+    operands: usize,
+    count: usize,
+    vars: usize,
+    known: usize,
+    table: usize,
+    leaves: usize,
+) -> SharedGates
+    requires { ⌜ Sharable operands count vars known table leaves (now work) ⌝ }
+    ensures { λ r. ⌜ Shares operands count vars known table leaves (now (work .entry)) (now (work .exit)) r ⌝ }
+{
+    let mut shared = 0;
+    let mut i = 0;
+    while i < count {
+        let key = gate_key(work, operands + 2 * i, vars);
+        let k = number_of(work, table, count, shared, key);
+        shared = greater(shared, k + 1);
+        if leaves + shared > 2000000 {
+            return SharedGates::TooMany;
+        }
+        work[vars + known + i] = (leaves + 1 + k) as u64;
+        i += 1;
+    }
+    SharedGates::All(shared)
+}
