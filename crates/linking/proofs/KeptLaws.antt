@@ -1,16 +1,17 @@
 -- Words that stay where others are stored, and the table lent to the search for a key.
 use Prim.Native.Nat.{ℕ, _+_, _-_, _*_, _≤_, _<_}
-use mathlib.Core.List.{List, [], _∷_, _++_, append-nil}
+use mathlib.Core.List.{List, [], _∷_, append-nil}
 use mathlib.Core.Path.{_≡_, sym, ap, _∙_}
 use native.Mathlib.Omega.{arith}
 use borrow.Rule.Slice.PartMut.{putMid}
+use lib.Dec.{eqb}
 use lib.ListN.{length, getD, take, drop, set, drop-of-length-le}
 use lib.Seq.{take-take, getD-take}
 use Rattle.lists.specs.Parts.{part, put, front}
 use Rattle.lists.proofs.PartLaws.{drop-take, part-length, put-one, put-take, put-drop-end, put-part, put-back}
 use Rattle.sharing.specs.Table.{Finds}
 use Rattle.linking.specs.Linked.{tableEnd, tableIn, Findable, FindsIn}
-use Rattle.linking.proofs.KeyLaws.{place-low}
+use Rattle.linking.proofs.FirstLaws.{place-low}
 
 -- lists that begin in the same way
 module _ (l k : List ℕ) (n : ℕ) (e : take n l ≡ take n k) where
@@ -51,7 +52,7 @@ module _ (table count shared key : ℕ) (work : List ℕ) (p : Findable table co
             rw e f;
         low =
             let keys : List ℕ = p .holding .base .keys in
-            omega (arith, f keys (p .holding .base .held) (p .holding .counted) .0, place-low key keys, p .holding .counted);
+            omega (arith, f keys (p .holding .base .held) (p .holding .counted) .0, place-low eqb key keys, p .holding .counted);
         before = put-take work table t (omega (arith, p .within)) table (omega arith);
         behind = put-drop-end work table t (omega (arith, p .within)) (tableEnd table count) (omega (arith, size));
       })

@@ -1,19 +1,18 @@
 -- Laws of translated literals and of keys: a key stands for one pair of operands, so keys are numbered as the gates are.
-use Prim.Native.Nat.{ℕ, _+_, _*_, _%_, _≤_, _<_, max}
+use Prim.Native.Nat.{ℕ, _+_, _*_, _%_, _≤_, _<_}
 use mathlib.Core.Bool.{Bool, true, false, cond}
 use mathlib.Core.List.{List, [], _∷_, _++_, map, map-append}
-use mathlib.Core.Path.{_≡_, refl, sym, ap, _∙_}
+use mathlib.Core.Path.{_≡_, refl, sym, _∙_}
 use native.Mathlib.Omega.{arith}
 use borrow.Author.Tests.{eqb-true, eqb-false, eq-eqb, le-leb, lt-leb}
 use lib.Dec.{eqb, leb}
-use lib.ListN.{length, getD, drop, length-map, length-append}
+use lib.ListN.{getD, drop}
 use lib.Seq.{getD-drop}
 use Rattle.lists.specs.Firsts.{place, joined}
 use Rattle.lists.specs.Tests.{any, Each}
 use Rattle.lists.proofs.BoolLaws.{to-false, and-left, and-right, and-both}
 use Rattle.lists.proofs.TestLaws.{each-append}
 use Rattle.aiger.specs.Gates.{variable}
-use Rattle.sharing.proofs.PlaceLaws.{place-below, place-none}
 use Rattle.composition.specs.Sharing.{translate, Operands, sameOperands, unordered}
 use Rattle.linking.specs.Linked.{Translatable, keyOf, keyAt}
 
@@ -55,22 +54,6 @@ unordered-small x y h k = go (leb x y)
 
 -- ---- keys for gates
 
--- a number joins a list as a new one, or stays
-module _ (x : ℕ) (xs : List ℕ) where
-  pub place-low : place eqb x xs ≤ length xs
-  place-low = go (any (eqb x) xs) refl
-    where
-      go : (q : Bool) → any (eqb x) xs ≡ q → place eqb x xs ≤ length xs
-      go true e = omega (arith, place-below x xs e)
-      go false e = omega (arith, place-none x xs e)
-
-  joined-length : length (joined eqb x xs) ≡ max (length xs) (place eqb x xs + 1)
-  joined-length = go (any (eqb x) xs) refl
-    where
-      go : (q : Bool) → any (eqb x) xs ≡ q → length (cond q xs (xs ++ x ∷ [])) ≡ max (length xs) (place eqb x xs + 1)
-      go true e = omega (arith, place-below x xs e)
-      go false e = omega (arith, place-none x xs e, length-append xs (x ∷ []))
-
 module _ (g : Operands) (small : Small g) where
   key-same : (h : Operands) → Small h → eqb (keyOf g) (keyOf h) ≡ sameOperands g h
   key-same h k = go (eqb (keyOf g) (keyOf h)) refl
@@ -110,10 +93,3 @@ module _ (g : Operands) (small : Small g) where
         go : (q : Bool) → Each Small (cond q gs (gs ++ g ∷ []))
         go true = s
         go false = each-append Small gs (g ∷ []) s (small, tt)
-
-    pub joined-count : length (joined sameOperands g gs) ≡ max (length gs) (place sameOperands g gs + 1)
-    joined-count =
-        sym (length-map (joined sameOperands g gs) keyOf)
-        ∙ ap length (sym joined-keys)
-        ∙ joined-length (keyOf g) (map keyOf gs)
-        ∙ rw (place-keys gs s, length-map gs keyOf)

@@ -1,7 +1,7 @@
 -- The loop that shares gates: its invariant, and one turn.
 use Prim.Native.Nat.{ℕ, suc, _+_, _*_, _%_, _≤_, _<_, max}
 use mathlib.Core.Bool.{true, false}
-use mathlib.Core.List.{List, [], _∷_, _++_, map}
+use mathlib.Core.List.{List, [], map}
 use mathlib.Core.Path.{_≡_, refl, sym, ap, subst, _∙_}
 use native.Mathlib.Nat.{add-zero}
 use native.Mathlib.Omega.{arith}
@@ -16,15 +16,15 @@ use Rattle.lists.proofs.BoolLaws.{true-false}
 use Rattle.lists.proofs.PartLaws.{part-length, part-at, part-next}
 use Rattle.lists.proofs.TestLaws.{each-append, each-at}
 use Rattle.lists.proofs.WordLaws.{pairs-more, pairs-end}
-use Rattle.aiger.specs.declared.Gate.{Gate}
 use Rattle.aiger.specs.Gates.{variable, gateFrom}
 use Rattle.sharing.specs.Table.{Held}
 use Rattle.sharing.proofs.HeldLaws.{held-none, holding}
 use Rattle.composition.specs.Sharing.{translate, Operands, sameOperands, translated, Shared, shareGates}
 use Rattle.composition.specs.Composing.{gatesFit}
 use Rattle.linking.specs.declared.SharedGates.the-variants as answer
-use Rattle.linking.specs.Linked.{Translatable, keyOf, Keyable, keyAt, tableEnd, tableIn, Findable, FindsIn, Sharable, sharedIn, sharedAnswer, Linked, Shares}
-use Rattle.linking.proofs.KeyLaws.{Small, unordered-small, literal-small, place-keys, joined-keys, joined-small, joined-count}
+use Rattle.linking.specs.Linked.{Translatable, keyOf, TwoLiterals, keyAt, tableEnd, tableIn, Findable, FindsIn, Sharable, sharedIn, sharedAnswer, Linked, Shares}
+use Rattle.linking.proofs.FirstLaws.{joined-length}
+use Rattle.linking.proofs.KeyLaws.{Small, unordered-small, literal-small, place-keys, joined-keys, joined-small}
 use Rattle.linking.proofs.KeptLaws.{take-kept, at-kept, part-kept, set-take, set-drop}
 use Rattle.linking.proofs.ShareLaws.{withGate, gates-grow, fit-true, fit-false}
 
@@ -112,7 +112,7 @@ module _ (operands count vars known table leaves : ℕ) (work₀ : List ℕ) (pr
       translate-is : (x : ℕ) → variable x < known + i → translate (drop vars work) x ≡ translate (s .state .vars) x
       translate-is x h = ap (λ (y : ℕ). 2 * y + x % 2) (getD-drop vars work (variable x) 0 ∙ sym (variable-is (variable x) h))
 
-      pub turn-keyable : Keyable (operands + 2 * i) vars work
+      pub turn-keyable : TwoLiterals (operands + 2 * i) vars work
       turn-keyable =
           record {
             within = omega (arith, same, pre .first, pre .second, pre .third);
@@ -177,7 +177,7 @@ module _ (operands count vars known table leaves : ℕ) (work₀ : List ℕ) (pr
 
           module _ (shared₁ : ℕ) (m : shared₁ ≡ max shared (k + 1)) where
             next-count : shared₁ ≡ length (next .gates)
-            next-count = omega (arith, m, number-is, joined-count operandsNow operands-small (s .state .gates) (s .small), s .counted)
+            next-count = omega (arith, m, number-is, joined-length sameOperands operandsNow (s .state .gates), s .counted)
 
             pub turn-many : 2000000 < leaves + shared₁ → Shares operands count vars known table leaves work₀ work₁ answer.TooMany
             turn-many h =

@@ -1,2 +1,3 @@
 -- The gates and latches of all witnesses, linked by composed variables.
 pub mod Linked
+pub mod Latches

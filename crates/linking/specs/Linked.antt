@@ -26,15 +26,19 @@ pub record Translatable (vars : ℕ) (work : List ℕ) (l : ℕ) : Type 0 where
 abbrev pub keyOf : Operands → ℕ
 keyOf g = g .left + 4294967296 * g .right
 
--- two words from place `at` on are the operands of a gate
-pub record Keyable (at vars : ℕ) (work : List ℕ) : Type 0 where
+-- two words from place `at` on are literals that can be translated
+pub record TwoLiterals (at vars : ℕ) (work : List ℕ) : Type 0 where
   pub within : at + 1 < length work
   pub left : Translatable vars work (getD work at 0)
   pub right : Translatable vars work (getD work (at + 1) 0)
 
--- the key of that gate
+-- the composed literal of the word at a place
+abbrev pub literalAt : ℕ → ℕ → List ℕ → ℕ
+literalAt at vars work = translate (drop vars work) (getD work at 0)
+
+-- the key of the gate with the operands at a place
 abbrev pub keyAt : ℕ → ℕ → List ℕ → ℕ
-keyAt at vars work = keyOf (unordered (translate (drop vars work) (getD work at 0)) (translate (drop vars work) (getD work (at + 1) 0)))
+keyAt at vars work = keyOf (unordered (literalAt at vars work) (literalAt (at + 1) vars work))
 
 -- ---- the table of keys
 

@@ -1,15 +1,22 @@
 // The gates of all witnesses, which stand side by side in lent words, become the gates of the composition.
 ghost use mathlib.Core.Path.{_≡_};
 ghost use Prim.Native.Nat.{_+_, _<_, max};
-ghost use lib.ListN.{drop};
+ghost use lib.ListN.{length, drop};
 ghost use Rattle.composition.specs.Sharing.{translate, unordered};
-ghost use Rattle.linking.specs.Linked.{Translatable, keyOf, Keyable, keyAt, Findable, FindsIn, Sharable, Shares};
+ghost use Rattle.linking.specs.Linked.{Translatable, keyOf, TwoLiterals, keyAt, Findable, FindsIn, Sharable, Shares};
+ghost use Rattle.linking.specs.Latches.{Slot, SlotIs, samePair, Storable, DefinesLatch, Definable, Defines};
 use lists::index;
 
 // How many gates the composition has, or reason 17.
 pub enum SharedGates {
     All(usize),
     TooMany,
+}
+
+// How many latches the composition has, or reason 18.
+pub enum DefinedLatches {
+    Agreed(usize),
+    Differs,
 }
 
 // The composed literal of a joint one.
@@ -33,7 +40,7 @@ fn key_of(x: u64, y: u64) -> u64
 
 // The key of the composed gate for the gate whose operands stand at a place.
 fn gate_key(work: &[u64], at: usize, vars: usize) -> u64
-    requires { ⌜ Keyable at vars (now work) ⌝ }
+    requires { ⌜ TwoLiterals at vars (now work) ⌝ }
     ensures { λ r. ⌜ r ≡ keyAt at vars (now (work .entry)) ⌝ }
 {
     let left = translate(work, vars, work[at]);
@@ -85,4 +92,70 @@ pub fn share_gates(
         i += 1;
     }
     SharedGates::All(shared)
+}
+
+// How many latches stand before the one whose composed variable is at a place; the first has the variable `first`, and `seen` of them were met.
+fn slot_of(work: &[u64], at: usize, first: usize, seen: usize) -> usize
+    requires { ⌜ Slot at first seen (now work) ⌝ }
+    ensures { λ r. ⌜ SlotIs at first seen (now (work .entry)) r ⌝ }
+{
+    index(work[at]) - first
+}
+
+fn same_pair(work: &[u64], at: usize, x: u64, y: u64) -> bool
+    requires { ⌜ at + 1 < length (now work) ⌝ }
+    ensures { λ r. ⌜ r ≡ samePair at x y (now (work .entry)) ⌝ }
+{
+    if work[at] == x {
+        return work[at + 1] == y;
+    }
+    false
+}
+
+// Whether the latch whose words stand at `at` is as its first definition, which stands at `place`; where there is none yet, it is stored there.
+fn define_latch(work: &mut [u64], at: usize, vars: usize, place: usize, known: bool) -> bool
+    requires { ⌜ Storable at vars place (now work) ⌝ }
+    ensures { λ r. ⌜ DefinesLatch at vars place (now (work .entry)) (now (work .exit)) known r ⌝ }
+{
+    let next = translate(work, vars, work[at]);
+    let reset = translate(work, vars, work[at + 1]);
+    if known {
+        return same_pair(work, place, next, reset);
+    }
+    work[place] = next;
+    work[place + 1] = reset;
+    true
+}
+
+// Whether all definitions of each latch agree. The first definition of each composed latch is stored from the place `definitions` on.
+pub fn define_latches(
+    work: &mut [u64],
+    words: usize,
+    count: usize,
+    vars: usize,
+    own: usize,
+    definitions: usize,
+    first: usize,
+) -> DefinedLatches
+    requires { ⌜ Definable words count vars own definitions first (now work) ⌝ }
+    ensures { λ r. ⌜ Defines words count vars own definitions first (now (work .entry)) (now (work .exit)) r ⌝ }
+{
+    let mut seen = 0;
+    let mut j = 0;
+    while j < count {
+        let slot = slot_of(work, own + j, first, seen);
+        if define_latch(
+            work,
+            words + 2 * j,
+            vars,
+            definitions + 2 * slot,
+            slot < seen,
+        ) {
+            seen = greater(seen, slot + 1);
+            j += 1;
+        } else {
+            return DefinedLatches::Differs;
+        }
+    }
+    DefinedLatches::Agreed(seen)
 }

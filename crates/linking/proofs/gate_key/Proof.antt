@@ -1,11 +1,7 @@
-use Rattle.linking.proofs.KeyLaws.{literal-small, key-read}
 use borrow.Author.Needs.{needs}
+use Rattle.linking.proofs.KeyLaws.{literal-small, key-read}
 use Rattle.linking.proofs.gate_key.Statement.{statement}
 use Rattle.linking.proofs.gate_key.Tie as tie
-use Rattle.linking.proofs.gate_key.Reads as reads
-use Rattle.linking.proofs.gate_key.Lts as lts
-use Rattle.linking.proofs.key_of.Reads as key-of-reads
-use Rattle.linking.proofs.translate.Reads as translate-reads
 
 mul-translate : tie.Need-mul-translate
 mul-translate c = search needs

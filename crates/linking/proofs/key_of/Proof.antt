@@ -1,9 +1,7 @@
-use Rattle.linking.proofs.KeyLaws.{key-first, key-second}
 use borrow.Author.Needs.{needs}
+use Rattle.linking.proofs.KeyLaws.{key-first, key-second}
 use Rattle.linking.proofs.key_of.Statement.{statement}
 use Rattle.linking.proofs.key_of.Tie as tie
-use Rattle.linking.proofs.key_of.Reads as reads
-use Rattle.linking.proofs.key_of.Lts as lts
 
 mul-result : tie.Need-mul-result
 mul-result c = search needs

@@ -1,10 +1,7 @@
-use Rattle.linking.proofs.KeptLaws.{found-in}
 use borrow.Author.Needs.{needs}
+use Rattle.linking.proofs.KeptLaws.{found-in}
 use Rattle.linking.proofs.number_of.Statement.{statement}
 use Rattle.linking.proofs.number_of.Tie as tie
-use Rattle.linking.proofs.number_of.Reads as reads
-use Rattle.linking.proofs.number_of.Lts as lts
-use Rattle.sharing.proofs.find_or_add.Reads as find-or-add-reads
 
 mul-end : tie.Need-mul-end
 mul-end c = search needs

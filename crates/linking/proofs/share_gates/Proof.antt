@@ -1,16 +1,10 @@
 use Prim.Native.Nat.{_-_}
 use mathlib.Core.Path.{_≡_, refl}
-use native.Mathlib.Omega.{arith}
 use lib.ListN.{length, length-set}
-use Rattle.linking.proofs.TurnLaws.{Sharing, sharing-none, sharing-done, turn-keyable, turn-findable, turn-many, turn-more}
 use borrow.Author.Needs.{needs}
+use Rattle.linking.proofs.TurnLaws.{Sharing, sharing-none, sharing-done, turn-keyable, turn-findable, turn-many, turn-more}
 use Rattle.linking.proofs.share_gates.Statement.{statement}
 use Rattle.linking.proofs.share_gates.Tie as tie
-use Rattle.linking.proofs.share_gates.Reads as reads
-use Rattle.linking.proofs.share_gates.Lts as lts
-use Rattle.linking.proofs.gate_key.Reads as gate-key-reads
-use Rattle.linking.proofs.greater.Reads as greater-reads
-use Rattle.linking.proofs.number_of.Reads as number-of-reads
 
 abbrev Inv-loop : tie.InvT-loop
 Inv-loop work₀ operands count vars known table leaves shared₀ i₀ work shared i = (length work ≡ length work₀) × Sharing operands count vars known table leaves work₀ work shared i

@@ -1,11 +1,8 @@
 use native.Mathlib.Omega.{arith}
-use Rattle.linking.proofs.KeyLaws.{literal-read, word-small}
 use borrow.Author.Needs.{needs}
+use Rattle.linking.proofs.KeyLaws.{literal-read, word-small}
 use Rattle.linking.proofs.translate.Statement.{statement}
 use Rattle.linking.proofs.translate.Tie as tie
-use Rattle.linking.proofs.translate.Reads as reads
-use Rattle.linking.proofs.translate.Lts as lts
-use Rattle.lists.proofs.index.Reads as index-reads
 
 index-requires : tie.Need-index-requires
 index-requires c κs = search needs
