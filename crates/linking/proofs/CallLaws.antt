@@ -1,4 +1,4 @@
--- For callers: composed latches are numbered in turn, their definitions are the words of the composition's latches, and only the variables that a latch names count.
+-- For callers: composed variables are small, composed latches are numbered in turn, their definitions are the words of the composition's latches, and only the variables that a latch names count.
 use Prim.Native.Nat.{ℕ, suc, _+_, _-_, _*_, _%_, _≤_, _<_}
 use mathlib.Core.Bool.{true}
 use mathlib.Core.List.{List, [], _∷_, map}
@@ -11,14 +11,27 @@ use Rattle.lists.specs.Firsts.{appearing}
 use Rattle.lists.specs.Parts.{part}
 use Rattle.lists.specs.Tests.{Each}
 use Rattle.lists.specs.Words.{wordsOf}
-use Rattle.aiger.specs.Gates.{variable}
+use Rattle.lists.proofs.PartLaws.{part-length}
+use Rattle.lists.proofs.WordLaws.{pairs-count}
+use Rattle.aiger.specs.Gates.{variable, gateFrom}
 use Rattle.witness.specs.Sections.{NamedLatch}
 use Rattle.witness_words.specs.Loaded.{latchWords}
 use Rattle.composition.specs.Numbering.{Key, shared, alone, sameKey, Entry, sameEntry, numbered}
 use Rattle.composition.specs.Sharing.{translate}
 use Rattle.composition.specs.Composing.{Defined, definedFrom, composedLatches}
+use Rattle.linking.specs.Linked.{gatesAt, Sharable, sharedIn}
 use Rattle.linking.specs.Latches.{InTurn, metIn, definitionsFrom}
 use Rattle.linking.proofs.FirstLaws.{numbers-in-turn, numbers-met}
+use Rattle.linking.proofs.ShareLaws.{shared-low}
+
+-- after the gates are shared, all composed variables are small, as `Definable` asks
+pub variables-small : (operands count vars known table leaves : ℕ) (work : List ℕ) → Sharable operands count vars known table leaves work
+    → Each (λ x. x < 1073741824) (sharedIn operands count vars known leaves work .vars)
+variables-small operands count vars known table leaves work s =
+    let ws : List ℕ = part work operands (operands + 2 * count) in
+    let size : length ws ≡ operands + 2 * count - operands = part-length work operands (operands + 2 * count) (omega (arith, s .first, s .second, s .third)) in
+    shared-low 1073741824 (suc leaves) (gatesAt operands count work) (record { vars = part work vars (vars + known); gates = [] })
+    (omega (arith, pairs-count (gateFrom 0) ws, size, s .few)) (s .small)
 
 key-self : (k : Key) → sameKey k k ≡ true
 key-self (shared l) = eq-eqb l l refl

@@ -18,7 +18,7 @@ use Rattle.linking.specs.Linked.{TwoLiterals, literalAt}
 
 -- ---- numbers in the order of first appearance
 
--- Each number was met, or is the next: those from `first` on were met, so many of them.
+-- Each number was met, or is the next one: those met are `first`, `first` + 1, .., `seen` of them.
 abbrev pub InTurn : ℕ → ℕ → List ℕ → Type 0
 InTurn first seen [] = Unit {0}
 InTurn first seen (v ∷ vs) = (first ≤ v) × (v ≤ first + seen) × InTurn first (max seen (v - first + 1)) vs
@@ -28,18 +28,20 @@ abbrev pub metIn : ℕ → ℕ → List ℕ → ℕ
 metIn first seen [] = seen
 metIn first seen (v ∷ vs) = metIn first (max seen (v - first + 1)) vs
 
--- the word at a place was met, or is the next
+-- the word at a place was met, or is the next one
 pub record Slot (at first seen : ℕ) (work : List ℕ) : Type 0 where
   pub within : at < length work
   pub above : first ≤ getD work at 0
   pub below : getD work at 0 ≤ first + seen
 
+-- r is its number
 pub record SlotIs (at first seen : ℕ) (work : List ℕ) (r : ℕ) : Type 0 where
   pub is : first + r ≡ getD work at 0
   pub low : r ≤ seen
 
 -- ---- one latch
 
+-- two words at a place are x and y
 abbrev pub samePair : ℕ → ℕ → ℕ → List ℕ → Bool
 samePair at x y work = eqb (getD work at 0) x && eqb (getD work (at + 1) 0) y
 
@@ -55,6 +57,7 @@ DefinesLatch at vars place work work' false r = (r ≡ true) × (work' ≡ put w
 
 -- ---- all latches
 
+-- a latch by its two words; names stand elsewhere
 abbrev pub latchFrom : ℕ → ℕ → NamedLatch
 latchFrom next reset = record { next = next; reset = reset; name = none }
 

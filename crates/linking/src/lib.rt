@@ -1,4 +1,4 @@
-// The gates of all witnesses, which stand side by side in lent words, become the gates of the composition.
+// The gates and latches of all witnesses, which stand side by side in lent words, become those of the composition.
 ghost use mathlib.Core.Path.{_≡_};
 ghost use Prim.Native.Nat.{_+_, _<_, max};
 ghost use lib.ListN.{length, drop};
@@ -94,7 +94,7 @@ pub fn share_gates(
     SharedGates::All(shared)
 }
 
-// How many latches stand before the one whose composed variable is at a place; the first has the variable `first`, and `seen` of them were met.
+// The number of the composed latch whose variable is at a place: the first one has the variable `first`, and `seen` of them were met.
 fn slot_of(work: &[u64], at: usize, first: usize, seen: usize) -> usize
     requires { ⌜ Slot at first seen (now work) ⌝ }
     ensures { λ r. ⌜ SlotIs at first seen (now (work .entry)) r ⌝ }
@@ -144,13 +144,8 @@ pub fn define_latches(
     let mut j = 0;
     while j < count {
         let slot = slot_of(work, own + j, first, seen);
-        if define_latch(
-            work,
-            words + 2 * j,
-            vars,
-            definitions + 2 * slot,
-            slot < seen,
-        ) {
+        let place = definitions + 2 * slot;
+        if define_latch(work, words + 2 * j, vars, place, slot < seen) {
             seen = greater(seen, slot + 1);
             j += 1;
         } else {

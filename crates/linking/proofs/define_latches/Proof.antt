@@ -21,17 +21,17 @@ add-slot-of c = search needs
 slot-of-requires : tie.Need-slot-of-requires Inv-loop μ-loop
 slot-of-requires c κs = search turn-slot
 
+mul-place : tie.Need-mul-place Inv-loop μ-loop
+mul-place c = search needs
+
+add-place : tie.Need-add-place Inv-loop μ-loop
+add-place c = search needs
+
 mul-define-latch : tie.Need-mul-define-latch Inv-loop μ-loop
 mul-define-latch c = search needs
 
 add-define-latch : tie.Need-add-define-latch Inv-loop μ-loop
 add-define-latch c = search needs
-
-mul-define-latch-2 : tie.Need-mul-define-latch-2 Inv-loop μ-loop
-mul-define-latch-2 c = search needs
-
-add-define-latch-2 : tie.Need-add-define-latch-2 Inv-loop μ-loop
-add-define-latch-2 c = search needs
 
 define-latch-requires : tie.Need-define-latch-requires Inv-loop μ-loop
 define-latch-requires c κs = search turn-storable
@@ -72,10 +72,10 @@ define-latches-spec =
     loop-holds
     add-slot-of
     slot-of-requires
+    mul-place
+    add-place
     mul-define-latch
     add-define-latch
-    mul-define-latch-2
-    add-define-latch-2
     define-latch-requires
     add-greater
     greater-requires
