@@ -7,7 +7,7 @@ use mathlib.Core.Path.{_≡_, refl, sym, ap, _∙_}
 use native.Mathlib.Omega.{arith}
 use borrow.Author.Tests.{eq-eqb, ne-eqb, leb-true}
 use lib.Dec.{eqb, leb}
-use lib.ListN.{length}
+use lib.ListN.{length, getD}
 use Rattle.lists.specs.Parts.{Bytes, part}
 use Rattle.lists.proofs.BoolLaws.{true-or-false}
 use Rattle.scan.specs.Same.{beginsWith}
@@ -17,7 +17,7 @@ use Rattle.composition.specs.declared.Mapping.{Mapping}
 use Rattle.composition.specs.declared.Mapping.the-variants as mapping
 use Rattle.composition.specs.Mapping.{isMapped, byName, byPosition, mappingOf}
 use Rattle.joint.specs.Joint.{originWord}
-use Rattle.origins.specs.Mapped.{SaysName, MapsTo, TestsName}
+use Rattle.origins.specs.Mapped.{SaysName, MapsTo, TestsName, SaysAt, TestsAt, MappedAt, MapsAt}
 
 pub some-same : {A : Type 0} (a b : A) → some a ≡ some b → a ≡ b
 some-same a b e = cc
@@ -77,3 +77,19 @@ module _ (w : ℕ) (m : Mapping) where
 
   pub wrong-word : m ≡ mapping.Wrong → 2 * w + 1 ≡ originWord w m
   wrong-word e = rw e refl
+
+-- ---- names by the words at a place
+
+module _ (t : Bytes) (words : List ℕ) (i a b : ℕ) (x : a ≡ getD words (2 * i) 0) (y : b ≡ getD words (2 * i + 1) 0) where
+  pub says-read : SaysAt t words i → SaysName t a b
+  says-read k = rw (x, y) (k .says)
+
+  pub tests-read : (r : Bool) → TestsName t a b r → TestsAt t words i r
+  tests-read r k = record { tests = λ name e. k name (rw (x, y) e) }
+
+module _ (p : ModelLeaves) (k : ℕ) (t : Bytes) (work : List ℕ) (at a b : ℕ) (x : a ≡ getD work at 0) (y : b ≡ getD work (at + 1) 0) where
+  pub mapped-says : MappedAt p t work at k → SaysName t a b
+  mapped-says m = rw (x, y) (m .says)
+
+  pub maps-read : (named : Bool) (r : Mapping) → MapsTo p named k t a b r → MapsAt p named k t work at r
+  maps-read named r m = record { maps = λ name e. m name (rw (x, y) e) }

@@ -4,17 +4,22 @@ ghost use mathlib.Core.Path.{_≡_};
 ghost use Rattle.text.specs.declared.Number.the-variants.{Value};
 ghost use Rattle.text.specs.declared.Reader.the-variants.{Witness};
 ghost use Rattle.text.specs.Numbers.{numberOf};
-ghost use Prim.Native.Nat.{_<_};
+ghost use mathlib.Core.Bool.{cond};
+ghost use Prim.Native.Nat.{_+_, _≤_, _<_};
+ghost use Rattle.gathering.specs.Gathered.{wordsFor};
+ghost use Rattle.origins.specs.declared.Origins.the-variants as origins;
 ghost use Rattle.composition.specs.Mapping.{ontoNumber, byName, byPosition};
 ghost use Rattle.composition.specs.Composing.{isRight};
 ghost use Rattle.joint.specs.Joint.{originWord};
-ghost use Rattle.origins.specs.Mapped.{FewLeaves, SaysName, MapsTo, TestsName, SayNames, AnyMapped, CanMap, StoresOrigins};
+ghost use Rattle.origins.specs.Mapped.{FewLeaves, SaysName, MapsTo, MappedAt, MapsAt, TestsName, SaysAt, TestsAt, SayNames, AnyMapped, CanMap, StoresOrigins, leafCounts, namesBefore, CanTest, TestsWitness, CanMapWitness, MapsWitness, CanMapAll, MapsAll};
 use composition::Mapping;
 use composition::ModelLeaves;
+use joint::Leaves;
 use text::Number;
+use witness_text::AagCounts;
 
 // The place after the origins, or that a literal is wrong (reason 16).
-pub enum Gathered {
+pub enum Origins {
     Next(usize),
     Wrong,
 }
@@ -88,6 +93,16 @@ fn mapping_of(text: &[u8], offset: usize, size: usize, named: bool, p: ModelLeav
     by_position(p, k)
 }
 
+// What input or latch number k maps to; the two words at a place say its name.
+fn mapping_at(text: &[u8], work: &[u64], at: usize, named: bool, p: ModelLeaves, k: usize) -> Mapping
+    requires { ⌜ MappedAt p (now text) (now work) at k ⌝ }
+    ensures { λ r. ⌜ MapsAt p named k (now (text .entry)) (now (work .entry)) at r ⌝ }
+{
+    let offset = lists::index(work[at]);
+    let size = lists::index(work[at + 1]);
+    mapping_of(text, offset, size, named, p, k)
+}
+
 // Whether a name begins with `= `; two words say it.
 fn is_mapped(text: &[u8], offset: usize, size: usize) -> bool
     requires { ⌜ SaysName (now text) offset size ⌝ }
@@ -99,6 +114,16 @@ fn is_mapped(text: &[u8], offset: usize, size: usize) -> bool
     scan::begins_with(gathering::piece(text, offset, size), b"= ")
 }
 
+// Whether name number i begins with `= `.
+fn mapped_at(text: &[u8], words: &[u64], i: usize) -> bool
+    requires { ⌜ SaysAt (now text) (now words) i ⌝ }
+    ensures { λ r. ⌜ TestsAt (now (text .entry)) (now (words .entry)) i r ⌝ }
+{
+    let offset = lists::index(words[2 * i]);
+    let size = lists::index(words[2 * i + 1]);
+    is_mapped(text, offset, size)
+}
+
 // Whether one of the names begins with `= `.
 fn any_mapped(text: &[u8], words: &[u64]) -> bool
     requires { ⌜ SayNames (now text) (now words) ⌝ }
@@ -107,7 +132,7 @@ fn any_mapped(text: &[u8], words: &[u64]) -> bool
     let count = words.len() / 2;
     let mut i = 0;
     while i < count {
-        if is_mapped(text, lists::index(words[2 * i]), lists::index(words[2 * i + 1])) {
+        if mapped_at(text, words, i) {
             return true;
         }
         i += 1;
@@ -144,9 +169,7 @@ fn store_origins(text: &[u8], work: &mut [u64], from: usize, count: usize, named
 {
     let mut k = 0;
     while k < count {
-        let offset = lists::index(work[from + 2 * k]);
-        let size = lists::index(work[from + 2 * k + 1]);
-        let mapping = mapping_of(text, offset, size, named, p, k);
+        let mapping = mapping_at(text, work, from + 2 * k, named, p, k);
         if is_right(mapping) {
             work[to + k] = origin_word(w, mapping);
             k += 1;
@@ -155,4 +178,79 @@ fn store_origins(text: &[u8], work: &mut [u64], from: usize, count: usize, named
         }
     }
     true
+}
+
+fn leaf_count(leaves: Leaves, n: AagCounts) -> usize
+    ensures { λ r. ⌜ r ≡ leafCounts leaves n ⌝ }
+{
+    match leaves {
+        Leaves::Inputs => n.inputs,
+        Leaves::Latches => n.latches,
+    }
+}
+
+// Where the names of the inputs, or latches, begin; the words of the text begin at a place.
+fn names_at(leaves: Leaves, n: AagCounts, from: usize, end: usize) -> usize
+    requires { ⌜ from + wordsFor n ≤ end ⌝ }
+    ensures { λ r. ⌜ r ≡ from + namesBefore leaves n ⌝ }
+{
+    match leaves {
+        Leaves::Inputs => from,
+        Leaves::Latches => from + 2 * n.inputs,
+    }
+}
+
+// Whether witness maps by name; its words begin at a place.
+fn maps_by_name(text: &[u8], n: AagCounts, work: &[u64], from: usize) -> bool
+    requires { ⌜ CanTest (now text) n (now work) from ⌝ }
+    ensures { λ r. ⌜ TestsWitness (now (text .entry)) n (now (work .entry)) from r ⌝ }
+{
+    let end = from + 2 * (n.inputs + n.latches);
+    any_mapped(text, &work[from..end])
+}
+
+// The place after so many origins, where they were stored.
+fn stored(right: bool, to: usize, count: usize, end: usize) -> Origins
+    requires { ⌜ to + count ≤ end ⌝ }
+    ensures { λ r. ⌜ r ≡ cond right (origins.Next (to + count)) origins.Wrong ⌝ }
+{
+    if right {
+        return Origins::Next(to + count);
+    }
+    Origins::Wrong
+}
+
+// The origins of the inputs, or latches, of witness w, whose words begin at a place, from another place on.
+fn witness_origins(text: &[u8], n: AagCounts, work: &mut [u64], from: usize, leaves: Leaves, p: ModelLeaves, w: usize, to: usize) -> Origins
+    requires { ⌜ CanMapWitness p leaves (now text) n (now work) from w to ⌝ }
+    ensures { λ r. ⌜ MapsWitness p leaves (now (text .entry)) n (now (work .entry)) from w to (now (work .exit)) r ⌝ }
+{
+    let named = maps_by_name(text, n, work, from);
+    let names = names_at(leaves, n, from, to);
+    let count = leaf_count(leaves, n);
+    let right = store_origins(text, work, names, count, named, p, w, to);
+    stored(right, to, count, work.len())
+}
+
+// The origins of the inputs, or latches, of all witnesses, from a place on.
+pub fn gather_origins(witnesses: &[u8], pairs: &[u64], work: &mut [u64], leaves: Leaves, p: ModelLeaves, to: usize) -> Origins
+    requires { ⌜ CanMapAll p leaves (now witnesses) (now pairs) (now work) to ⌝ }
+    ensures { λ r. ⌜ MapsAll p leaves (now (witnesses .entry)) (now (pairs .entry)) (now (work .entry)) to (now (work .exit)) r ⌝ }
+{
+    let count = pairs.len() / 2;
+    let mut from = 0;
+    let mut at = to;
+    let mut w = 0;
+    while w < count {
+        let text = gathering::text_at(witnesses, pairs, w);
+        let n = gathering::counts_of(text);
+        let next = gathering::after_words(n, from, at);
+        let Origins::Next(end) = witness_origins(text, n, work, from, leaves, p, w, at) else {
+            return Origins::Wrong;
+        };
+        at = end;
+        from = next;
+        w += 1;
+    }
+    Origins::Next(at)
 }

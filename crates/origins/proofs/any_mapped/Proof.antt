@@ -15,35 +15,8 @@ abbrev μ-loop : tie.MeasureT-loop
 loop-holds : tie.Need-loop-holds Inv-loop μ-loop
 loop-holds c = search (needs, testing-none)
 
-mul-index : tie.Need-mul-index Inv-loop μ-loop
-mul-index c = search needs
-
-mul-index-2 : tie.Need-mul-index-2 Inv-loop μ-loop
-mul-index-2 c = search needs
-
-shared-slice-read-index : tie.Need-shared-slice-read-index Inv-loop μ-loop
-shared-slice-read-index c = search needs
-
-index-requires : tie.Need-index-requires Inv-loop μ-loop
-index-requires c κs = search needs
-
-mul-index-3 : tie.Need-mul-index-3 Inv-loop μ-loop
-mul-index-3 c = search needs
-
-add-index : tie.Need-add-index Inv-loop μ-loop
-add-index c = search needs
-
-mul-index-4 : tie.Need-mul-index-4 Inv-loop μ-loop
-mul-index-4 c = search needs
-
-shared-slice-read-index-2 : tie.Need-shared-slice-read-index-2 Inv-loop μ-loop
-shared-slice-read-index-2 c = search needs
-
-index-requires-2 : tie.Need-index-requires-2 Inv-loop μ-loop
-index-requires-2 c κs = search needs
-
-is-mapped-requires : tie.Need-is-mapped-requires Inv-loop μ-loop
-is-mapped-requires c κs = search testing-says
+mapped-at-requires : tie.Need-mapped-at-requires Inv-loop μ-loop
+mapped-at-requires c κs = search testing-says
 
 returns : tie.Need-returns Inv-loop μ-loop
 returns c = search testing-true
@@ -67,16 +40,7 @@ any-mapped-spec =
     Inv-loop
     μ-loop
     loop-holds
-    mul-index
-    mul-index-2
-    shared-slice-read-index
-    index-requires
-    mul-index-3
-    add-index
-    mul-index-4
-    shared-slice-read-index-2
-    index-requires-2
-    is-mapped-requires
+    mapped-at-requires
     returns
     add-i
     loop-less
