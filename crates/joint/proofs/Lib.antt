@@ -1,5 +1,11 @@
--- Laws of the witnesses side by side.
+-- Laws of the witnesses side by side: the joint circuit gives what the definitions of crate `composition` give witness by witness.
 pub mod RiseLaws
 pub mod OriginLaws
 pub mod FreshLaws
 pub mod NumberLaws
+pub mod ShiftLaws
+pub mod AmountLaws
+pub mod BesideLaws
+pub mod SideLaws
+pub mod GateLaws
+pub mod VarsLaws

@@ -1,6 +1,6 @@
 -- The numbers that the origin words get, with a table of the model's literals, are those of their entries at first appearance.
-use Prim.Native.Nat.{ℕ, zero, suc, _+_, _*_, _/_, _%_, _<_}
-use mathlib.Core.Bool.{Bool, true, false, cond, _||_}
+use Prim.Native.Nat.{ℕ, suc, _+_, _*_, _/_, _%_, _<_}
+use mathlib.Core.Bool.{Bool, true, false, cond}
 use mathlib.Core.List.{List, [], _∷_, _++_, map}
 use mathlib.Core.Path.{_≡_, refl, sym, ap, ap₂, subst, _∙_}
 use native.Mathlib.Omega.{arith}
@@ -13,12 +13,12 @@ use Rattle.lists.specs.Firsts.{place, joined, appearing}
 use Rattle.lists.specs.Parts.{zeros}
 use Rattle.lists.specs.Tests.{any}
 use Rattle.lists.proofs.BoolLaws.{or-false}
-use Rattle.lists.proofs.FirstLaws.{place-outside, place-append, place-same, joined-has, joined-new, joined-any}
+use Rattle.lists.proofs.FirstLaws.{place-outside, place-append, place-same, joined-has, joined-any}
 use Rattle.lists.proofs.TestLaws.{any-append, any-cong}
 use Rattle.lists.proofs.ZeroLaws.{zeros-length, zeros-at}
 use Rattle.witness.specs.Sections.{Sections}
 use Rattle.composition.specs.declared.ModelLeaves.{ModelLeaves}
-use Rattle.composition.specs.Numbering.{Key, shared, alone, sameKey, Entry, sameEntry, inputEntries, latchEntries, inputFirsts, latchFirsts, numbered}
+use Rattle.composition.specs.Numbering.{Key, shared, alone, sameKey, Entry, sameEntry, inputEntries, latchEntries, inputFirsts, latchFirsts, numbered, leafCount}
 use Rattle.composition.proofs.PlacedLaws.{entry-self, entry-alike}
 use Rattle.composition.proofs.WholeLaws.{Both}
 use Rattle.joint.specs.declared.Leaves.{Leaves}
@@ -26,7 +26,7 @@ use Rattle.joint.specs.declared.Leaves.the-variants as leaf
 use Rattle.joint.specs.Joint.{modelOf, origins}
 use Rattle.joint.specs.Numbers.{Numbers, withNumber, slot, numberAll}
 use Rattle.joint.proofs.RiseLaws.{place-joined, place-first}
-use Rattle.joint.proofs.OriginLaws.{Within, Says, entriesOf, entries-inputs, entries-latches, origins-say}
+use Rattle.joint.proofs.OriginLaws.{OfKind, Says, entriesOf, entries-inputs, entries-latches, origins-say}
 use Rattle.joint.proofs.FreshLaws.{New, Fresh, entries-fresh}
 
 -- the numbers r that entries get, where `firsts` have the numbers n, n + 1, ..
@@ -91,9 +91,11 @@ module _ (n : ℕ) (some : 0 < n) (p : ModelLeaves) where
       → Numbered n (appearing sameEntry seen es) es (numberAll (p .before) (n + length seen) xs table)
 
   module _ (e : Entry) (seen : List Entry) (x : ℕ) (xs : List ℕ) (es : List Entry) (rest : Rest (joined sameEntry e seen) xs es) (table : List ℕ) (long : length table ≡ p .count) (t : Table seen table) where
+    -- the first appearances in the end
     abbrev firsts : List Entry
     firsts = appearing sameEntry (joined sameEntry e seen) es
 
+    -- the next number
     abbrev next : ℕ
     next = n + length seen
 
@@ -110,7 +112,8 @@ module _ (n : ℕ) (some : 0 < n) (p : ModelLeaves) where
     number-alone w k is o f =
         rw o (with-new f table long (λ j h. t j h ∙ sym (word-other n seen e (entryFor (2 * suc (p .before + j))) (ap (sameKey (shared (2 * suc (p .before + j)))) is))))
 
-    module _ (is : e .key ≡ shared x) (o : odd x ≡ false) (within : Within p x) where
+    module _ (is : e .key ≡ shared x) (o : odd x ≡ false) (within : OfKind p x) where
+      -- the word's place in the table
       abbrev at : ℕ
       at = slot (p .before) x
 
@@ -121,6 +124,7 @@ module _ (n : ℕ) (some : 0 < n) (p : ModelLeaves) where
           let above : p .before < x / 2 = within .above in
           omega arith
 
+      -- it is in the table
       inside : at < length table
       inside = rw long (within .slot)
 
@@ -194,18 +198,38 @@ number-origins kind m ws n some =
     (number-rest n some p (origins kind m ws) es [] (origins-say kind m ws) (entries-fresh kind m ws)
     (zeros (p .count)) (zeros-length (p .count)) (λ j h. zeros-at (p .count) j))
 
--- The inputs of all witnesses are numbered from 1 on.
-pub number-inputs : (m : Sections) (ws : List Sections)
+-- the same for the inputs
+inputs-numbered : (m : Sections) (ws : List Sections)
     → Numbered 1 (inputFirsts m ws) (inputEntries m 0 ws) (numberAll 0 1 (origins leaf.Inputs m ws) (zeros (length (m .inputs))))
-number-inputs m ws =
+inputs-numbered m ws =
     subst (λ (es : List Entry). Numbered 1 (appearing sameEntry [] es) es (numberAll 0 1 (origins leaf.Inputs m ws) (zeros (length (m .inputs)))))
     (entries-inputs m 0 ws) (number-origins leaf.Inputs m ws 1 (omega arith))
 
--- The latches of all witnesses are numbered behind the inputs.
-pub number-latches : (m : Sections) (ws : List Sections)
+-- the same for the latches, behind the inputs
+latches-numbered : (m : Sections) (ws : List Sections)
     → Numbered (suc (length (inputFirsts m ws))) (latchFirsts m ws) (latchEntries m 0 ws)
     (numberAll (length (m .inputs)) (suc (length (inputFirsts m ws))) (origins leaf.Latches m ws) (zeros (length (m .latches))))
-number-latches m ws =
+latches-numbered m ws =
     let n : ℕ = suc (length (inputFirsts m ws)) in
     subst (λ (es : List Entry). Numbered n (appearing sameEntry [] es) es (numberAll (length (m .inputs)) n (origins leaf.Latches m ws) (zeros (length (m .latches)))))
     (entries-latches m 0 ws) (number-origins leaf.Latches m ws n (omega arith))
+
+-- The inputs of all witnesses get the composed variables of their entries.
+pub input-numbers : (m : Sections) (ws : List Sections)
+    → numberAll 0 1 (origins leaf.Inputs m ws) (zeros (length (m .inputs))) .numbers ≡ map (numbered 1 (inputFirsts m ws)) (inputEntries m 0 ws)
+input-numbers m ws = inputs-numbered m ws .numbers
+
+-- The number behind them.
+pub input-next : (m : Sections) (ws : List Sections) → numberAll 0 1 (origins leaf.Inputs m ws) (zeros (length (m .inputs))) .next ≡ suc (length (inputFirsts m ws))
+input-next m ws = inputs-numbered m ws .next ∙ omega arith
+
+-- The latches of all witnesses get the composed variables of their entries.
+pub latch-numbers : (m : Sections) (ws : List Sections)
+    → numberAll (length (m .inputs)) (suc (length (inputFirsts m ws))) (origins leaf.Latches m ws) (zeros (length (m .latches))) .numbers
+    ≡ map (numbered (suc (length (inputFirsts m ws))) (latchFirsts m ws)) (latchEntries m 0 ws)
+latch-numbers m ws = latches-numbered m ws .numbers
+
+-- The number behind them is that of the first composed gate.
+pub latch-next : (m : Sections) (ws : List Sections)
+    → numberAll (length (m .inputs)) (suc (length (inputFirsts m ws))) (origins leaf.Latches m ws) (zeros (length (m .latches))) .next ≡ suc (leafCount m ws)
+latch-next m ws = latches-numbered m ws .next ∙ omega arith

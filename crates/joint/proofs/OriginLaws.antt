@@ -1,20 +1,17 @@
 -- The origin word of each input, or latch, beside its entry: what the word says of the entry, and that private entries are always new.
-use Prim.Native.Nat.{ℕ, suc, _+_, _-_, _*_, _/_, _%_, _≤_, _<_}
+use Prim.Native.Nat.{ℕ, suc, _+_, _*_, _/_, _%_, _≤_, _<_}
 use mathlib.Core.Bool.{Bool, true, false, cond, not, _&&_}
 use mathlib.Core.List.{List, [], _∷_, _++_}
 use mathlib.Core.Option.{Option, some, none}
-use mathlib.Core.Path.{_≡_, refl, sym, ap, _∙_}
+use mathlib.Core.Path.{_≡_, refl, ap}
 use native.Mathlib.Omega.{arith}
-use lib.Dec.{eqb, ltb, leb}
-use lib.ListN.{length, drop}
-use borrow.Author.Tests.{ltb-true, leb-true, lt-ltb, le-leb, eqb-true, eq-eqb, ne-eqb, not-true}
+use lib.Dec.{ltb, leb}
+use lib.ListN.{drop}
+use borrow.Author.Tests.{ltb-true, leb-true, lt-ltb, le-leb, eq-eqb, ne-eqb, not-true}
 use Rattle.lists.specs.Bits.{odd}
-use Rattle.lists.specs.Firsts.{joined, appearing}
 use Rattle.lists.specs.Parts.{Bytes}
-use Rattle.lists.specs.Tests.{any, Each}
+use Rattle.lists.specs.Tests.{Each}
 use Rattle.lists.proofs.BoolLaws.{and-left, and-right, true-false}
-use Rattle.lists.proofs.FirstLaws.{each-joined, each-appearing}
-use Rattle.lists.proofs.TestLaws.{each-so, each-append}
 use Rattle.scan.specs.Same.{beginsWith}
 use Rattle.text.specs.declared.Number.{Number}
 use Rattle.text.specs.declared.Number.the-variants as number
@@ -26,7 +23,7 @@ use Rattle.composition.specs.declared.ModelLeaves.{ModelLeaves}
 use Rattle.composition.specs.declared.Mapping.{Mapping}
 use Rattle.composition.specs.declared.Mapping.the-variants as mapping
 use Rattle.composition.specs.Mapping.{equals, isOf, ontoNumber, byName, byPosition, mapsByName, mappingOf}
-use Rattle.composition.specs.Numbering.{Key, shared, alone, sameKey, Entry, sameEntry, private-input, private-latch, entryOf, entriesFrom, inputEntries, latchEntries}
+use Rattle.composition.specs.Numbering.{Key, shared, alone, Entry, private-input, private-latch, entryOf, entriesFrom, inputEntries, latchEntries}
 use Rattle.composition.proofs.WholeLaws.{Both}
 use Rattle.joint.specs.declared.Before.{Before}
 use Rattle.joint.specs.declared.Leaves.{Leaves}
@@ -107,13 +104,13 @@ module _ (p : ModelLeaves) where
   mapping-right false k name = position-right k
 
 -- an even word of a kind: the literal of one of these inputs, or latches, of the model
-pub record Within (p : ModelLeaves) (x : ℕ) : Type 0 where
+pub record OfKind (p : ModelLeaves) (x : ℕ) : Type 0 where
   pub slot : slot (p .before) x < p .count
   pub above : p .before < x / 2
 
 -- what the origin word x says of a key: its literal, or that it is private
 abbrev pub Says : ModelLeaves → ℕ → Key → Type 0
-Says p x (shared l) = (x ≡ l) × ((odd x ≡ false) × Within p x)
+Says p x (shared l) = (x ≡ l) × ((odd x ≡ false) × OfKind p x)
 Says p x (alone w k) = odd x ≡ true
 
 module _ (p : ModelLeaves) (unnamed : Bytes) (w : ℕ) where
@@ -161,17 +158,17 @@ pub origins-say : (kind : Leaves) (m : Sections) (ws : List Sections) → Both (
 origins-say kind m ws = all-say kind m 0 nothingBefore ws
 
 -- a word that says a key is odd or within its kind
-says-within : (p : ModelLeaves) (x : ℕ) (k : Key) → Says p x k → odd x ≡ false → Within p x
+says-within : (p : ModelLeaves) (x : ℕ) (k : Key) → Says p x k → odd x ≡ false → OfKind p x
 says-within p x (shared l) h e = h .1 .1
 says-within p x (alone w k) h e = true-false h e
 
 -- so are all that say keys
-all-within : (p : ModelLeaves) (xs : List ℕ) (es : List Entry) → Both (λ x e. Says p x (e .key)) xs es → Each (λ x. odd x ≡ false → Within p x) xs
+all-within : (p : ModelLeaves) (xs : List ℕ) (es : List Entry) → Both (λ x e. Says p x (e .key)) xs es → Each (λ x. odd x ≡ false → OfKind p x) xs
 all-within p [] [] h = tt
 all-within p [] (e ∷ es) h = absurd h
 all-within p (x ∷ xs) [] h = absurd h
 all-within p (x ∷ xs) (e ∷ es) h = (says-within p x (e .key) (h .0), all-within p xs es (h .1))
 
 -- each origin word that is even is within its kind
-pub origins-within : (kind : Leaves) (m : Sections) (ws : List Sections) → Each (λ x. odd x ≡ false → Within (modelOf kind m) x) (origins kind m ws)
+pub origins-within : (kind : Leaves) (m : Sections) (ws : List Sections) → Each (λ x. odd x ≡ false → OfKind (modelOf kind m) x) (origins kind m ws)
 origins-within kind m ws = all-within (modelOf kind m) (origins kind m ws) (entriesOf kind m 0 ws) (origins-say kind m ws)
