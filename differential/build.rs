@@ -13,6 +13,8 @@ const SOURCE_DEFAULT: &str = "../../shared/docs/src/src";
 const LIBRARY_VARIABLE: &str = "NITRASOVY_LIB";
 const LIBRARY_DEFAULT: &str = "../target/staticlib";
 const LIBRARY: &str = "probe";
+/// The composer's export. In a library without it, the reading stands in for the composer.
+const COMPOSER: &str = "probe_compose";
 
 /// A published file, and the name of its module in `oracle`.
 const PUBLISHED: [(&str, &str); 2] = [
@@ -22,6 +24,7 @@ const PUBLISHED: [(&str, &str); 2] = [
 
 fn main() {
     println!("cargo::rustc-check-cfg=cfg(published)");
+    println!("cargo::rustc-check-cfg=cfg(composer)");
     println!("cargo::rerun-if-changed=build.rs");
     println!("cargo::rerun-if-changed=access");
 
@@ -80,8 +83,19 @@ fn link_library(folder: &Path) {
         );
         return;
     }
+    if exports(&archive, COMPOSER) {
+        println!("cargo::rustc-cfg=composer");
+    }
     println!("cargo::rustc-link-search=native={}", folder.display());
     println!("cargo::rustc-link-lib=static={LIBRARY}");
+}
+
+/// Whether the library has a function of this name.
+fn exports(archive: &Path, name: &str) -> bool {
+    let bytes = fs::read(archive).unwrap_or_else(|error| panic!("{}: {error}", archive.display()));
+    bytes
+        .windows(name.len())
+        .any(|part| part == name.as_bytes())
 }
 
 fn read(path: &Path) -> String {

@@ -1,13 +1,14 @@
 //! The words of the command line.
 
-use crate::compare::{Comparison, Settings, model, obligation, text, witness};
+use crate::compare::{Comparison, Settings, compose, model, obligation, text, witness};
 
 pub const USAGE: &str =
-    "usage: differential [text|model|obligation|witness] [--seed N] [--cases N] [--self-test]
+    "usage: differential [text|model|obligation|witness|compose] [--seed N] [--cases N] [--self-test]
   text         numbers, lines, fields, literals, text checks, decimal digits (the default)
   model        the transition reader, the validation of records, the step
   obligation   the three calls that make clauses, and what the clauses mean
   witness      the witness reader, for models and witnesses, and all that it reads
+  compose      the composer, and what a composition means
   --seed N     seed of the random inputs (default 1)
   --cases N    random inputs a group (default 100000 for text, 20000 for the others)
   --self-test  compare deliberately wrong variants instead; succeeds when all are found";
@@ -34,6 +35,7 @@ pub fn read(mut words: impl Iterator<Item = String>) -> Result<Arguments, String
             "model" => arguments.layer = &model::LAYER,
             "obligation" => arguments.layer = &obligation::LAYER,
             "witness" => arguments.layer = &witness::LAYER,
+            "compose" => arguments.layer = &compose::LAYER,
             "--seed" => arguments.settings.seed = number(&word, words.next())?,
             "--cases" => arguments.settings.cases = Some(number(&word, words.next())?),
             "--self-test" => arguments.self_test = true,

@@ -1,5 +1,6 @@
 //! Runs groups of cases, and tries them on wrong variants.
 
+pub mod compose;
 mod inputs;
 mod lent;
 pub mod model;

@@ -1,5 +1,6 @@
 //! The oracle: the published Rust, compiled unchanged, as `oracle::aiger` and `oracle::composed`.
 
+pub mod compose;
 pub mod model;
 pub mod obligation;
 pub mod witness;

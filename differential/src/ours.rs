@@ -1,5 +1,6 @@
 //! The proved library, behind safe functions. Its calls take any bytes, places and numbers.
 
+pub mod compose;
 pub mod model;
 pub mod obligation;
 pub mod witness;
@@ -43,7 +44,10 @@ mod stand_in {
 mod library {
     use crate::subject::{Part, Rule, Subject, Taken, Written};
 
+    #[cfg(composer)]
     pub const NAME: &str = "the library";
+    #[cfg(not(composer))]
+    pub const NAME: &str = "the library; it has no composer, the reading stands in for that";
 
     #[repr(C)]
     struct ProbeNumber {

@@ -1,6 +1,7 @@
 //! A plain reading of the requirements (scope items 1 and 2, reason 3), made without the published
 //! Rust and without the functions of std that it uses. Written to be read, not to be fast.
 
+pub mod compose;
 pub mod meaning;
 pub mod model;
 pub mod obligation;

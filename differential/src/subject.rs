@@ -1,6 +1,7 @@
 //! What is compared: one table of functions, filled by the library, by the reading of the
 //! requirements, or by a deliberately wrong variant.
 
+pub mod compose;
 pub mod model;
 pub mod obligation;
 pub mod witness;

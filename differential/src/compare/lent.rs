@@ -19,7 +19,7 @@ pub fn refusal(reading: u64) -> u64 {
 #[derive(Clone, Eq, PartialEq)]
 pub struct Words<T = u64>(pub Vec<T>);
 
-/// A word of either width.
+/// A word of any width.
 pub trait Word: Copy + Default + fmt::Debug {
     fn cut(word: u64) -> Self;
 }
@@ -33,6 +33,12 @@ impl Word for u64 {
 impl Word for u32 {
     fn cut(word: u64) -> Self {
         word as u32
+    }
+}
+
+impl Word for u8 {
+    fn cut(word: u64) -> Self {
+        word as u8
     }
 }
 

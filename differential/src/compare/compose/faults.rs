@@ -1,0 +1,3 @@
+//! Deliberately wrong variants.
+use super::Fault;
+pub const FAULTS: &[&[Fault]] = &[];
