@@ -3,6 +3,14 @@
 #[cfg(published)]
 mod circuits;
 #[cfg(published)]
+mod compose_collisions;
+#[cfg(published)]
+mod compose_leaves;
+#[cfg(published)]
+mod compose_texts;
+#[cfg(published)]
+mod composing;
+#[cfg(published)]
 mod measure;
 #[cfg(published)]
 mod obligations;
@@ -27,6 +35,7 @@ fn main() {
     stepping::measure(&table);
     obligations::measure(&table);
     witnesses::measure(&table);
+    composing::measure(&table);
 }
 
 #[cfg(not(published))]

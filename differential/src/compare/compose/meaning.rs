@@ -2,16 +2,17 @@
 //! demand 3".
 
 use super::cases::Case;
-use super::check::{Judged, check};
 use super::circuits::{Plan, model, witness};
 use super::small::MODEL;
 use super::{Group, Run};
 use crate::compare::inputs::filled;
+use crate::compare::lent::Words;
 use crate::compare::witness::pages::Page;
 use crate::oracle::compose as oracle;
 use crate::reading::compose::{RULES, Texts, composition, texts};
 use crate::reading::witness::sections;
 use crate::sections::Sections;
+use crate::subject::compose::Lent;
 use crate::subject::witness::Role;
 use crate::tally::Answers;
 
@@ -27,6 +28,9 @@ pub const RANDOM: Group = Group {
 
 /// The most inputs and latches over which all values are tried.
 const MOST_LEAVES: usize = 10;
+
+/// Work words and bytes that are enough for each case here.
+const ENOUGH: usize = 4_096;
 
 /// For each values of inputs and latches: whether some safety literal is true, whether all
 /// constraints hold, and the values of each witness's variables and of its latches' next and reset.
@@ -105,11 +109,8 @@ fn of_composed(
     }
 }
 
-/// Compares a case in the usual way, and then what our text means. Says whether it is accepted and
-/// small enough.
+/// Compares what our text means, not its bytes. Says whether the case is accepted and small enough.
 fn meant(run: &mut Run, case: &Case) -> bool {
-    check(run, case);
-    let judged = Judged::of(case);
     let Ok(texts) = texts(&case.asked()) else {
         return false;
     };
@@ -121,8 +122,6 @@ fn meant(run: &mut Run, case: &Case) -> bool {
     if leaves > MOST_LEAVES {
         return false;
     }
-    let ours = judged.lent(run, judged.needed());
-    let rust = oracle::form(&case.asked()).and_then(|parts| oracle::compose(&case.model, &parts));
     let says = |text: Option<Vec<u8>>| -> Option<Meaning> {
         let composed = sections(&text?, Role::Model).ok()?;
         let mut meaning = Vec::new();
@@ -135,13 +134,27 @@ fn meant(run: &mut Run, case: &Case) -> bool {
     for bits in 0..1 << leaves {
         of_witnesses(&texts, &numbering.variables, bits, &mut due);
     }
+    let parts: Vec<&[u8]> = texts.witnesses.iter().map(|witness| witness.text).collect();
     let answers = Answers {
-        ours: says(ours),
-        rust: Some(says(rust)),
+        ours: says(composed(run, case)),
+        rust: Some(says(oracle::compose(&case.model, &parts))),
         reading: Some(due),
     };
     run.tally.check(answers, || case.shown());
     true
+}
+
+/// The text that ours makes, with more lent than a small case needs.
+fn composed(run: &mut Run, case: &Case) -> Option<Vec<u8>> {
+    let mut work = Words::garbage(&mut run.random, ENOUGH).0;
+    let mut out = vec![0; ENOUGH];
+    let mut lent = Lent {
+        work: &mut work,
+        out: &mut out,
+    };
+    let composed = (run.ours.compose)(&case.asked(), &mut lent);
+    out.truncate(composed.bytes);
+    (composed.reason == 0).then_some(out)
 }
 
 /// All operands of a gate in one witness and most literals elsewhere, beside two others.
@@ -149,17 +162,17 @@ fn small(run: &mut Run) {
     let form = "aag 3 1 1 0 1 1 1\n2\n4 # 1\n#\n#\n6 # #\n";
     let others = [
         "aag 3 1 1 1 1 0 1\n2\n4 # 1\n7\n2\n6 5 2\ni0 = 2\nl0 = 4\n",
-        "aag 3 2 1 0 0 2 2\n2\n4\n6 4\n4\n3\n6\n1\n",
-        "aag 3 1 1 0 1 1\n2\n4 4\n7\n6 2 4\ni0 x\nl0 = 4\n",
+        "aag 3 2 1 0 0 2 2\n2\n4\n6 4\n4\n3\n6\n1\ni0 = 2\n",
+        "aag 3 1 1 0 1 1\n2\n4 # 1\n7\n6 2 4\n",
     ];
     for number in 0..8_u64.pow(5) {
         let text = filled(form, number, 8);
-        if text.contains("\n6 6") || text.contains("\n6 7") || number % 5 != 0 {
+        if text.contains("\n6 6") || text.contains("\n6 7") || number % 3 != 0 {
             continue;
         }
         // The other's next literal is this one's, which may be a gate that they share or not.
         let next = (number % 8).to_string();
-        let other = others[(number / 5 % 3) as usize].replace('#', &next);
+        let other = others[(number / 3 % 3) as usize].replace('#', &next);
         meant(run, &Case::of(MODEL, &[&text, &other]));
     }
 }
