@@ -44,19 +44,21 @@ fn named(name: String, gates: usize, make: impl Fn() -> Case + 'static) -> Named
 /// Calls whose size is their gates.
 pub fn of_gates() -> Vec<Named> {
     let mut calls = Vec::new();
-    let kinds: [(&str, [usize; 4], fn(usize) -> Case); 5] = [
-        ("random operands", SIZES, |gates| {
+    let kinds: [(&str, &[usize], fn(usize) -> Case); 5] = [
+        ("random operands", &SIZES, |gates| {
             two(|random| wide(random, gates))
         }),
-        ("nearly equal", SIZES, |gates| nearly_equal(2, gates)),
-        ("chained operands", CHAINED, |gates| {
+        ("nearly equal", &SIZES, |gates| nearly_equal(2, gates)),
+        ("chained operands", &CHAINED, |gates| {
             two(|random| chained(random, gates))
         }),
-        ("few pairs", SIZES, |gates| two(|random| few(random, gates))),
-        ("colliding operands", collisions::SIZES, colliding),
+        ("few pairs", &SIZES, |gates| {
+            two(|random| few(random, gates))
+        }),
+        ("colliding operands", &collisions::SIZES, colliding),
     ];
     for (name, sizes, make) in kinds {
-        for gates in sizes {
+        for &gates in sizes {
             let name = format!("2 x {gates}, {name}");
             calls.push(named(name, 2 * gates, move || make(gates)));
         }
@@ -106,11 +108,11 @@ pub fn of_bytes() -> Vec<Named> {
     calls
 }
 
-/// A disagreement in the last latch (18), and no bad in the last witness (19).
+/// A disagreement in the last latch (18), no bad in the last witness (19), a byte too few (20).
 fn refused() -> Vec<Named> {
     let mut calls = Vec::new();
     for gates in [1_000, 30_000, 1_000_000] {
-        for reason in [18, 19] {
+        for reason in [18, 19, 20] {
             let make = move || {
                 let mut random = random();
                 let texts = [(); 2].map(|()| wide(&mut random, gates));
@@ -120,7 +122,8 @@ fn refused() -> Vec<Named> {
                     18 => {
                         second.replacen(&format!("\n{last} {last}\n"), &format!("\n{last} 0\n"), 1)
                     }
-                    _ => no_safety(&second),
+                    19 => no_safety(&second),
+                    _ => second,
                 };
                 Case::of(model(), &[first, second])
             };

@@ -40,9 +40,11 @@ fn compose(case: &Case, reason: u64) -> Times {
     let witnesses: Vec<&[u8]> = read.witnesses.iter().map(|witness| witness.text).collect();
     let mut work = vec![0; work_words(&read)];
     let published = oracle::compose(&case.model, &witnesses);
-    assert_eq!(published.is_some(), reason == 0, "the Rust's answer");
+    // The Rust has no limit on room.
+    let accepts = reason == 0 || reason == 20;
+    assert_eq!(published.is_some(), accepts, "the Rust's answer");
     let published = published.unwrap_or_default();
-    let mut out = vec![0; published.len()];
+    let mut out = vec![0; published.len() - usize::from(reason == 20)];
     let mut ours = || {
         let mut lent = Lent {
             work: &mut work,
@@ -51,7 +53,7 @@ fn compose(case: &Case, reason: u64) -> Times {
         (OURS.compose)(black_box(&asked), &mut lent)
     };
     let composed = ours();
-    assert_eq!((composed.reason, composed.bytes), (reason, published.len()));
+    assert_eq!(composed.reason, reason);
     let times = times(
         || {
             black_box(ours());
@@ -60,6 +62,6 @@ fn compose(case: &Case, reason: u64) -> Times {
             black_box(oracle::compose(black_box(&case.model), &witnesses));
         },
     );
-    assert!(out == published, "the texts differ");
+    assert!(reason != 0 || out == published, "the texts differ");
     times
 }

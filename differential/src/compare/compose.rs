@@ -30,7 +30,7 @@ pub static LAYER: compare::Layer<Subject> = compare::Layer {
     faults: faults::FAULTS,
 };
 
-const GROUPS: [Group; 22] = [
+const GROUPS: [Group; 23] = [
     tables::TABLES,
     orders::TEXTS,
     orders::LATER,
@@ -52,6 +52,7 @@ const GROUPS: [Group; 22] = [
     meaning::SMALL,
     meaning::RANDOM,
     limits::VARIABLES,
+    limits::LONGEST,
     large::LARGE,
 ];
 

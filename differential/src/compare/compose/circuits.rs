@@ -1,5 +1,5 @@
-//! Random witnesses of one model. Each has the model's circuit in it, numbered and written in its
-//! own way, so that shared latches agree; and inputs, latches and gates of its own.
+//! Random witnesses of one model. Each has the model's circuit in it or a part of it, numbered and
+//! written in its own way, so that shared latches agree; and inputs, latches and gates of its own.
 
 use crate::compare::model::circuits::{Operands, literal_up_to, operand};
 use crate::compare::witness::circuits::{Shape, make};
@@ -12,6 +12,8 @@ use crate::sections::{Latch, Sections};
 pub struct Plan {
     /// Whether names map; else positions do.
     pub named: bool,
+    /// Whether only a part of the model's inputs and latches is shared.
+    pub partial: bool,
     /// The most inputs, latches, gates, and bads, outputs or constraints of its own.
     pub own: usize,
 }
@@ -34,6 +36,7 @@ pub fn model(random: &mut Random, most: usize) -> Sections {
 pub fn any_plan(random: &mut Random) -> Plan {
     Plan {
         named: random.once_in(2),
+        partial: random.once_in(3),
         own: random.choose(&[0, 1, 2, 4]),
     }
 }
@@ -44,6 +47,8 @@ struct Making<'a> {
     model: &'a Sections,
     plan: Plan,
     made: Sections,
+    /// Which variables of the model the witness has.
+    kept: Vec<bool>,
     /// The witness's literal of each variable of the model; none where it does not have it.
     own: Vec<Option<u64>>,
     symbols: Vec<String>,
@@ -53,7 +58,9 @@ struct Making<'a> {
 pub fn witness(random: &mut Random, model: &Sections, plan: Plan) -> Page {
     let mut own = vec![None; model.variables as usize + 1];
     own[0] = Some(0);
+    let kept = kept(random, model, plan);
     let mut making = Making {
+        kept,
         random,
         model,
         plan,
@@ -70,6 +77,38 @@ pub fn witness(random: &mut Random, model: &Sections, plan: Plan) -> Page {
     making.finish()
 }
 
+/// Which variables of the model a witness has: all, or a part in which each gate has its operands and
+/// each latch what defines it. By position, inputs and latches are left out from behind.
+fn kept(random: &mut Random, model: &Sections, plan: Plan) -> Vec<bool> {
+    let [inputs, latches] = [model.inputs.len(), model.latches.len()];
+    let mut kept = vec![true; model.variables as usize + 1];
+    for leaf in kept[1..=inputs + latches].iter_mut() {
+        *leaf = !plan.partial || !random.once_in(4);
+    }
+    loop {
+        let before = kept.clone();
+        let has = |kept: &[bool], literal: u64| kept[(literal / 2) as usize];
+        for &[output, left, right] in &model.gates {
+            kept[(output / 2) as usize] &= has(&kept, left) && has(&kept, right);
+        }
+        for latch in &model.latches {
+            kept[(latch.current / 2) as usize] &= has(&kept, latch.next) && has(&kept, latch.reset);
+        }
+        if !plan.named {
+            for kind in [1..inputs + 1, inputs + 1..inputs + latches + 1] {
+                let mut all = true;
+                for variable in kind {
+                    all &= kept[variable];
+                    kept[variable] = all;
+                }
+            }
+        }
+        if kept == before {
+            return kept;
+        }
+    }
+}
+
 impl Making<'_> {
     fn next(&mut self) -> u64 {
         self.made.variables += 1;
@@ -79,7 +118,9 @@ impl Making<'_> {
     /// Inputs or latches: own literal, and the model's variable with which it is shared. By
     /// position, those of the model come first; by name, they come in any order, at times twice.
     fn leaves(&mut self, kind: char, first: u64, count: usize) -> Vec<(u64, Option<u64>)> {
-        let mut shared: Vec<Option<u64>> = (first..).take(count).map(Some).collect();
+        let models = (first..).take(count);
+        let kept = models.filter(|&variable| self.kept[variable as usize]);
+        let mut shared: Vec<Option<u64>> = kept.map(Some).collect();
         if self.plan.named {
             for place in 0..shared.len() {
                 if self.random.once_in(8) {
@@ -87,7 +128,10 @@ impl Making<'_> {
                 }
             }
         }
-        shared.resize(shared.len() + self.random.below(self.plan.own + 1), None);
+        // By position, what stands behind a part of the model's would be shared as well.
+        if self.plan.named || shared.len() == count {
+            shared.resize(shared.len() + self.random.below(self.plan.own + 1), None);
+        }
         if self.plan.named {
             for place in (1..shared.len()).rev() {
                 shared.swap(place, self.random.below(place + 1));
@@ -125,10 +169,10 @@ impl Making<'_> {
     fn gates(&mut self) {
         for &[output, left, right] in &self.model.gates {
             self.own_gates();
-            let operands = [left, right].map(|literal| self.translated(literal));
-            let [Some(left), Some(right)] = operands else {
+            if !self.kept[(output / 2) as usize] {
                 continue;
-            };
+            }
+            let [left, right] = [left, right].map(|literal| self.translated(literal));
             let own = self.next();
             self.own[(output / 2) as usize] = Some(own);
             self.made.gates.push(match self.random.once_in(2) {
@@ -156,8 +200,9 @@ impl Making<'_> {
     }
 
     /// Own literal of a literal of the model.
-    fn translated(&self, literal: u64) -> Option<u64> {
-        self.own[(literal / 2) as usize].map(|own| own + literal % 2)
+    fn translated(&self, literal: u64) -> u64 {
+        let own = self.own[(literal / 2) as usize];
+        own.expect("a part has what its gates and latches need") + literal % 2
     }
 
     /// Shared latches are defined as the model's, others in any way.
@@ -168,14 +213,13 @@ impl Making<'_> {
                 shared.map(|variable| self.model.latches[(variable - inputs - 1) as usize]);
             let [next, reset] = match models {
                 Some(latch) => [latch.next, latch.reset].map(|literal| self.translated(literal)),
-                None => [None, None],
+                None => [self.any(), self.any()],
             };
-            let latch = Latch {
+            self.made.latches.push(Latch {
                 current,
-                next: next.unwrap_or_else(|| self.any()),
-                reset: reset.unwrap_or_else(|| self.any()),
-            };
-            self.made.latches.push(latch);
+                next,
+                reset,
+            });
         }
     }
 

@@ -1,13 +1,20 @@
-//! Around 2,000,000 composed variables: reason 17, and what comes before and after it.
+//! Around 2,000,000 composed variables: reason 17, and what comes before and after it; texts of the
+//! greatest length and models of the most variables.
 
 use super::cases::Case;
 use super::check::{Amount, Judged};
 use super::{Group, Run};
+use crate::reading::LONGEST_TEXT;
 use std::fmt::Write;
 
 pub const VARIABLES: Group = Group {
     name: "compose: around 2,000,000 composed variables",
     run: variables,
+};
+
+pub const LONGEST: Group = Group {
+    name: "compose: the longest texts and models",
+    run: longest,
 };
 
 /// In how many witnesses the inputs stand: many short ones have shorter numbers than few long ones.
@@ -90,4 +97,36 @@ fn exactly(run: &mut Run, case: &Case) {
     let Amount { work, room } = judged.needed();
     let room = room.max(100);
     judged.lent(run, Amount { work, room });
+}
+
+fn longest(run: &mut Run) {
+    // 2,000,000 inputs, and names that map to the last, to the one behind it, and by position.
+    let most = inputs(2_000_000);
+    for name in ["= 4000000", "= 4000002", "x"] {
+        let first = format!("aag 1 1 0 1 0\n2\n2\ni0 {name}\n");
+        exactly(
+            run,
+            &Case::of(&most, &[first.as_str(), "aag 1 1 0 1 0\n2\n3\n"]),
+        );
+    }
+    // Each of the three texts at the greatest length, and a byte longer.
+    let texts = [MODEL, "aag 1 1 0 1 0\n2\n2\n", "aag 1 0 1 1 0\n2 2\n3\n"];
+    for place in 0..texts.len() {
+        for length in [LONGEST_TEXT, LONGEST_TEXT + 1] {
+            let mut texts = texts.map(|text| text.as_bytes().to_vec());
+            texts[place].extend(b"c\n");
+            texts[place].resize(length - 1, b'x');
+            texts[place].push(10);
+            exactly(run, &Case::of(&texts[0], &texts[1..]));
+        }
+    }
+}
+
+/// So many inputs, and nothing else.
+fn inputs(count: usize) -> String {
+    let mut text = format!("aag {count} {count} 0 0 0\n");
+    for variable in 1..=count {
+        writeln!(text, "{}", 2 * variable).expect("a String takes all");
+    }
+    text
 }

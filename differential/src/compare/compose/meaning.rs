@@ -187,6 +187,7 @@ fn random(run: &mut Run) {
             .map(|_| {
                 let plan = Plan {
                     named: run.random.once_in(2),
+                    partial: run.random.once_in(3),
                     own: run.random.choose(&[0, 1, 1, 2]),
                 };
                 witness(&mut run.random, &model, plan).plain()

@@ -1,6 +1,6 @@
 //! Wrong readings of names that map.
 
-use super::super::{Fault, mapping, random};
+use super::super::{Fault, limits, mapping, random};
 use super::by;
 use crate::reading::compose::{Kind, RULES, Texts, by_position, names};
 use crate::reading::number;
@@ -93,6 +93,26 @@ pub const FAULTS: &[Fault] = &[
                                 Ok((RULES.shared)(texts, index, kind, place)
                                     .unwrap_or(by_position(&texts.model, kind, place)))
                             }
+                    },
+                    asked,
+                    lent,
+                )
+            };
+        },
+    },
+    Fault {
+        name: "the model's last input cannot be mapped",
+        group: limits::LONGEST.name,
+        spoil: |subject| {
+            subject.compose = |asked, lent| {
+                by(
+                    |rules| {
+                        rules.shared = |texts, index, kind, place| match (RULES.shared)(
+                            texts, index, kind, place,
+                        )? {
+                            Some(4_000_000) => Err(16),
+                            shared => Ok(shared),
+                        }
                     },
                     asked,
                     lent,

@@ -94,6 +94,17 @@ pub const FAULTS: &[Fault] = &[
         },
     },
     Fault {
+        name: "the longest text is too long",
+        group: limits::LONGEST.name,
+        spoil: |subject| {
+            subject.compose = |asked, lent| {
+                let parts = parts(asked).unwrap_or_default();
+                let longest = parts.iter().any(|text| text.len() == 16_777_216);
+                refused_if(longest, 3, asked, lent)
+            };
+        },
+    },
+    Fault {
         name: "15 comes before 3 to 11",
         group: orders::TEXTS.name,
         spoil: |subject| {
