@@ -1,9 +1,10 @@
 //! The models and witnesses whose composing is measured.
 
-use crate::compose_collisions::{self as collisions, colliding};
-use crate::compose_leaves::{by_name, by_position, listed, private};
 use differential::compare::compose::cases::Case;
+use differential::compare::compose::collisions::colliding;
+use differential::compare::compose::leaves::{by_name, by_position, listed, private};
 use differential::compare::compose::{FIRST, MODEL, SECOND};
+use differential::compare::model::circuits::Order;
 use differential::random::Random;
 use std::fmt::Write;
 
@@ -16,6 +17,8 @@ const LEAVES: usize = INPUTS + LATCHES;
 const SIZES: [usize; 4] = [100, 1_000, 30_000, 1_000_000];
 /// Chained operands have as many digits as their gate: with more, a text would be too long.
 const CHAINED: [usize; 4] = [100, 1_000, 30_000, 650_000];
+/// A bad table of gates would take time with the square of them.
+const COLLIDING: [usize; 3] = [1_000, 8_000, 30_000];
 /// So many in each of 64 witnesses; with the leaves, the last is near 2,000,000 variables.
 const OF_64: [usize; 3] = [1_000, 8_000, 30_000];
 
@@ -55,7 +58,7 @@ pub fn of_gates() -> Vec<Named> {
         ("few pairs", &SIZES, |gates| {
             two(|random| few(random, gates))
         }),
-        ("colliding operands", &collisions::SIZES, colliding),
+        ("colliding operands", &COLLIDING, colliding),
     ];
     for (name, sizes, make) in kinds {
         for &gates in sizes {
@@ -92,7 +95,7 @@ pub fn of_bytes() -> Vec<Named> {
     }
     for inputs in [1_000, 30_000, 600_000] {
         let name = format!("2 x {inputs} inputs by name, shuffled");
-        calls.push(named(name, 0, move || by_name(inputs)));
+        calls.push(named(name, 0, move || by_name(&mut random(), inputs)));
         let name = format!("2 x {inputs} private names");
         calls.push(named(name, 0, move || private(inputs, "a name")));
     }
@@ -103,7 +106,9 @@ pub fn of_bytes() -> Vec<Named> {
     }
     for literals in [1_000, 30_000, 1_000_000] {
         let name = format!("2 x {literals} bads and constraints");
-        calls.push(named(name, 0, move || listed(literals)));
+        calls.push(named(name, 0, move || {
+            listed(&mut random(), literals, Order::Any)
+        }));
     }
     calls
 }
@@ -137,7 +142,7 @@ fn refused() -> Vec<Named> {
     calls
 }
 
-pub fn random() -> Random {
+fn random() -> Random {
     Random::new(1, "composing")
 }
 

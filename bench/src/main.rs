@@ -3,10 +3,6 @@
 #[cfg(published)]
 mod circuits;
 #[cfg(published)]
-mod compose_collisions;
-#[cfg(published)]
-mod compose_leaves;
-#[cfg(published)]
 mod compose_texts;
 #[cfg(published)]
 mod composing;

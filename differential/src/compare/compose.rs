@@ -3,8 +3,10 @@
 pub mod cases;
 mod check;
 pub mod circuits;
+pub mod collisions;
 mod faults;
 mod large;
+pub mod leaves;
 mod lent;
 mod limits;
 mod mapping;

@@ -2,7 +2,6 @@
 
 use crate::random::Random;
 use crate::subject::compose::Asked;
-use crate::tally::shown;
 
 /// A model's text, a buffer of witnesses' texts, and their pairs of offset and length.
 #[derive(Clone)]
@@ -67,6 +66,7 @@ impl Case {
         }
     }
 
+    /// With more bytes than texts of other layers: a difference is often in a late witness.
     pub fn shown(&self) -> String {
         let pairs = &self.pairs[..self.pairs.len().min(16)];
         format!(
@@ -76,4 +76,10 @@ impl Case {
             self.pairs.len()
         )
     }
+}
+
+fn shown(text: &[u8]) -> String {
+    const SHOWN: usize = 500;
+    let start = text[..text.len().min(SHOWN)].escape_ascii();
+    format!("\"{start}\" of {} bytes", text.len())
 }

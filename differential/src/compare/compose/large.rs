@@ -2,8 +2,10 @@
 
 use super::cases::Case;
 use super::check::{Amount, Judged};
+use super::collisions::colliding;
+use super::leaves::{by_name, by_position, latches_by_name, listed};
 use super::{Group, Run};
-use crate::compare::model::circuits::Operands;
+use crate::compare::model::circuits::{Operands, Order};
 use crate::compare::witness::circuits::{Shape, make};
 use crate::compare::witness::pages::Page;
 use crate::random::Random;
@@ -66,6 +68,21 @@ fn large(run: &mut Run) {
         .collect();
     around(run, &Case::of(&model, &witnesses));
     names(run, &model);
+    leaves_only(run);
+    around(run, &colliding(2_000));
+}
+
+/// Tables of what is shared, and lists that are sorted, repeated and not.
+fn leaves_only(run: &mut Run) {
+    around(run, &by_position(50_000));
+    for case in [by_name, latches_by_name] {
+        let case = case(&mut run.random, 50_000);
+        around(run, &case);
+    }
+    for order in [Order::Rising, Order::Falling, Order::Any] {
+        let case = listed(&mut run.random, 60_000, order);
+        around(run, &case);
+    }
 }
 
 /// 200,000 names in all, and one of 3,000,000 bytes.

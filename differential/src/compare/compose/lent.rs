@@ -52,6 +52,12 @@ fn cases() -> Vec<Case> {
         ["aag 1 1 0 0\n2\n", first, second],
         [model, "aag 1 0 0 0 0\n", second],
         [model, first, "aag 0 0 0 1 0 0 0 1\n1\n"],
+        ["aag 0 0 0 9223372036854775808 0\n", first, second],
+        [
+            model,
+            "aag 0 0 0 0 0 18446744073709551615 18446744073709551615\n1\n",
+            second,
+        ],
         [model, "aag 1 0 1 1 0\n2\n2\n", second],
         [model, first, "aag 1 0 1 1 0\n2 2\n2\nl0 a\nl0 b\n"],
         [model, "aag 1 0 1 1 0\n2 2\n2\nc\nMAPPING\n", second],

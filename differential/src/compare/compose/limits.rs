@@ -109,6 +109,14 @@ fn longest(run: &mut Run) {
             &Case::of(&most, &[first.as_str(), "aag 1 1 0 1 0\n2\n3\n"]),
         );
     }
+    // 4,000,000 private inputs: there is no limit on those.
+    let private = format!("{}1\n", inputs(2_000_000).replacen(" 0 0 0", " 0 1 0", 1));
+    exactly(run, &Case::of(MODEL, &[&private, &private]));
+    // A private name of as many bytes as there may be.
+    let start = "aag 1 1 0 1 0\n2\n2\n";
+    let name = "n".repeat(LONGEST_TEXT - start.len() - "i0 \n".len());
+    let named = format!("{start}i0 {name}\n");
+    exactly(run, &Case::of(MODEL, &[named.as_str(), start]));
     // Each of the three texts at the greatest length, and a byte longer.
     let texts = [MODEL, "aag 1 1 0 1 0\n2\n2\n", "aag 1 0 1 1 0\n2 2\n3\n"];
     for place in 0..texts.len() {

@@ -34,10 +34,11 @@ fn printed(run: &mut Run, model: &[u8], witnesses: &[&[u8]], sections: &str) {
         out: &mut out,
     };
     let composed = (run.ours.compose)(&case.asked(), &mut lent);
+    let rust = oracle::compose(model, witnesses);
     let answers = Answers {
-        ours: (composed.reason, out),
-        rust: oracle::compose(model, witnesses).map(|text| (0, text)),
-        reading: (0, expected.into_bytes()),
+        ours: (composed.reason, out.escape_ascii().to_string()),
+        rust: rust.map(|text| (0, text.escape_ascii().to_string())),
+        reading: (0, expected.as_bytes().escape_ascii().to_string()),
     };
     run.tally.check(answers, || case.shown());
     texts(run, model, witnesses);

@@ -1,9 +1,9 @@
-//! Witnesses of inputs only: shared by position, shared by name, private with names; and lists.
+//! Witnesses without gates: shared by position, shared by name, private with names; and with many
+//! bads and constraints.
 
-use crate::compose_texts::random;
-use differential::compare::compose::cases::Case;
-use differential::compare::model::circuits::{Order, arrange};
-use differential::random::Random;
+use super::cases::Case;
+use crate::compare::model::circuits::{Order, arrange};
+use crate::random::Random;
 use std::fmt::Write;
 
 /// So many inputs, and these literals as bads and as constraints.
@@ -24,12 +24,11 @@ pub fn by_position(count: usize) -> Case {
 }
 
 /// The same with a name for each input that maps it to any other, and the names in any order.
-pub fn by_name(count: usize) -> Case {
-    let mut random = random();
+pub fn by_name(random: &mut Random, count: usize) -> Case {
     let texts = [2, 3].map(|bad| {
         let mut text = inputs(count, &[bad], &[]);
-        let model = shuffled(&mut random, count);
-        for index in shuffled(&mut random, count) {
+        let model = shuffled(random, count);
+        for index in shuffled(random, count) {
             let literal = 2 * model[index as usize] + 2;
             writeln!(text, "i{index} = {literal}").expect("a String takes all");
         }
@@ -56,14 +55,41 @@ pub fn private(count: usize, name: &str) -> Case {
     Case::of(inputs(0, &[], &[]), &texts)
 }
 
-/// Any literals of a tenth as many inputs, half of them bads and half constraints.
-pub fn listed(literals: usize) -> Case {
-    let mut random = random();
+/// The same of latches: one half of them, in any order, in each witness.
+pub fn latches_by_name(random: &mut Random, count: usize) -> Case {
+    let texts = [(); 2].map(|()| {
+        let half = count / 2;
+        let mut text = latches(half);
+        text += "3\n";
+        let model = shuffled(random, count);
+        for index in shuffled(random, half) {
+            let literal = 2 * model[index as usize] + 2;
+            writeln!(text, "l{index} = {literal}").expect("a String takes all");
+        }
+        text
+    });
+    Case::of(latches(count) + "0\n", &texts)
+}
+
+/// Latches that keep themselves, and a header that asks for an output.
+fn latches(count: usize) -> String {
+    let mut text = format!("aag {count} 0 {count} 1 0\n");
+    for literal in (1..=count).map(|variable| 2 * variable) {
+        writeln!(text, "{literal} {literal}").expect("a String takes all");
+    }
+    text
+}
+
+/// Literals of a tenth as many inputs in this order, half of them bads and half constraints.
+pub fn listed(random: &mut Random, literals: usize, order: Order) -> Case {
     let count = literals / 10;
     let texts = [(); 2].map(|()| {
-        let mut any = |_| random.below(2 * count + 2) as u64;
-        let bads: Vec<u64> = (0..literals / 2).map(&mut any).collect();
-        let constraints: Vec<u64> = (0..literals / 2).map(any).collect();
+        let [bads, constraints] = [(); 2].map(|()| {
+            let any = (0..literals / 2).map(|_| random.below(2 * count + 2) as u64);
+            let mut any: Vec<u64> = any.collect();
+            arrange(random, &mut any, order);
+            any
+        });
         inputs(count, &bads, &constraints)
     });
     Case::of(inputs(count, &[], &[]), &texts)

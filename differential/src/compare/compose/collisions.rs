@@ -1,11 +1,8 @@
 //! Gates whose operands stand close together in the library's table of gates, so that it has to look
 //! at many entries for each.
 
-use differential::compare::compose::cases::Case;
+use super::cases::Case;
 use std::fmt::Write;
-
-/// How many gates each of the two witnesses has. A bad table takes time with the square of them.
-pub const SIZES: [usize; 3] = [1_000, 8_000, 30_000];
 
 /// Inputs of each witness, all shared. The gates' operands are chosen among their literals.
 const INPUTS: u64 = 2_000;
