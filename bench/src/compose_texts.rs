@@ -25,6 +25,9 @@ const OF_64: [usize; 3] = [1_000, 8_000, 30_000];
 /// Operands of one witness's gates.
 type Pairs = Vec<[u64; 2]>;
 
+/// Makes the call of witnesses with so many gates each.
+type Make = fn(usize) -> Case;
+
 /// A named call, made when it is measured, and what its size is counted in.
 pub struct Named {
     pub name: String,
@@ -47,7 +50,7 @@ fn named(name: String, gates: usize, make: impl Fn() -> Case + 'static) -> Named
 /// Calls whose size is their gates.
 pub fn of_gates() -> Vec<Named> {
     let mut calls = Vec::new();
-    let kinds: [(&str, &[usize], fn(usize) -> Case); 5] = [
+    let kinds: [(&str, &[usize], Make); 5] = [
         ("random operands", &SIZES, |gates| {
             two(|random| wide(random, gates))
         }),
@@ -66,7 +69,7 @@ pub fn of_gates() -> Vec<Named> {
             calls.push(named(name, 2 * gates, move || make(gates)));
         }
     }
-    let many: [(&str, fn(usize) -> Case); 3] = [
+    let many: [(&str, Make); 3] = [
         ("random operands", |gates| {
             composed(64, |random| wide(random, gates))
         }),
@@ -218,7 +221,8 @@ fn chained(random: &mut Random, gates: usize) -> Pairs {
     (LEAVES + 1..).take(gates).map(pair).collect()
 }
 
-/// One of four pairs of leaves, so that all gates of all witnesses are four.
+/// One of four pairs, one of them also the other way round, so that all gates of all witnesses are
+/// four.
 fn few(random: &mut Random, gates: usize) -> Pairs {
     let pair = |_| random.choose(&[[2, 4], [4, 2], [3, 5], [7, 100], [0, 1]]);
     (0..gates).map(pair).collect()

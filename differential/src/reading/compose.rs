@@ -53,11 +53,14 @@ pub struct Due {
     pub text: Result<Vec<u8>, u64>,
 }
 
+/// A value, or the number of the reason for which there is none.
+pub type OrReason<T> = Result<T, u64>;
+
 /// Where item 8 could be read in another way. The self-test puts wrong readings here.
 #[derive(Clone, Copy)]
 pub struct Rules {
     /// The model literal with which a witness's input or latch is shared, if with any. Err is 16.
-    pub shared: fn(&Texts, usize, Kind, usize) -> Result<Option<u64>, u64>,
+    pub shared: fn(&Texts, usize, Kind, usize) -> OrReason<Option<u64>>,
     /// Gates of equal answers are one. A gate is given by its witness and its operands.
     pub alike: fn(usize, [u64; 2]) -> (usize, [u64; 2]),
     /// How the operands are written.
@@ -65,7 +68,7 @@ pub struct Rules {
     /// Whether a new gate may have a variable, after so many inputs and latches. Else it is 17.
     pub fits: fn(u64, usize) -> bool,
     /// Next and reset of a latch of which an earlier witness said the first pair. Err is 18.
-    pub agreed: fn([u64; 2], [u64; 2]) -> Result<[u64; 2], u64>,
+    pub agreed: fn([u64; 2], [u64; 2]) -> OrReason<[u64; 2]>,
     pub safety: fn(&Sections) -> &[u64],
     /// How bads and constraints are listed.
     pub listed: fn(Vec<u64>) -> Vec<u64>,

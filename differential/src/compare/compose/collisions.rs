@@ -4,37 +4,42 @@
 use super::cases::Case;
 use std::fmt::Write;
 
-/// Inputs of each witness, all shared. The gates' operands are chosen among their literals.
-const INPUTS: u64 = 2_000;
+/// Inputs of each witness, all shared by position: an own literal is the composed one. The gates'
+/// operands are chosen among their literals.
+const INPUTS: u64 = 4_000;
 
-/// The key of a gate in the library's table.
-fn key(left: u64, right: u64) -> u64 {
-    left + (right << 32)
+/// Where the search of the crate `sharing` for a key begins: it takes the high bits of this, so many
+/// as it has heads. To be kept the same as there; else these gates are like any others.
+fn scattered(key: u64) -> u64 {
+    let [low, high] = halves(key);
+    let mixed = low * 1_821_285_621 + high * 1_481_765_933;
+    let [low, high] = halves(mixed);
+    let folded = (high + low) % (1 << 32);
+    folded * 2_654_435_769 / 65_536 % (1 << 32)
 }
 
-/// How many slots the library's table has for so many gates. To be the library's own number, once
-/// its table stands.
-fn slots(gates: usize) -> u64 {
-    (2 * gates as u64).next_power_of_two()
+fn halves(word: u64) -> [u64; 2] {
+    [word % (1 << 32), word >> 32]
 }
 
-/// The slot at which the library begins to look for a key. To be the library's own function, once
-/// its table stands; until then these operands are of no meaning to it.
-fn slot(key: u64, slots: u64) -> u64 {
-    key % slots
-}
-
-/// So many different pairs of operands, those whose slots are the lowest of all.
+/// So many different pairs of operands, those for which the search begins lowest: all at few of the
+/// heads, however many there are.
 fn pairs(count: usize) -> Vec<[u64; 2]> {
-    let slots = slots(count);
-    let mut all = Vec::new();
-    for right in 2..2 * INPUTS + 2 {
-        for left in 2..=right {
-            all.push((slot(key(left, right), slots), left, right));
+    let literals = 2..2 * INPUTS + 2;
+    let all = 2 * INPUTS * (2 * INPUTS + 1) / 2;
+    // Somewhat more than are wanted are below this.
+    let limit = (1 << 32) / all * (count as u64 + count as u64 / 4 + 100);
+    let mut lowest = Vec::new();
+    for right in literals.clone() {
+        for left in literals.start..=right {
+            let place = scattered(left + (right << 32));
+            if place < limit {
+                lowest.push((place, left, right));
+            }
         }
     }
-    all.sort_unstable();
-    let chosen = all[..count].iter();
+    lowest.sort_unstable();
+    let chosen = lowest[..count].iter();
     chosen.map(|&(_, left, right)| [left, right]).collect()
 }
 
@@ -42,8 +47,7 @@ fn pairs(count: usize) -> Vec<[u64; 2]> {
 pub fn colliding(gates: usize) -> Case {
     let pairs = pairs(2 * gates);
     let (first, second) = pairs.split_at(gates);
-    let model = inputs(0);
-    Case::of(model, &[witness(first), witness(second)])
+    Case::of(inputs(0), &[witness(first), witness(second)])
 }
 
 /// The header, and the lines of the inputs.
