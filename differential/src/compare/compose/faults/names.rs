@@ -2,7 +2,7 @@
 
 use super::super::{Fault, limits, mapping, random};
 use super::by;
-use crate::reading::compose::{Kind, RULES, Texts, by_position, names};
+use crate::reading::compose::{Kind, RULES, Texts, by_name, by_position, names};
 use crate::reading::number;
 use crate::subject::Rule;
 
@@ -112,6 +112,50 @@ pub const FAULTS: &[Fault] = &[
                         )? {
                             Some(4_000_000) => Err(16),
                             shared => Ok(shared),
+                        }
+                    },
+                    asked,
+                    lent,
+                )
+            };
+        },
+    },
+    Fault {
+        name: "no space is needed behind the equals sign",
+        group: mapping::NAMES.name,
+        spoil: |subject| {
+            subject.compose = |asked, lent| {
+                by(
+                    |rules| {
+                        rules.shared = |texts, index, kind, place| {
+                            let witness = &texts.witnesses[index];
+                            let name = names(&witness.sections, kind)[place];
+                            match name.map(|name| witness.bytes(name)) {
+                                Some(b"=2") => Ok(by_position(&texts.model, kind, 0)),
+                                _ => (RULES.shared)(texts, index, kind, place),
+                            }
+                        }
+                    },
+                    asked,
+                    lent,
+                )
+            };
+        },
+    },
+    Fault {
+        name: "a bad's name decides that names map",
+        group: mapping::NAMES.name,
+        spoil: |subject| {
+            subject.compose = |asked, lent| {
+                by(
+                    |rules| {
+                        rules.shared = |texts, index, kind, place| {
+                            let witness = &texts.witnesses[index];
+                            let mut lines = witness.text.split(|&byte| byte == 10);
+                            match lines.any(|line| line.starts_with(b"b0 = ")) {
+                                true => by_name(&texts.model, witness, kind, place),
+                                false => (RULES.shared)(texts, index, kind, place),
+                            }
                         }
                     },
                     asked,

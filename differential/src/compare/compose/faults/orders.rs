@@ -77,7 +77,7 @@ pub const FAULTS: &[Fault] = &[
         },
     },
     Fault {
-        name: "only the first fault of a text is told by 11",
+        name: "10 is told as 11",
         group: orders::TEXTS.name,
         spoil: |subject| {
             subject.compose = |asked, lent| refused_if(reason_due(asked) == 10, 11, asked, lent);

@@ -62,20 +62,14 @@ pub const FAULTS: &[Fault] = &[
         name: "a pair may start a byte before the end of the one ahead",
         group: pairs::PLACES.name,
         spoil: |subject| {
-            subject.compose = |asked, lent| match (reason_due(asked), asked.pairs) {
-                (2, [..]) => with_witnesses(&parts(asked, 1), asked, lent),
-                _ => (OURS.compose)(asked, lent),
-            };
+            subject.compose = |asked, lent| overlapping(1, asked, lent);
         },
     },
     Fault {
         name: "pairs may overlap",
         group: pairs::PLACES.name,
         spoil: |subject| {
-            subject.compose = |asked, lent| match reason_due(asked) {
-                2 => with_witnesses(&parts(asked, usize::MAX), asked, lent),
-                _ => (OURS.compose)(asked, lent),
-            };
+            subject.compose = |asked, lent| overlapping(usize::MAX, asked, lent);
         },
     },
     Fault {
@@ -109,16 +103,11 @@ pub const FAULTS: &[Fault] = &[
         group: pairs::PLACES.name,
         spoil: |subject| {
             subject.compose = |asked, lent| {
-                let wraps = asked.pairs.chunks_exact(2).any(|pair| {
-                    pair[0]
-                        .checked_add(pair[1])
-                        .is_some_and(|end| end > asked.witnesses.len() as u64)
-                });
-                let any = asked
-                    .pairs
-                    .chunks_exact(2)
-                    .any(|pair| pair[0].checked_add(pair[1]).is_none());
-                refused_if(any && !wraps && reason_due(asked) == 2, 3, asked, lent)
+                // Such a pair is in the buffer then, and no text that is accepted.
+                let length = asked.witnesses.len() as u64;
+                let mut pairs = asked.pairs.chunks_exact(2);
+                let within = pairs.all(|pair| pair[0].wrapping_add(pair[1]) <= length);
+                refused_if(within && reason_due(asked) == 2, 3, asked, lent)
             };
         },
     },
@@ -195,6 +184,15 @@ pub const FAULTS: &[Fault] = &[
 fn with_pairs(other: bool, pairs: &[u64], asked: &Asked, lent: &mut Lent) -> Composed {
     let pairs = if other { pairs } else { asked.pairs };
     (OURS.compose)(&Asked { pairs, ..*asked }, lent)
+}
+
+/// Composes where pairs start at most so many bytes too early.
+fn overlapping(early: usize, asked: &Asked, lent: &mut Lent) -> Composed {
+    let parts = parts(asked, early);
+    if reason_due(asked) != 2 || parts.is_empty() {
+        return (OURS.compose)(asked, lent);
+    }
+    with_witnesses(&parts, asked, lent)
 }
 
 /// The parts of pairs that are in the buffer and start at most so many bytes too early; none where
