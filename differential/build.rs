@@ -90,12 +90,11 @@ fn link_library(folder: &Path) {
     println!("cargo::rustc-link-lib=static={LIBRARY}");
 }
 
-/// Whether the library has a function of this name.
+/// Whether the library has a function of this name. Names of symbols end at a byte 0.
 fn exports(archive: &Path, name: &str) -> bool {
     let bytes = fs::read(archive).unwrap_or_else(|error| panic!("{}: {error}", archive.display()));
-    bytes
-        .windows(name.len())
-        .any(|part| part == name.as_bytes())
+    let symbol = [name.as_bytes(), &[0]].concat();
+    bytes.windows(symbol.len()).any(|part| part == symbol)
 }
 
 fn read(path: &Path) -> String {

@@ -70,14 +70,15 @@ impl Faults {
     }
 }
 
-/// A call of these texts, with the pairs in order or not: 2 for an overlap, 1 for too few or many.
+/// A call of these texts, with the pairs in order; overlapping (2); and too few or too many (1), one
+/// of which is past the buffer or overlaps.
 fn cases(run: &mut Run, model: Faults, witnesses: &[Faults]) {
     let texts: Vec<String> = witnesses.iter().map(|faults| faults.text()).collect();
     let case = Case::of(model.text(), &texts);
     let mut overlap = case.clone();
     overlap.pairs[2] -= 1;
-    let mut few = overlap.clone();
-    few.pairs.truncate(3);
+    let mut few = case.clone();
+    few.pairs = vec![u64::MAX, 1, 0];
     let mut many = overlap.clone();
     many.pairs.extend([0; 130]);
     for case in [case, overlap, few, many] {
