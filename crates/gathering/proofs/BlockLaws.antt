@@ -50,14 +50,25 @@ pub blocks-same : (ts : List Bytes) (ss : List Sections) (v w : List ℕ) → ta
 blocks-same [] [] v w e b = tt
 blocks-same [] (s ∷ ss) v w e b = b
 blocks-same (t ∷ ts) [] v w e b = b
-blocks-same (t ∷ ts) (s ∷ ss) v w e b =
-    (record {
-      nameWords = b .0 .nameWords;
-      count = b .0 .count;
-      names = b .0 .names;
-      stand = take-fewer (wordCount s) (wordCount s + wordTotal ss) v w (omega arith) e ∙ b .0 .stand;
-    },
-    blocks-same ts ss (drop (wordCount s) v) (drop (wordCount s) w) (drop-fewer (wordCount s) (wordTotal ss) v w e) (b .1))
+blocks-same (t ∷ ts) (s ∷ ss) v w e b = (
+  record {
+    nameWords = b .0 .nameWords;
+    count = b .0 .count;
+    names = b .0 .names;
+    stand = take-fewer (wordCount s) (wordCount s + wordTotal ss) v w (omega arith) e ∙ b .0 .stand;
+  },
+  blocks-same ts ss (drop (wordCount s) v) (drop (wordCount s) w) (drop-fewer (wordCount s) (wordTotal ss) v w e) (b .1),
+)
+
+-- a block behind a place, where the words up to another place are the same
+pub block-kept : (t : Bytes) (s : Sections) (v w : List ℕ) (to from : ℕ) → take to w ≡ take to v → from + wordCount s ≤ to → Block t s (drop from v) → Block t s (drop from w)
+block-kept t s v w to from e h b =
+    record {
+      nameWords = b .nameWords;
+      count = b .count;
+      names = b .names;
+      stand = drop-fewer from (wordCount s) v w (take-fewer (from + wordCount s) to v w h e) ∙ b .stand;
+    }
 
 -- one more block behind the others
 pub blocks-more : (ts : List Bytes) (ss : List Sections) (t : Bytes) (s : Sections) (w : List ℕ) → Blocks ts ss w → Block t s (drop (wordTotal ss) w)
@@ -94,8 +105,8 @@ module _ (t : Bytes) (n : AagCounts) (at : ℕ) (work : List ℕ) (k : LoadableA
       record {
         kept = tail-front work at v (omega (arith, k .room));
         block =
-          subst (Block t s) (sym (tail-back work at v (omega (arith, k .room))))
-          (loaded-block t s (take (length work - at) (drop at work)) v (m s (subst (λ (x : List ℕ). HasRoom t n x s) (sym (tail-lent work at)) r)));
+            subst (Block t s) (sym (tail-back work at v (omega (arith, k .room))))
+            (loaded-block t s (take (length work - at) (drop at work)) v (m s (subst (λ (x : List ℕ). HasRoom t n x s) (sym (tail-lent work at)) r)));
       }
 
 -- the witnesses before number w are loaded

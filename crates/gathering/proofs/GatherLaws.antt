@@ -110,24 +110,24 @@ module _ (words : ℕ → Before → Sections → List ℕ) (count : Sections �
             readable = k .readable;
             left = next .readOthers;
             amounts =
-              record {
-                inputs = omega (arith, k .amounts .inputs, split inputCount);
-                latches = omega (arith, k .amounts .latches, split latchCount);
-                gates = omega (arith, k .amounts .gates, split gateCount);
-              };
+                record {
+                  inputs = omega (arith, k .amounts .inputs, split inputCount);
+                  latches = omega (arith, k .amounts .latches, split latchCount);
+                  gates = omega (arith, k .amounts .gates, split gateCount);
+                };
             blocks = subst (Blocks (drop (w + 1) (textsIn buffer pairs)) (next .others)) (drop-drop (wordCount (next .first)) from work₀) (next-blocks .1);
             behind = omega (arith, k .behind, split wordCount);
             room = omega (arith, k .room, split count);
             total = omega (arith, k .total, split count);
             is =
-              e ∙ (ap (λ (x : List ℕ). put x at (words w b (next .first))) (k .is)
-              ∙ (ap (λ (j : ℕ). put (put work₀ to (k .done)) j (words w b (next .first))) (k .at-is)
-              ∙ put-put work₀ to (k .done) (omega (arith, k .room, k .at-is)) (words w b (next .first))));
+                e ∙ (ap (λ (x : List ℕ). put x at (words w b (next .first))) (k .is)
+                ∙ (ap (λ (j : ℕ). put (put work₀ to (k .done)) j (words w b (next .first))) (k .at-is)
+                ∙ put-put work₀ to (k .done) (omega (arith, k .room, k .at-is)) (words w b (next .first))));
             at-is = omega (arith, k .at-is, long, length-append (k .done) (words w b (next .first)));
             goes =
-              append-assoc (k .done) (words w b (next .first)) (gatheredFrom words (w + 1) (beyond b (next .first)) (next .others))
-              ∙ (ap (λ (j : ℕ). k .done ++ (words w b (next .first) ++ gatheredFrom words j (beyond b (next .first)) (next .others))) (add-one w)
-              ∙ (ap (λ (l : List Sections). k .done ++ gatheredFrom words w b l) (sym (next .is)) ∙ k .goes));
+                append-assoc (k .done) (words w b (next .first)) (gatheredFrom words (w + 1) (beyond b (next .first)) (next .others))
+                ∙ (ap (λ (j : ℕ). k .done ++ (words w b (next .first) ++ gatheredFrom words j (beyond b (next .first)) (next .others))) (add-one w)
+                ∙ (ap (λ (l : List Sections). k .done ++ gatheredFrom words w b l) (sym (next .is)) ∙ k .goes));
           }
 
       pub gathering-next : Next words count buffer pairs work₀ work to from at b w (k .ws)

@@ -111,8 +111,8 @@ list-stands literals.Constraints s =
       before = wordsOf latchWords (s .latches) ++ (s .outputs ++ s .bads);
       behind = wordsOf operandWords (s .gates);
       is =
-        sym (append-assoc (wordsOf latchWords (s .latches)) (s .outputs ++ s .bads) (s .constraints ++ wordsOf operandWords (s .gates))
-        ∙ ap (λ (l : List ℕ). wordsOf latchWords (s .latches) ++ l) (append-assoc (s .outputs) (s .bads) (s .constraints ++ wordsOf operandWords (s .gates))));
+          sym (append-assoc (wordsOf latchWords (s .latches)) (s .outputs ++ s .bads) (s .constraints ++ wordsOf operandWords (s .gates))
+          ∙ ap (λ (l : List ℕ). wordsOf latchWords (s .latches) ++ l) (append-assoc (s .outputs) (s .bads) (s .constraints ++ wordsOf operandWords (s .gates))));
       starts = omega (arith, latch-words s, length-append (wordsOf latchWords (s .latches)) (s .outputs ++ s .bads), length-append (s .outputs) (s .bads));
       counts = refl;
     }
@@ -121,10 +121,15 @@ list-stands literals.Operands s =
       before = wordsOf latchWords (s .latches) ++ (s .outputs ++ (s .bads ++ s .constraints));
       behind = [];
       is = ap (λ (l : List ℕ). wordsOf latchWords (s .latches) ++ (s .outputs ++ (s .bads ++ (s .constraints ++ l)))) (sym (append-nil (wordsOf operandWords (s .gates))))
-        ∙ regroup (wordsOf latchWords (s .latches)) (s .outputs) (s .bads) (s .constraints) (wordsOf operandWords (s .gates) ++ []);
+          ∙ regroup (wordsOf latchWords (s .latches)) (s .outputs) (s .bads) (s .constraints) (wordsOf operandWords (s .gates) ++ []);
       starts =
-        omega (arith, latch-words s, length-append (wordsOf latchWords (s .latches)) (s .outputs ++ (s .bads ++ s .constraints)), length-append (s .outputs) (s .bads ++ s .constraints),
-        length-append (s .bads) (s .constraints));
+          omega (
+            arith,
+            latch-words s,
+            length-append (wordsOf latchWords (s .latches)) (s .outputs ++ (s .bads ++ s .constraints)),
+            length-append (s .outputs) (s .bads ++ s .constraints),
+            length-append (s .bads) (s .constraints),
+          );
       counts = sym (operand-words s);
     }
 

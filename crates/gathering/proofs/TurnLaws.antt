@@ -147,17 +147,17 @@ module _ (kind : Literals) (i q : ℕ) (buffer : Bytes) (pairs work₀ work : Li
       record {
         words = subst (λ (m : AagCounts). from + wordsFor m ≤ at) counts gather-behind;
         can =
-          record {
-            small =
-              record {
-                byInput = omega (arith, small-before .inputs, small-before .fewInputs);
-                byLatch = omega (arith, small-before .latches, small-before .fewInputs, small-before .fewLatches);
-                byGate = omega (arith, small-before .gates, small-before .fewInputs, small-before .fewLatches);
-              };
-            behind = omega (arith, range-within kind (next .first), next .behind, next .onward);
-            room = omega (arith, long, next .room, next .same);
-            literals = literals-small;
-          };
+            record {
+              small =
+                  record {
+                    byInput = omega (arith, small-before .inputs, small-before .fewInputs);
+                    byLatch = omega (arith, small-before .latches, small-before .fewInputs, small-before .fewLatches);
+                    byGate = omega (arith, small-before .gates, small-before .fewInputs, small-before .fewLatches);
+                  };
+              behind = omega (arith, range-within kind (next .first), next .behind, next .onward);
+              room = omega (arith, long, next .room, next .same);
+              literals = literals-small;
+            };
       }
 
   pub gather-can : CanShiftList kind n (shiftFor i q b n) work from at

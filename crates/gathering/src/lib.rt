@@ -12,6 +12,7 @@ ghost use Rattle.witness.specs.Reading.{readAag, countsIn};
 ghost use Rattle.composition.specs.Calling.{readAll, textsIn};
 ghost use Rattle.gathering.specs.Checking.{addedCounts, SmallSums, checkedFrom, noneYet, FewInOrder};
 ghost use Rattle.gathering.specs.Gathered.{CountsOf, wordsFor, LoadableAt, LoadsAt, CanLoad, LoadsAll};
+
 pub mod literals;
 
 use witness::ReadAag;

@@ -119,7 +119,16 @@ fn shift_range(range: Range, h: Shift, work: &mut [u64], from: usize, to: usize)
 }
 
 // A list of one witness, whose words begin at a place, written as joint literals from another place on. Returns the place after it.
-fn shift_list(kind: Literals, n: AagCounts, inputs: usize, latches: usize, b: Before, work: &mut [u64], from: usize, to: usize) -> usize
+fn shift_list(
+    kind: Literals,
+    n: AagCounts,
+    inputs: usize,
+    latches: usize,
+    b: Before,
+    work: &mut [u64],
+    from: usize,
+    to: usize,
+) -> usize
     requires { ⌜ SmallBefore inputs latches b n ⌝ }
     requires { ⌜ CanShiftList kind n (shiftFor inputs latches b n) (now work) from to ⌝ }
     ensures { λ r. ⌜ ShiftsRange (rangeOf kind n) (shiftFor inputs latches b n) (now (work .entry)) from to (now (work .exit)) r ⌝ }
@@ -130,7 +139,15 @@ fn shift_list(kind: Literals, n: AagCounts, inputs: usize, latches: usize, b: Be
 }
 
 // A list of all witnesses, from a place on. Returns the place after it.
-pub fn gather(witnesses: &[u8], pairs: &[u64], work: &mut [u64], kind: Literals, inputs: usize, latches: usize, to: usize) -> usize
+pub fn gather(
+    witnesses: &[u8],
+    pairs: &[u64],
+    work: &mut [u64],
+    kind: Literals,
+    inputs: usize,
+    latches: usize,
+    to: usize,
+) -> usize
     requires { ⌜ CanGather (literalCount kind) (now witnesses) (now pairs) (now work) to ⌝ }
     requires { ⌜ RightTotals (now witnesses) (now pairs) inputs latches ⌝ }
     ensures { λ r. ⌜ Gathers (jointLiterals (listOf kind) inputs latches) (literalCount kind) (now (witnesses .entry)) (now (pairs .entry)) (now (work .entry)) to (now (work .exit)) r ⌝ }

@@ -2,3 +2,5 @@
 pub mod MappingLaws
 pub mod NameLaws
 pub mod LoopLaws
+pub mod WitnessLaws
+pub mod AllLaws

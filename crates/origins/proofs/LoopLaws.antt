@@ -105,12 +105,12 @@ storing-none p t from count named w to work k =
       same = refl;
       kept = refl;
       each = λ names say.
-        record {
-          right = refl;
-          copied =
-            copied-none work to (originsFrom p w named 0 names)
-            (omega (arith, origins-length p w named 0 names, names-count t (part work from (from + 2 * count)) names say, part-length work from (from + 2 * count) (omega (arith, k .behind, k .room)), k .room));
-        };
+          record {
+            right = refl;
+            copied =
+                copied-none work to (originsFrom p w named 0 names)
+                (omega (arith, origins-length p w named 0 names, names-count t (part work from (from + 2 * count)) names say, part-length work from (from + 2 * count) (omega (arith, k .behind, k .room)), k .room));
+          };
     }
 
 module _ (p : ModelLeaves) (t : Bytes) (from count : ℕ) (named : Bool) (w to : ℕ) (work₀ work : List ℕ) (k : ℕ) (s : Storing p t from count named w to work₀ work k) where
@@ -120,9 +120,10 @@ module _ (p : ModelLeaves) (t : Bytes) (from count : ℕ) (named : Bool) (w to :
   pub storing-end : count ≤ k → StoresOrigins p t from count named w to work₀ work true
   storing-end h names say =
       let f = s .each names say in
-      let n : length names ≡ count = omega (arith, names-count t (part work₀ from (from + 2 * count)) names say, words-length) in
-      (sym (f .right) ∙ ap (allFrom (λ j name. isRight (mappingOf p named j name)) k) (drop-of-length-le names {i = k} (omega arith)),
-      copied-done work₀ to (originsFrom p w named 0 names) work k (f .copied) (omega (arith, origins-length p w named 0 names)))
+      let n : length names ≡ count = omega (arith, names-count t (part work₀ from (from + 2 * count)) names say, words-length) in (
+        sym (f .right) ∙ ap (allFrom (λ j name. isRight (mappingOf p named j name)) k) (drop-of-length-le names {i = k} (omega arith)),
+        copied-done work₀ to (originsFrom p w named 0 names) work k (f .copied) (omega (arith, origins-length p w named 0 names)),
+      )
 
   module _ (less : k < count) where
     -- the words of the names are not written over
@@ -179,7 +180,7 @@ module _ (p : ModelLeaves) (t : Bytes) (from count : ℕ) (named : Bool) (w to :
             stored names say =
                 let n : length names ≡ count = omega (arith, names-count t (part work₀ from (from + 2 * count)) names say, words-length) in
                 let z : v ≡ getD (originsFrom p w named 0 names) k 0 =
-                      g ∙ (ap (originWord w) (mapping-is names say ∙ ap (λ (j : ℕ). mappingOf p named j (getD names k none)) (omega arith)) ∙ sym (origins-at p w named 0 k names (omega arith))) in
+                g ∙ (ap (originWord w) (mapping-is names say ∙ ap (λ (j : ℕ). mappingOf p named j (getD names k none)) (omega arith)) ∙ sym (origins-at p w named 0 k names (omega arith))) in
                 record {
                   right = ap (λ (z : Bool). z && allFrom (λ j name. isRight (mappingOf p named j name)) (k + 1) (drop (k + 1) names)) (sym (sym q ∙ f)) ∙ tested-right names say;
                   copied = rw z (copied-more work₀ to (originsFrom p w named 0 names) work k (s .each names say .copied) 0 (omega (arith, origins-length p w named 0 names)));

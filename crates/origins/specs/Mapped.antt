@@ -8,7 +8,6 @@ use lib.ListN.{length, drop, getD}
 use Rattle.lists.specs.Parts.{Bytes, part, put}
 use Rattle.lists.specs.Tests.{any, all}
 use Rattle.lists.specs.Words.{pairsOf}
-
 use Rattle.witness_text.specs.declared.AagCounts.{AagCounts}
 use Rattle.witness.specs.Sections.{Sections}
 use Rattle.witness.specs.Reading.{countsIn}

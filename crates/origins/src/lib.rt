@@ -79,7 +79,14 @@ fn by_position(p: ModelLeaves, k: usize) -> Mapping
 }
 
 // What input or latch number k maps to; two words say its name.
-fn mapping_of(text: &[u8], offset: usize, size: usize, named: bool, p: ModelLeaves, k: usize) -> Mapping
+fn mapping_of(
+    text: &[u8],
+    offset: usize,
+    size: usize,
+    named: bool,
+    p: ModelLeaves,
+    k: usize,
+) -> Mapping
     requires { ⌜ FewLeaves p k ⌝ }
     requires { ⌜ SaysName (now text) offset size ⌝ }
     ensures { λ r. ⌜ MapsTo p named k (now (text .entry)) offset size r ⌝ }
@@ -94,7 +101,14 @@ fn mapping_of(text: &[u8], offset: usize, size: usize, named: bool, p: ModelLeav
 }
 
 // What input or latch number k maps to; the two words at a place say its name.
-fn mapping_at(text: &[u8], work: &[u64], at: usize, named: bool, p: ModelLeaves, k: usize) -> Mapping
+fn mapping_at(
+    text: &[u8],
+    work: &[u64],
+    at: usize,
+    named: bool,
+    p: ModelLeaves,
+    k: usize,
+) -> Mapping
     requires { ⌜ MappedAt p (now text) (now work) at k ⌝ }
     ensures { λ r. ⌜ MapsAt p named k (now (text .entry)) (now (work .entry)) at r ⌝ }
 {
@@ -163,7 +177,16 @@ fn is_right(mapping: Mapping) -> bool
 }
 
 // The origins of so many inputs or latches of witness w, whose names are said from one place on, from another place on. False where a literal is wrong.
-fn store_origins(text: &[u8], work: &mut [u64], from: usize, count: usize, named: bool, p: ModelLeaves, w: usize, to: usize) -> bool
+fn store_origins(
+    text: &[u8],
+    work: &mut [u64],
+    from: usize,
+    count: usize,
+    named: bool,
+    p: ModelLeaves,
+    w: usize,
+    to: usize,
+) -> bool
     requires { ⌜ CanMap p (now text) (now work) from count w to ⌝ }
     ensures { λ r. ⌜ StoresOrigins p (now (text .entry)) from count named w to (now (work .entry)) (now (work .exit)) r ⌝ }
 {
@@ -221,7 +244,16 @@ fn stored(right: bool, to: usize, count: usize, end: usize) -> Origins
 }
 
 // The origins of the inputs, or latches, of witness w, whose words begin at a place, from another place on.
-fn witness_origins(text: &[u8], n: AagCounts, work: &mut [u64], from: usize, leaves: Leaves, p: ModelLeaves, w: usize, to: usize) -> Origins
+fn witness_origins(
+    text: &[u8],
+    n: AagCounts,
+    work: &mut [u64],
+    from: usize,
+    leaves: Leaves,
+    p: ModelLeaves,
+    w: usize,
+    to: usize,
+) -> Origins
     requires { ⌜ CanMapWitness p leaves (now text) n (now work) from w to ⌝ }
     ensures { λ r. ⌜ MapsWitness p leaves (now (text .entry)) n (now (work .entry)) from w to (now (work .exit)) r ⌝ }
 {
@@ -233,7 +265,14 @@ fn witness_origins(text: &[u8], n: AagCounts, work: &mut [u64], from: usize, lea
 }
 
 // The origins of the inputs, or latches, of all witnesses, from a place on.
-pub fn gather_origins(witnesses: &[u8], pairs: &[u64], work: &mut [u64], leaves: Leaves, p: ModelLeaves, to: usize) -> Origins
+pub fn gather_origins(
+    witnesses: &[u8],
+    pairs: &[u64],
+    work: &mut [u64],
+    leaves: Leaves,
+    p: ModelLeaves,
+    to: usize,
+) -> Origins
     requires { ⌜ CanMapAll p leaves (now witnesses) (now pairs) (now work) to ⌝ }
     ensures { λ r. ⌜ MapsAll p leaves (now (witnesses .entry)) (now (pairs .entry)) (now (work .entry)) to (now (work .exit)) r ⌝ }
 {

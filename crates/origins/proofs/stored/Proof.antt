@@ -1,20 +1,16 @@
 use borrow.Author.Needs.{needs}
 use Rattle.origins.proofs.stored.Statement.{statement}
 use Rattle.origins.proofs.stored.Tie as tie
-use Rattle.origins.proofs.stored.Reads as reads
-use Rattle.origins.proofs.stored.Lts as lts
+use Rattle.origins.proofs.WitnessLaws.{stored-true, stored-false}
 
--- src/lib.rt:218:30
 add-t6 : tie.Need-add-t6
 add-t6 c = search needs
 
--- src/lib.rt:218:9
 returns : tie.Need-returns
-returns c = search needs
+returns c = search stored-true
 
--- src/lib.rt:213:1
 returns-2 : tie.Need-returns-2
-returns-2 c = search needs
+returns-2 c = search stored-false
 
 pub stored-spec : {M : Type 1} → statement M
 stored-spec = tie.close (tie.spec add-t6 returns returns-2)
