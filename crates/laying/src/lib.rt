@@ -1,0 +1,155 @@
+// All that the composer reads of the witnesses, laid out in the work words.
+ghost use mathlib.Core.Path.{_≡_};
+ghost use Rattle.joint.specs.declared.Leaves.the-variants as leaf;
+ghost use Rattle.laying.specs.Laid.{CanLay, Lays, Staged, Goes, GoesRight, nothing, withLatches, withOperands, withSafety, withConstraints, withInputs, PlacesFit, placesOf};
+use composition::ModelLeaves;
+use gathering::Totals;
+use joint::Leaves;
+use joint::Literals;
+use origins::Origins;
+use witness_text::AagCounts;
+
+// Where the regions of the work words begin.
+pub struct Places {
+    pub latches: usize,
+    pub operands: usize,
+    pub safety: usize,
+    pub constraints: usize,
+    pub input_origins: usize,
+    pub latch_origins: usize,
+    pub table: usize,
+    pub vars: usize,
+    pub gates: usize,
+    pub definitions: usize,
+    pub bads: usize,
+    pub bits: usize,
+    pub limits: usize,
+    pub end: usize,
+}
+
+// The places, or that a literal is wrong (reason 16).
+pub enum Laid {
+    At(Places),
+    Wrong,
+}
+
+// Where the lists begin, and where the last one ends.
+pub struct Lists {
+    pub latches: usize,
+    pub operands: usize,
+    pub safety: usize,
+    pub constraints: usize,
+    pub end: usize,
+}
+
+// The places of the regions behind the lists and origins.
+fn place_regions(l: Lists, latch_origins: usize, table: usize, m: AagCounts, t: Totals, size: usize) -> Places
+    requires { ⌜ PlacesFit l table m t size ⌝ }
+    ensures { λ r. ⌜ r ≡ placesOf l latch_origins table m t ⌝ }
+{
+    let all = t.inputs + t.latches + t.gates;
+    let vars = table + (m.inputs + m.latches);
+    let gates = vars + (all + 1);
+    let definitions = gates + (4 * t.gates + 1);
+    let bads = definitions + 2 * t.latches;
+    let bits = all / 32 + 1;
+    let limits = bads + bits;
+    Places {
+        latches: l.latches,
+        operands: l.operands,
+        safety: l.safety,
+        constraints: l.constraints,
+        input_origins: l.end,
+        latch_origins: latch_origins,
+        table: table,
+        vars: vars,
+        gates: gates,
+        definitions: definitions,
+        bads: bads,
+        bits: bits,
+        limits: limits,
+        end: limits + bits,
+    }
+}
+
+// The origins of the latches, then the places.
+fn lay_leaves(witnesses: &[u8], pairs: &[u64], work: &mut [u64], m: AagCounts, t: Totals, l: Lists, b: usize) -> Laid
+    requires { ⌜ Staged m t (now witnesses) (now pairs) (now work) (withInputs l (l .end)) b ⌝ }
+    ensures { λ r. ⌜ GoesRight leaf.Latches m t (now (witnesses .entry)) (now (pairs .entry)) (now (work .entry)) (withInputs l (l .end)) b (now (work .exit)) r ⌝ }
+{
+    let p = ModelLeaves {
+        before: m.inputs,
+        count: m.latches,
+    };
+    let Origins::Next(table) = origins::gather_origins(witnesses, pairs, work, Leaves::Latches, p, b) else {
+        return Laid::Wrong;
+    };
+    Laid::At(place_regions(l, b, table, m, t, work.len()))
+}
+
+// The origins of the inputs, then the latches'.
+fn lay_inputs(witnesses: &[u8], pairs: &[u64], work: &mut [u64], m: AagCounts, t: Totals, l: Lists) -> Laid
+    requires { ⌜ Staged m t (now witnesses) (now pairs) (now work) (withConstraints l) (l .end) ⌝ }
+    ensures { λ r. ⌜ Goes m t (now (witnesses .entry)) (now (pairs .entry)) (now (work .entry)) (withConstraints l) (l .end) (now (work .exit)) r ⌝ }
+{
+    let p = ModelLeaves {
+        before: 0,
+        count: m.inputs,
+    };
+    let Origins::Next(b) = origins::gather_origins(witnesses, pairs, work, Leaves::Inputs, p, l.end) else {
+        return Laid::Wrong;
+    };
+    lay_leaves(witnesses, pairs, work, m, t, l, b)
+}
+
+// The constraints, then the origins.
+fn lay_constraints(witnesses: &[u8], pairs: &[u64], work: &mut [u64], m: AagCounts, t: Totals, a: usize, b: usize, c: usize, d: usize) -> Laid
+    requires { ⌜ Staged m t (now witnesses) (now pairs) (now work) (withSafety a b c) d ⌝ }
+    ensures { λ r. ⌜ Goes m t (now (witnesses .entry)) (now (pairs .entry)) (now (work .entry)) (withSafety a b c) d (now (work .exit)) r ⌝ }
+{
+    let end = gathering::literals::gather(witnesses, pairs, work, Literals::Constraints, t.inputs, t.latches, d);
+    let lists = Lists {
+        latches: a,
+        operands: b,
+        safety: c,
+        constraints: d,
+        end: end,
+    };
+    lay_inputs(witnesses, pairs, work, m, t, lists)
+}
+
+// The safety literals, then the others.
+fn lay_safety(witnesses: &[u8], pairs: &[u64], work: &mut [u64], m: AagCounts, t: Totals, a: usize, b: usize, c: usize) -> Laid
+    requires { ⌜ Staged m t (now witnesses) (now pairs) (now work) (withOperands a b) c ⌝ }
+    ensures { λ r. ⌜ Goes m t (now (witnesses .entry)) (now (pairs .entry)) (now (work .entry)) (withOperands a b) c (now (work .exit)) r ⌝ }
+{
+    let d = gathering::literals::gather(witnesses, pairs, work, Literals::Safety, t.inputs, t.latches, c);
+    lay_constraints(witnesses, pairs, work, m, t, a, b, c, d)
+}
+
+// The operands of the gates, then the others.
+fn lay_operands(witnesses: &[u8], pairs: &[u64], work: &mut [u64], m: AagCounts, t: Totals, a: usize, b: usize) -> Laid
+    requires { ⌜ Staged m t (now witnesses) (now pairs) (now work) (withLatches a) b ⌝ }
+    ensures { λ r. ⌜ Goes m t (now (witnesses .entry)) (now (pairs .entry)) (now (work .entry)) (withLatches a) b (now (work .exit)) r ⌝ }
+{
+    let c = gathering::literals::gather(witnesses, pairs, work, Literals::Operands, t.inputs, t.latches, b);
+    lay_safety(witnesses, pairs, work, m, t, a, b, c)
+}
+
+// The latches' literals, then the others; the words of the texts end at a place.
+fn lay_latches(witnesses: &[u8], pairs: &[u64], work: &mut [u64], m: AagCounts, t: Totals, a: usize) -> Laid
+    requires { ⌜ Staged m t (now witnesses) (now pairs) (now work) nothing a ⌝ }
+    ensures { λ r. ⌜ Goes m t (now (witnesses .entry)) (now (pairs .entry)) (now (work .entry)) nothing a (now (work .exit)) r ⌝ }
+{
+    let b = gathering::literals::gather(witnesses, pairs, work, Literals::Latches, t.inputs, t.latches, a);
+    lay_operands(witnesses, pairs, work, m, t, a, b)
+}
+
+// Loads the witnesses and lays out what is read of them.
+pub fn lay(witnesses: &[u8], pairs: &[u64], work: &mut [u64], m: AagCounts, t: Totals) -> Laid
+    requires { ⌜ CanLay m t (now witnesses) (now pairs) (now work) ⌝ }
+    ensures { λ r. ⌜ Lays m t (now (witnesses .entry)) (now (pairs .entry)) (now (work .entry)) (now (work .exit)) r ⌝ }
+{
+    let a = gathering::load_all(witnesses, pairs, work);
+    lay_latches(witnesses, pairs, work, m, t, a)
+}
