@@ -1,0 +1,3 @@
+-- What is proved of the functions that number and mark.
+pub mod StoreLaws
+pub mod NumberLaws
