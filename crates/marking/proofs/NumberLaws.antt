@@ -13,7 +13,7 @@ use Rattle.lists.specs.Parts.{part, put}
 use Rattle.lists.proofs.PartLaws.{part-length, part-at, put-none, put-one, put-length, put-before, put-inside, put-put}
 use Rattle.lists.proofs.RestLaws.{rest-more}
 use Rattle.joint.specs.Numbers.{Numbers, withNumber, slot, numberAll}
-use Rattle.marking.specs.Marked.{InTable, Listed, ListedAt, CanNumberOne, Turn, turn, numberOne, NumberedOne, CanNumber, numbersIn, Numbered}
+use Rattle.marking.specs.Marked.{Listed, ListedAt, CanNumberOne, Turn, turn, NumberedOne, CanNumber, numbersIn, Numbered}
 use Rattle.marking.proofs.StoreLaws.{set-inside, set-before, put-own}
 
 -- ---- one leaf

@@ -9,6 +9,7 @@ use Rattle.lists.specs.Bits.{odd, bit}
 use Rattle.lists.specs.Firsts.{setOf}
 use Rattle.lists.specs.Parts.{part, put, zeros}
 use Rattle.lists.specs.Sets.{holds, withBit}
+use Rattle.aiger.specs.Gates.{variable}
 use Rattle.printing.specs.Elements.{elements}
 use Rattle.composition.specs.Sharing.{translate}
 use Rattle.joint.specs.Numbers.{Numbers, slot, numberAll}
@@ -76,3 +77,43 @@ pub record Numbered (origins count table size before vars next : ℕ) (work work
   pub returns : r ≡ numbersIn origins count table size before next work .next
   pub words :
       work' ≡ put (put work table (numbersIn origins count table size before next work .table)) vars (numbersIn origins count table size before next work .numbers)
+
+-- ---- sets of composed literals
+
+-- the composed literals of `count` joint ones that stand at a place
+abbrev pub literalsAt : (from count vars : ℕ) → List ℕ → List ℕ
+literalsAt from count vars work = map (translate (drop vars work)) (part work from (from + count))
+
+-- the word at a place is a literal that can be translated, and there is a set of bits from place `bits` up to place `end`
+pub record CanAddOne (at vars bits end found : ℕ) (work : List ℕ) : Type 0 where
+  pub within : at < length work
+  pub literal : Translatable vars work (getD work at 0)
+  pub ordered : bits ≤ end
+  pub room : end ≤ length work
+  pub few : found < length work
+
+-- its composed literal is in the set, and one more is found where it was not
+pub record AddedOne (at vars bits end found : ℕ) (work work' : List ℕ) (r : ℕ) : Type 0 where
+  pub returns : r ≡ found + bit (not (holds (part work bits end) (literalAt at vars work)))
+  pub words : work' ≡ put work bits (withBit (part work bits end) (literalAt at vars work))
+
+-- a literal whose composed variable stands in front of place `bits`, and is small, and whose composed literal has a bit among so many words
+pub record Addable (vars bits words : ℕ) (work : List ℕ) (l : ℕ) : Type 0 where
+  pub within : vars + variable l < bits
+  pub small : getD work (vars + variable l) 0 < 1073741824
+  pub below : translate (drop vars work) l < 64 * words
+
+-- The words before literals are added: `count` joint ones, composed variables, and an empty set.
+pub record CanAdd (from count vars bits words : ℕ) (work : List ℕ) : Type 0 where
+  pub first : from + count ≤ vars
+  pub second : vars ≤ bits
+  pub third : bits + words ≤ length work
+  pub empty : part work bits (bits + words) ≡ zeros words
+  pub literals : (i : ℕ) → i < count → Addable vars bits words work (getD work (from + i) 0)
+
+-- The promise: the set has the composed literals, r is how many they are, and the words around it are as they were.
+pub record Added (from count vars bits words : ℕ) (work work' : List ℕ) (r : ℕ) : Type 0 where
+  pub is : elements (part work' bits (bits + words)) ≡ setOf (literalsAt from count vars work)
+  pub returns : r ≡ length (setOf (literalsAt from count vars work))
+  pub before : take bits work' ≡ take bits work
+  pub behind : drop (bits + words) work' ≡ drop (bits + words) work

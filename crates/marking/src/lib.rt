@@ -1,9 +1,11 @@
 // Leaves are numbered at their first appearance, and composed literals are collected in sets of bits, all in lent words.
 ghost use mathlib.Core.Path.{_≡_};
 ghost use Prim.Native.Nat.{_-_, _≤_};
-ghost use lib.ListN.{length};
+ghost use lib.ListN.{length, drop};
 ghost use Rattle.lists.specs.Parts.{put, zeros};
-ghost use Rattle.marking.specs.Marked.{Listed, ListedAt, CanNumberOne, NumberedOne, CanNumber, Numbered};
+ghost use Rattle.composition.specs.Sharing.{translate};
+ghost use Rattle.linking.specs.Linked.{Translatable};
+ghost use Rattle.marking.specs.Marked.{Listed, ListedAt, CanNumberOne, NumberedOne, CanNumber, Numbered, CanAddOne, AddedOne, CanAdd, Added};
 use lists::index;
 
 // The place of the table's word for an origin word.
@@ -63,6 +65,55 @@ pub fn number_leaves(
         i += 1;
     }
     after
+}
+
+// The composed literal of a joint one; `translate` of crate `linking` is the same.
+fn composed_literal(work: &[u64], vars: usize, literal: u64) -> u64
+    requires { ⌜ Translatable vars (now work) literal ⌝ }
+    ensures { λ r. ⌜ r ≡ translate (drop vars (now (work .entry))) literal ⌝ }
+{
+    2 * work[vars + index(literal / 2)] + literal % 2
+}
+
+// Adds the composed literal of the word at a place to a set of bits, and counts it where it is new.
+fn add_literal(
+    work: &mut [u64],
+    at: usize,
+    vars: usize,
+    bits: usize,
+    end: usize,
+    found: usize,
+) -> usize
+    requires { ⌜ CanAddOne at vars bits end found (now work) ⌝ }
+    ensures { λ r. ⌜ AddedOne at vars bits end found (now (work .entry)) (now (work .exit)) r ⌝ }
+{
+    let literal = composed_literal(work, vars, work[at]);
+    if lists::add(&mut work[bits..end], index(literal)) {
+        return found + 1;
+    }
+    found
+}
+
+// Collects composed literals in the set of bits at place `bits`, which is empty at first, and counts them.
+pub fn add_literals(
+    work: &mut [u64],
+    from: usize,
+    count: usize,
+    vars: usize,
+    bits: usize,
+    words: usize,
+) -> usize
+    requires { ⌜ CanAdd from count vars bits words (now work) ⌝ }
+    ensures { λ r. ⌜ Added from count vars bits words (now (work .entry)) (now (work .exit)) r ⌝ }
+{
+    let end = bits + words;
+    let mut found = 0;
+    let mut i = 0;
+    while i < count {
+        found = add_literal(work, from + i, vars, bits, end, found);
+        i += 1;
+    }
+    found
 }
 
 // The words from one place up to another become 0.

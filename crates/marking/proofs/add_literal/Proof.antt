@@ -1,0 +1,65 @@
+use borrow.Author.Needs.{needs}
+use Rattle.marking.proofs.AddLaws.{literal-new, literal-old}
+use Rattle.marking.proofs.add_literal.Statement.{statement}
+use Rattle.marking.proofs.add_literal.Tie as tie
+
+mul-composed-literal : tie.Need-mul-composed-literal
+mul-composed-literal c = search needs
+
+slice-reshared-read-composed-literal : tie.Need-slice-reshared-read-composed-literal
+slice-reshared-read-composed-literal c = search needs
+
+composed-literal-requires : tie.Need-composed-literal-requires
+composed-literal-requires c κs = search needs
+
+mul-add : tie.Need-mul-add
+mul-add c = search needs
+
+sub-add : tie.Need-sub-add
+sub-add c = search needs
+
+part-add-start : tie.Need-part-add-start
+part-add-start c = search needs
+
+part-add-end : tie.Need-part-add-end
+part-add-end c = search needs
+
+index-requires : tie.Need-index-requires
+index-requires c κs = search needs
+
+add-requires : tie.Need-add-requires
+add-requires c κs = search needs
+
+add-result : tie.Need-add-result
+add-result c = search needs
+
+same-length : tie.Need-same-length
+same-length c = search needs
+
+returns : tie.Need-returns
+returns c = search literal-new
+
+same-length-2 : tie.Need-same-length-2
+same-length-2 c = search needs
+
+returns-2 : tie.Need-returns-2
+returns-2 c = search literal-old
+
+pub add-literal-spec : {M : Type 1} → statement M
+add-literal-spec =
+    tie.close
+    (tie.spec
+    mul-composed-literal
+    slice-reshared-read-composed-literal
+    composed-literal-requires
+    mul-add
+    sub-add
+    part-add-start
+    part-add-end
+    index-requires
+    add-requires
+    add-result
+    same-length
+    returns
+    same-length-2
+    returns-2)
