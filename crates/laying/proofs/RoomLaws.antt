@@ -44,7 +44,15 @@ pub record Amounts (ws : List Sections) : Type 0 where
 pub amounts : (ws : List Sections) → Amounts ws
 amounts [] =
     record {
-      O = 0; B = 0; C = 0; words = refl; latches = refl; operands = refl; safety = omega arith; constraints = refl; all = refl;
+      O = 0;
+      B = 0;
+      C = 0;
+      words = refl;
+      latches = refl;
+      operands = refl;
+      safety = omega arith;
+      constraints = refl;
+      all = refl;
     }
 amounts (s ∷ ss) =
     let k = amounts ss in

@@ -16,7 +16,7 @@ use Rattle.joint.specs.declared.Literals.the-variants as literals
 use Rattle.joint.specs.Joint.{totalOf, inputCount, latchCount, jointLiterals, gathered, joint, listOf}
 use Rattle.joint.proofs.AmountLaws.{joint-length}
 use Rattle.gathering.specs.declared.Totals.{Totals}
-use Rattle.gathering.specs.Gathered.{Blocks, wordTotal, Readable, CanGather, Gathers, RightTotals, literalCount}
+use Rattle.gathering.specs.Gathered.{Blocks, wordTotal, Readable, CanGather, Gathers, literalCount}
 use Rattle.gathering.proofs.BlockLaws.{blocks-same}
 use Rattle.laying.specs.declared.Laid.{Laid}
 use Rattle.laying.specs.Laid.{Has, Known, knownLength, Stage, Staged, Goes, literalsAt, nothing, withLatches, withOperands, withSafety}
@@ -40,76 +40,84 @@ module _ (mc : AagCounts) (t : Totals) (buffer : Bytes) (pairs work : List ℕ) 
     stage-more to' f =
         record {
           fitting =
-            record {
-              readable = k .fitting .readable; model = k .fitting .model; few = k .fitting .few; inputs = k .fitting .inputs; latches = k .fitting .latches;
-              gates = k .fitting .gates; room = omega (arith, k .fitting .room, same);
-            };
+              record {
+                readable = k .fitting .readable;
+                model = k .fitting .model;
+                few = k .fitting .few;
+                inputs = k .fitting .inputs;
+                latches = k .fitting .latches;
+                gates = k .fitting .gates;
+                room = omega (arith, k .fitting .room, same);
+              };
           blocks = blocks-same (textsIn buffer pairs) ws work work' (kept (wordTotal ws) stage-behind) (k .blocks);
           standing =
-            standing-more work work' to (wordTotal ws) ks (record { place = to; words = ys }) (kept to (omega arith)) same (k .to-is) refl
-            (subst (λ (l : List ℕ). Has l to ys) (sym e) (has-put work to ys fits)) (k .standing);
+              standing-more work work' to (wordTotal ws) ks (record { place = to; words = ys }) (kept to (omega arith)) same (k .to-is) refl
+              (subst (λ (l : List ℕ). Has l to ys) (sym e) (has-put work to ys fits)) (k .standing);
           to-is = omega (arith, f, k .to-is, known-more ks (record { place = to; words = ys }));
         }
 
   module _ (kind : Literals) (room : to + totalOf (literalCount kind) ws ≤ length work) where
-    can-gather : CanGather (literalCount kind) buffer pairs work to
+    pub can-gather : CanGather (literalCount kind) buffer pairs work to
     can-gather = record { ws = ws; readable = k .fitting .readable; blocks = k .blocks; behind = stage-behind; room = room }
-
-    stage-right : RightTotals buffer pairs (t .inputs) (t .latches)
-    stage-right vs r =
-        let e : ws ≡ vs = got-same ws vs (sym (k .fitting .readable .reads) ∙ r .reads) in
-        (k .fitting .inputs ∙ ap (totalOf inputCount) e, k .fitting .latches ∙ ap (totalOf latchCount) e)
-
-    pub stage-can : CanGather (literalCount kind) buffer pairs work to × RightTotals buffer pairs (t .inputs) (t .latches)
-    stage-can = (can-gather, stage-right)
 
     pub stage-gathered : (work' : List ℕ) (r : ℕ) → Gathers (jointLiterals (listOf kind) (t .inputs) (t .latches)) (literalCount kind) buffer pairs work to work' r
         → Stage mc t buffer pairs work' (ks ++ record { place = to; words = joint (listOf kind) ws } ∷ []) r m ws
     stage-gathered work' r g =
         let made = g ws (k .fitting .readable) in
         let words : gathered (jointLiterals (listOf kind) (t .inputs) (t .latches)) ws ≡ joint (listOf kind) ws =
-              ap₂ (λ (i q : ℕ). gathered (jointLiterals (listOf kind) i q) ws) (k .fitting .inputs) (k .fitting .latches) in
+        ap₂ (λ (i q : ℕ). gathered (jointLiterals (listOf kind) i q) ws) (k .fitting .inputs) (k .fitting .latches) in
         let long : length (joint (listOf kind) ws) ≡ totalOf (literalCount kind) ws = joint-length (listOf kind) ws in
         stage-more work' (joint (listOf kind) ws) (made .0 ∙ ap (put work to) words) (omega (arith, long, room)) r (made .1 ∙ ap (λ (j : ℕ). to + j) (sym long))
+
+-- the totals are those of the witnesses
+pub stage-totals : (mc : AagCounts) (t : Totals) (buffer : Bytes) (pairs work : List ℕ) (ks : Sections → List Sections → List Known) (to : ℕ) → Staged mc t buffer pairs work ks to
+    → (vs : List Sections) → Readable buffer pairs vs → (t .inputs ≡ totalOf inputCount vs) × (t .latches ≡ totalOf latchCount vs)
+stage-totals mc t buffer pairs work ks to s vs r =
+    let f = s .holds .fitting in
+    let e : s .ws ≡ vs = got-same (s .ws) vs (sym (f .readable .reads) ∙ r .reads) in
+    (f .inputs ∙ ap (totalOf inputCount) e, f .latches ∙ ap (totalOf latchCount) e)
 
 -- ---- a list in its turn
 
 -- the lists so far and the next one have room
-abbrev pub Roomy : (Sections → List Sections → List Known) → Literals → Type 0
-Roomy ks kind = (m : Sections) (ws : List Sections) → knownLength (ks m ws) + totalOf (literalCount kind) ws ≤ 3 * sizes ws
+pub record Roomy (ks : Sections → List Sections → List Known) (kind : Literals) : Type 0 where
+  pub most : (m : Sections) (ws : List Sections) → knownLength (ks m ws) + totalOf (literalCount kind) ws ≤ 3 * sizes ws
 
 module _ (ks : Sections → List Sections → List Known) (kind : Literals) (roomy : Roomy ks kind) (mc : AagCounts) (t : Totals) (buffer : Bytes) (pairs work : List ℕ) (to : ℕ) where
   room : (m : Sections) (ws : List Sections) → Stage mc t buffer pairs work (ks m ws) to m ws → to + totalOf (literalCount kind) ws ≤ length work
-  room m ws k = let n = amounts ws in omega (arith, roomy m ws, k .to-is, k .fitting .room, n .words, n .all)
+  room m ws k = let n = amounts ws in omega (arith, roomy .most m ws, k .to-is, k .fitting .room, n .words, n .all)
 
-  pub turn-can : Staged mc t buffer pairs work ks to → CanGather (literalCount kind) buffer pairs work to × RightTotals buffer pairs (t .inputs) (t .latches)
-  turn-can s = stage-can mc t buffer pairs work (ks (s .m) (s .ws)) to (s .m) (s .ws) (s .holds) kind (room (s .m) (s .ws) (s .holds))
+  pub turn-can : Staged mc t buffer pairs work ks to → CanGather (literalCount kind) buffer pairs work to
+  turn-can s = can-gather mc t buffer pairs work (ks (s .m) (s .ws)) to (s .m) (s .ws) (s .holds) kind (room (s .m) (s .ws) (s .holds))
 
   module _ (work' : List ℕ) (b : ℕ) (g : Gathers (jointLiterals (listOf kind) (t .inputs) (t .latches)) (literalCount kind) buffer pairs work to work' b) where
     step : (m : Sections) (ws : List Sections) → Stage mc t buffer pairs work (ks m ws) to m ws → Stage mc t buffer pairs work' (ks m ws ++ literalsAt kind to ws ∷ []) b m ws
     step m ws k = stage-gathered mc t buffer pairs work (ks m ws) to m ws k kind (room m ws k) work' b g
 
-    pub turn-next : Staged mc t buffer pairs work ks to → Staged mc t buffer pairs work' (λ m ws. ks m ws ++ literalsAt kind to ws ∷ []) b
-    turn-next s = record { m = s .m; ws = s .ws; holds = step (s .m) (s .ws) (s .holds) }
+    pub turn-next : Staged mc t buffer pairs work ks to → (ks' : Sections → List Sections → List Known) → ks' ≡ (λ m ws. ks m ws ++ literalsAt kind to ws ∷ []) → Staged mc t buffer pairs work' ks' b
+    turn-next s ks' e = rw e (record { m = s .m; ws = s .ws; holds = step (s .m) (s .ws) (s .holds) })
 
     pub turn-goes : (work'' : List ℕ) (r : Laid) → Goes mc t buffer pairs work' (λ m ws. ks m ws ++ literalsAt kind to ws ∷ []) b work'' r → Goes mc t buffer pairs work ks to work'' r
     turn-goes work'' r h = record { goes = λ m ws k. h .goes m ws (step m ws k) }
 
 -- ---- the lists have room
 
-long : (kind : Literals) (ws : List Sections) → length (joint (listOf kind) ws) ≡ totalOf (literalCount kind) ws
+pub long : (kind : Literals) (ws : List Sections) → length (joint (listOf kind) ws) ≡ totalOf (literalCount kind) ws
 long kind ws = joint-length (listOf kind) ws
 
 pub roomy-latches : Roomy nothing literals.Latches
-roomy-latches m ws = let n = amounts ws in omega (arith, n .latches, n .all)
+roomy-latches = record { most = λ m ws. let n = amounts ws in omega (arith, n .latches, n .all) }
 
 pub roomy-operands : (a : ℕ) → Roomy (withLatches a) literals.Operands
-roomy-operands a m ws = let n = amounts ws in omega (arith, n .latches, n .operands, n .all, long literals.Latches ws)
+roomy-operands a = record { most = λ m ws. let n = amounts ws in omega (arith, n .latches, n .operands, n .all, long literals.Latches ws) }
 
 pub roomy-safety : (a b : ℕ) → Roomy (withOperands a b) literals.Safety
-roomy-safety a b m ws = let n = amounts ws in omega (arith, n .latches, n .operands, n .safety, n .all, long literals.Latches ws, long literals.Operands ws)
+roomy-safety a b = record { most = λ m ws. let n = amounts ws in omega (arith, n .latches, n .operands, n .safety, n .all, long literals.Latches ws, long literals.Operands ws) }
 
 pub roomy-constraints : (a b c : ℕ) → Roomy (withSafety a b c) literals.Constraints
-roomy-constraints a b c m ws =
-    let n = amounts ws in
-    omega (arith, n .latches, n .operands, n .safety, n .constraints, n .all, long literals.Latches ws, long literals.Operands ws, long literals.Safety ws)
+roomy-constraints a b c =
+    record {
+      most = λ m ws.
+          let n = amounts ws in
+          omega (arith, n .latches, n .operands, n .safety, n .constraints, n .all, long literals.Latches ws, long literals.Operands ws, long literals.Safety ws);
+    }

@@ -175,8 +175,8 @@ placesOf l latchOrigins table mc t =
       bits = (t .inputs + t .latches + t .gates) / 32 + 1;
       limits = table + (mc .inputs + mc .latches) + (t .inputs + t .latches + t .gates + 1) + (4 * t .gates + 1) + 2 * t .latches + ((t .inputs + t .latches + t .gates) / 32 + 1);
       end =
-        table + (mc .inputs + mc .latches) + (t .inputs + t .latches + t .gates + 1) + (4 * t .gates + 1) + 2 * t .latches + ((t .inputs + t .latches + t .gates) / 32 + 1)
-        + ((t .inputs + t .latches + t .gates) / 32 + 1);
+          table + (mc .inputs + mc .latches) + (t .inputs + t .latches + t .gates + 1) + (4 * t .gates + 1) + 2 * t .latches + ((t .inputs + t .latches + t .gates) / 32 + 1)
+          + ((t .inputs + t .latches + t .gates) / 32 + 1);
     }
 
 -- as `Goes`, where 16 is left to be decided by the inputs, or latches, only

@@ -43,9 +43,16 @@ pub struct Lists {
 }
 
 // The places of the regions behind the lists and origins.
-fn place_regions(l: Lists, latch_origins: usize, table: usize, m: AagCounts, t: Totals, size: usize) -> Places
+fn place_regions(
+    l: Lists,
+    latch_origins: usize,
+    table: usize,
+    m: AagCounts,
+    t: Totals,
+    size: usize,
+) -> Places
     requires { ⌜ PlacesFit l table m t size ⌝ }
-    ensures { λ r. ⌜ r ≡ placesOf l latch_origins table m t ⌝ }
+    ensures { λ r. ⌜ r ≡ placesOf l «latch_origins» table m t ⌝ }
 {
     let all = t.inputs + t.latches + t.gates;
     let vars = table + (m.inputs + m.latches);
@@ -73,7 +80,15 @@ fn place_regions(l: Lists, latch_origins: usize, table: usize, m: AagCounts, t: 
 }
 
 // The origins of the latches, then the places.
-fn lay_leaves(witnesses: &[u8], pairs: &[u64], work: &mut [u64], m: AagCounts, t: Totals, l: Lists, b: usize) -> Laid
+fn lay_leaves(
+    witnesses: &[u8],
+    pairs: &[u64],
+    work: &mut [u64],
+    m: AagCounts,
+    t: Totals,
+    l: Lists,
+    b: usize,
+) -> Laid
     requires { ⌜ Staged m t (now witnesses) (now pairs) (now work) (withInputs l (l .end)) b ⌝ }
     ensures { λ r. ⌜ GoesRight leaf.Latches m t (now (witnesses .entry)) (now (pairs .entry)) (now (work .entry)) (withInputs l (l .end)) b (now (work .exit)) r ⌝ }
 {
@@ -81,14 +96,28 @@ fn lay_leaves(witnesses: &[u8], pairs: &[u64], work: &mut [u64], m: AagCounts, t
         before: m.inputs,
         count: m.latches,
     };
-    let Origins::Next(table) = origins::gather_origins(witnesses, pairs, work, Leaves::Latches, p, b) else {
+    let Origins::Next(table) = origins::gather_origins(
+        witnesses,
+        pairs,
+        work,
+        Leaves::Latches,
+        p,
+        b,
+    ) else {
         return Laid::Wrong;
     };
     Laid::At(place_regions(l, b, table, m, t, work.len()))
 }
 
 // The origins of the inputs, then the latches'.
-fn lay_inputs(witnesses: &[u8], pairs: &[u64], work: &mut [u64], m: AagCounts, t: Totals, l: Lists) -> Laid
+fn lay_inputs(
+    witnesses: &[u8],
+    pairs: &[u64],
+    work: &mut [u64],
+    m: AagCounts,
+    t: Totals,
+    l: Lists,
+) -> Laid
     requires { ⌜ Staged m t (now witnesses) (now pairs) (now work) (withConstraints l) (l .end) ⌝ }
     ensures { λ r. ⌜ Goes m t (now (witnesses .entry)) (now (pairs .entry)) (now (work .entry)) (withConstraints l) (l .end) (now (work .exit)) r ⌝ }
 {
@@ -96,18 +125,37 @@ fn lay_inputs(witnesses: &[u8], pairs: &[u64], work: &mut [u64], m: AagCounts, t
         before: 0,
         count: m.inputs,
     };
-    let Origins::Next(b) = origins::gather_origins(witnesses, pairs, work, Leaves::Inputs, p, l.end) else {
+    let Origins::Next(b) = origins::gather_origins(witnesses, pairs, work, Leaves::Inputs, p, l.end)
+    else {
         return Laid::Wrong;
     };
     lay_leaves(witnesses, pairs, work, m, t, l, b)
 }
 
 // The constraints, then the origins.
-fn lay_constraints(witnesses: &[u8], pairs: &[u64], work: &mut [u64], m: AagCounts, t: Totals, a: usize, b: usize, c: usize, d: usize) -> Laid
+fn lay_constraints(
+    witnesses: &[u8],
+    pairs: &[u64],
+    work: &mut [u64],
+    m: AagCounts,
+    t: Totals,
+    a: usize,
+    b: usize,
+    c: usize,
+    d: usize,
+) -> Laid
     requires { ⌜ Staged m t (now witnesses) (now pairs) (now work) (withSafety a b c) d ⌝ }
     ensures { λ r. ⌜ Goes m t (now (witnesses .entry)) (now (pairs .entry)) (now (work .entry)) (withSafety a b c) d (now (work .exit)) r ⌝ }
 {
-    let end = gathering::literals::gather(witnesses, pairs, work, Literals::Constraints, t.inputs, t.latches, d);
+    let end = gathering::literals::gather(
+        witnesses,
+        pairs,
+        work,
+        Literals::Constraints,
+        t.inputs,
+        t.latches,
+        d,
+    );
     let lists = Lists {
         latches: a,
         operands: b,
@@ -119,29 +167,77 @@ fn lay_constraints(witnesses: &[u8], pairs: &[u64], work: &mut [u64], m: AagCoun
 }
 
 // The safety literals, then the others.
-fn lay_safety(witnesses: &[u8], pairs: &[u64], work: &mut [u64], m: AagCounts, t: Totals, a: usize, b: usize, c: usize) -> Laid
+fn lay_safety(
+    witnesses: &[u8],
+    pairs: &[u64],
+    work: &mut [u64],
+    m: AagCounts,
+    t: Totals,
+    a: usize,
+    b: usize,
+    c: usize,
+) -> Laid
     requires { ⌜ Staged m t (now witnesses) (now pairs) (now work) (withOperands a b) c ⌝ }
     ensures { λ r. ⌜ Goes m t (now (witnesses .entry)) (now (pairs .entry)) (now (work .entry)) (withOperands a b) c (now (work .exit)) r ⌝ }
 {
-    let d = gathering::literals::gather(witnesses, pairs, work, Literals::Safety, t.inputs, t.latches, c);
+    let d = gathering::literals::gather(
+        witnesses,
+        pairs,
+        work,
+        Literals::Safety,
+        t.inputs,
+        t.latches,
+        c,
+    );
     lay_constraints(witnesses, pairs, work, m, t, a, b, c, d)
 }
 
 // The operands of the gates, then the others.
-fn lay_operands(witnesses: &[u8], pairs: &[u64], work: &mut [u64], m: AagCounts, t: Totals, a: usize, b: usize) -> Laid
+fn lay_operands(
+    witnesses: &[u8],
+    pairs: &[u64],
+    work: &mut [u64],
+    m: AagCounts,
+    t: Totals,
+    a: usize,
+    b: usize,
+) -> Laid
     requires { ⌜ Staged m t (now witnesses) (now pairs) (now work) (withLatches a) b ⌝ }
     ensures { λ r. ⌜ Goes m t (now (witnesses .entry)) (now (pairs .entry)) (now (work .entry)) (withLatches a) b (now (work .exit)) r ⌝ }
 {
-    let c = gathering::literals::gather(witnesses, pairs, work, Literals::Operands, t.inputs, t.latches, b);
+    let c = gathering::literals::gather(
+        witnesses,
+        pairs,
+        work,
+        Literals::Operands,
+        t.inputs,
+        t.latches,
+        b,
+    );
     lay_safety(witnesses, pairs, work, m, t, a, b, c)
 }
 
 // The latches' literals, then the others; the words of the texts end at a place.
-fn lay_latches(witnesses: &[u8], pairs: &[u64], work: &mut [u64], m: AagCounts, t: Totals, a: usize) -> Laid
+fn lay_latches(
+    witnesses: &[u8],
+    pairs: &[u64],
+    work: &mut [u64],
+    m: AagCounts,
+    t: Totals,
+    a: usize,
+) -> Laid
     requires { ⌜ Staged m t (now witnesses) (now pairs) (now work) nothing a ⌝ }
     ensures { λ r. ⌜ Goes m t (now (witnesses .entry)) (now (pairs .entry)) (now (work .entry)) nothing a (now (work .exit)) r ⌝ }
 {
-    let b = gathering::literals::gather(witnesses, pairs, work, Literals::Latches, t.inputs, t.latches, a);
+    let b = gathering::literals::gather(
+        witnesses,
+        pairs,
+        work,
+        Literals::Latches,
+        t.inputs,
+        t.latches,
+        a,
+    );
     lay_operands(witnesses, pairs, work, m, t, a, b)
 }
 
