@@ -1,0 +1,186 @@
+-- Laws of what the composer tests before and beside the composition: pairs, room, safety.
+use Prim.Native.Nat.{ℕ, zero, suc, _+_, _-_, _*_, _/_, _≤_, _<_}
+use mathlib.Core.Bool.{Bool, true, false, cond, not, _&&_}
+use mathlib.Core.List.{List, [], _∷_}
+use mathlib.Core.Logic.{_⊎_, inl, inr}
+use mathlib.Core.Path.{_≡_, refl, sym, ap, _∙_, subst}
+use native.Mathlib.Omega.{arith}
+use borrow.Author.Tests.{eq-eqb, ne-eqb, ltb-true, ltb-false, le-leb, lt-leb, lt-ltb, le-ltb}
+use lib.Dec.{eqb, leb, ltb}
+use lib.ListN.{length, getD, drop}
+use Rattle.lists.specs.Answer.{got}
+use Rattle.lists.specs.Parts.{Bytes, part}
+use Rattle.lists.specs.Tests.{all}
+use Rattle.lists.specs.Words.{inOrder}
+use Rattle.lists.proofs.AnswerLaws.{got-same}
+use Rattle.lists.proofs.BoolLaws.{and-false, below-or}
+use Rattle.lists.proofs.PairLaws.{pair-rest, no-pair, order-none}
+use Rattle.text.specs.Texts.{limited}
+use Rattle.witness_text.specs.declared.AagCounts.{AagCounts}
+use Rattle.witness.specs.Sections.{Sections}
+use Rattle.witness.specs.Reading.{readAag, countsIn}
+use Rattle.composition.specs.Composing.{orOutputs, safety, isSome}
+use Rattle.composition.specs.Calling.{readAll, textsIn}
+use Rattle.gathering.specs.Gathered.{CountsOf, Readable}
+use Rattle.gathering.proofs.TextLaws.{FirstRead, first-read, none-read, left-more, left-none}
+use Rattle.compose.specs.declared.PartEnd.{PartEnd}
+use Rattle.compose.specs.declared.PartEnd.the-variants as parts
+use Rattle.compose.specs.Steps.{partEnd, firstRoom, allSafe, TestsSafety}
+
+-- ---- 2
+
+module _ (end start size most : ℕ) where
+  pub end-before : start < end → parts.Outside ≡ partEnd end start size most
+  end-before h = rw (lt-leb end start h) refl
+
+  pub end-past : most < start → parts.Outside ≡ partEnd end start size most
+  end-past h = rw (lt-leb (start + size) most (omega arith), and-false (leb end start)) refl
+
+  pub end-behind : start ≤ most → most - start < size → parts.Outside ≡ partEnd end start size most
+  end-behind h k = rw (lt-leb (start + size) most (omega arith), and-false (leb end start)) refl
+
+  pub end-within : end ≤ start → start ≤ most → size ≤ most - start → parts.At (start + size) ≡ partEnd end start size most
+  end-within h k f = rw (le-leb end start h, le-leb (start + size) most (omega arith)) refl
+
+pub pair-ends : (end start size a n most : ℕ) (x : PartEnd) → start ≡ a → size ≡ n → x ≡ partEnd end start size most → x ≡ partEnd end a n most
+pair-ends end start size a n most x e f g = g ∙ rw (e, f) refl
+
+at-outside : {X : Type 0} (a : ℕ) → parts.At a ≡ parts.Outside → X
+at-outside a e = let z : _≡_ {A = ℕ} 0 1 = cc in absurd (omega arith)
+
+at-same : (a b : ℕ) → parts.At a ≡ parts.At b → a ≡ b
+at-same a b e = cc
+
+-- the pairs before number i are in order, and the last of them ends at `end`
+pub record Ordering (pairs : List ℕ) (most end i : ℕ) : Type 0 where
+  pub is : inOrder end most (drop (2 * i) pairs) ≡ inOrder 0 most pairs
+
+pub ordering-none : (pairs : List ℕ) (most : ℕ) → Ordering pairs most 0 0
+ordering-none pairs most = record { is = refl }
+
+module _ (pairs : List ℕ) (most end i count : ℕ) (k : Ordering pairs most end i) (number : count ≡ length pairs / 2) where
+  pub ordering-end : count ≤ i → true ≡ inOrder 0 most pairs
+  ordering-end h = sym (order-none end most (drop (2 * i) pairs) (no-pair pairs i (omega arith))) ∙ k .is
+
+  module _ (less : i < count) (x : PartEnd) (e : x ≡ partEnd end (getD pairs (2 * i) 0) (getD pairs (2 * i + 1) 0) most) where
+    split : (p q : Bool) → leb end (getD pairs (2 * i) 0) ≡ p → leb (getD pairs (2 * i) 0 + getD pairs (2 * i + 1) 0) most ≡ q
+        → (p && (q && inOrder (getD pairs (2 * i) 0 + getD pairs (2 * i + 1) 0) most (drop (2 * (i + 1)) pairs))) ≡ inOrder 0 most pairs
+    split p q f g = rw (← f, ← g) (sym (ap (inOrder end most) (pair-rest pairs i (omega arith))) ∙ k .is)
+
+    answer : (p q : Bool) → leb end (getD pairs (2 * i) 0) ≡ p → leb (getD pairs (2 * i) 0 + getD pairs (2 * i + 1) 0) most ≡ q
+        → x ≡ cond (p && q) (parts.At (getD pairs (2 * i) 0 + getD pairs (2 * i + 1) 0)) parts.Outside
+    answer p q f g = rw (← f, ← g) e
+
+    pub ordering-stop : x ≡ parts.Outside → false ≡ inOrder 0 most pairs
+    ordering-stop o = go (leb end (getD pairs (2 * i) 0)) (leb (getD pairs (2 * i) 0 + getD pairs (2 * i + 1) 0) most) refl refl
+      where
+        go : (p q : Bool) → leb end (getD pairs (2 * i) 0) ≡ p → leb (getD pairs (2 * i) 0 + getD pairs (2 * i + 1) 0) most ≡ q → false ≡ inOrder 0 most pairs
+        go true true f g = at-outside (getD pairs (2 * i) 0 + getD pairs (2 * i + 1) 0) (sym (answer true true f g) ∙ o)
+        go true false f g = split true false f g
+        go false q f g = split false q f g
+
+    pub ordering-more : (end' : ℕ) → x ≡ parts.At end' → Ordering pairs most end' (i + 1)
+    ordering-more end' o = record { is = go (leb end (getD pairs (2 * i) 0)) (leb (getD pairs (2 * i) 0 + getD pairs (2 * i + 1) 0) most) refl refl }
+      where
+        go : (p q : Bool) → leb end (getD pairs (2 * i) 0) ≡ p → leb (getD pairs (2 * i) 0 + getD pairs (2 * i + 1) 0) most ≡ q
+            → inOrder end' most (drop (2 * (i + 1)) pairs) ≡ inOrder 0 most pairs
+        go true true f g = ap (λ (j : ℕ). inOrder j most (drop (2 * (i + 1)) pairs)) (at-same end' (getD pairs (2 * i) 0 + getD pairs (2 * i + 1) 0) (sym o ∙ answer true true f g)) ∙ split true true f g
+        go true false f g = at-outside end' (sym o ∙ answer true false f g)
+        go false q f g = at-outside end' (sym o ∙ answer false q f g)
+
+-- ---- 15
+
+pub room-none : (words : ℕ) → words < 1024 → 0 ≡ firstRoom words
+room-none words h = rw (lt-ltb words 1024 h) refl
+
+pub room-some : (words : ℕ) → 1024 ≤ words → (words - 1024) / 16 + 1 ≡ firstRoom words
+room-some words h = rw (le-ltb words 1024 h) refl
+
+-- so many words are enough exactly when something is left of the room
+pub room-enough : (words a b : ℕ) → leb (16 * (a + b) + 1024) words ≡ not (eqb (firstRoom words - a - b) 0)
+room-enough words a b = go (ltb words 1024) refl
+  where
+    go : (q : Bool) → ltb words 1024 ≡ q → leb (16 * (a + b) + 1024) words ≡ not (eqb (cond q 0 ((words - 1024) / 16 + 1) - a - b) 0)
+    go true e =
+        let h : words < 1024 = ltb-true words 1024 e in
+        let z : 0 - a - b ≡ 0 = omega arith in
+        rw (lt-leb (16 * (a + b) + 1024) words (omega arith), eq-eqb (0 - a - b) 0 z) refl
+    go false e = enough (below-or ((words - 1024) / 16) (a + b))
+      where
+        h : 1024 ≤ words
+        h = ltb-false words 1024 e
+
+        enough : ((words - 1024) / 16 < a + b) ⊎ (a + b ≤ (words - 1024) / 16) → leb (16 * (a + b) + 1024) words ≡ not (eqb ((words - 1024) / 16 + 1 - a - b) 0)
+        enough (inl l) =
+            let z : (words - 1024) / 16 + 1 - a - b ≡ 0 = omega arith in
+            rw (lt-leb (16 * (a + b) + 1024) words (omega (arith, h)), eq-eqb ((words - 1024) / 16 + 1 - a - b) 0 z) refl
+        enough (inr l) =
+            let z : (words - 1024) / 16 + 1 - a - b ≡ 0 → ⊥ = λ x. omega arith in
+            rw (le-leb (16 * (a + b) + 1024) words (omega (arith, h)), ne-eqb ((words - 1024) / 16 + 1 - a - b) 0 z) refl
+
+-- ---- 19
+
+-- a witness has a safety literal exactly when its counts of bads and outputs are not both 0
+none-safe : (bads outputs : List ℕ) → length bads ≡ 0 → length outputs ≡ 0 → isSome (orOutputs bads outputs) ≡ false
+none-safe [] [] e f = refl
+none-safe [] (x ∷ xs) e f = absurd (omega arith)
+none-safe (b ∷ bs) outputs e f = absurd (omega arith)
+
+output-safe : (bads outputs : List ℕ) → (length outputs ≡ 0 → ⊥) → isSome (orOutputs bads outputs) ≡ true
+output-safe [] [] n = absurd (n refl)
+output-safe [] (x ∷ xs) n = refl
+output-safe (b ∷ bs) outputs n = refl
+
+bad-safe : (bads outputs : List ℕ) → (length bads ≡ 0 → ⊥) → isSome (orOutputs bads outputs) ≡ true
+bad-safe [] outputs n = absurd (n refl)
+bad-safe (b ∷ bs) outputs n = refl
+
+read-drop : (n : ℕ) (ts : List Bytes) (ws : List Sections) → readAll ts ≡ got ws → readAll (drop n ts) ≡ got (drop n ws)
+read-drop zero ts ws e = e
+read-drop (suc n) [] ws e = rw (none-read ws e) refl
+read-drop (suc n) (t ∷ ts) ws e = let k = first-read t ts ws e in read-drop n ts (k .others) (k .readOthers) ∙ ap got (ap (drop (suc n)) (sym (k .is)))
+
+-- the witnesses before number w have safety literals
+pub record Safe (buffer : Bytes) (pairs : List ℕ) (w : ℕ) : Type 0 where
+  pub rest : (ws : List Sections) → Readable buffer pairs ws → allSafe (drop w ws) ≡ allSafe ws
+
+pub safe-none : (buffer : Bytes) (pairs : List ℕ) → Safe buffer pairs 0
+safe-none buffer pairs = record { rest = λ ws r. refl }
+
+module _ (buffer : Bytes) (pairs : List ℕ) (w count : ℕ) (k : Safe buffer pairs w) (number : count ≡ length pairs / 2) where
+  pub safe-end : count ≤ w → TestsSafety buffer pairs true
+  safe-end h ws r =
+      let none : drop w ws ≡ [] = left-none buffer pairs w (drop w ws) (read-drop w (textsIn buffer pairs) ws (r .reads)) (omega arith) in
+      sym (ap allSafe none) ∙ k .rest ws r
+
+  module _ (less : w < count) (n : AagCounts) (c : CountsOf (getD (textsIn buffer pairs) w []) n) where
+    next : (ws : List Sections) → Readable buffer pairs ws → FirstRead (getD (textsIn buffer pairs) w []) (drop (w + 1) (textsIn buffer pairs)) (drop w ws)
+    next ws r = left-more buffer pairs w (drop w ws) (read-drop w (textsIn buffer pairs) ws (r .reads)) (omega arith)
+
+    -- the safety of this witness and of those after it
+    both : (ws : List Sections) (r : Readable buffer pairs ws) → (isSome (safety (next ws r .first)) && allSafe (drop (w + 1) ws)) ≡ allSafe ws
+    both ws r =
+        ap (λ (l : List Sections). isSome (safety (next ws r .first)) && allSafe l)
+        (got-same (drop (w + 1) ws) (next ws r .others) (sym (read-drop (w + 1) (textsIn buffer pairs) ws (r .reads)) ∙ next ws r .readOthers))
+        ∙ (ap allSafe (sym (next ws r .is)) ∙ k .rest ws r)
+
+    bads-are : (ws : List Sections) (r : Readable buffer pairs ws) → n .bads ≡ length (next ws r .first .bads)
+    bads-are ws r = ap (λ (m : AagCounts). m .bads) (c (next ws r .first) (next ws r .reads))
+
+    outputs-are : (ws : List Sections) (r : Readable buffer pairs ws) → n .outputs ≡ length (next ws r .first .outputs)
+    outputs-are ws r = ap (λ (m : AagCounts). m .outputs) (c (next ws r .first) (next ws r .reads))
+
+    pub safe-stop : n .bads ≡ 0 → n .outputs ≡ 0 → TestsSafety buffer pairs false
+    safe-stop b o ws r =
+        ap (λ (q : Bool). q && allSafe (drop (w + 1) ws))
+        (sym (none-safe (next ws r .first .bads) (next ws r .first .outputs) (sym (bads-are ws r) ∙ b) (sym (outputs-are ws r) ∙ o)))
+        ∙ both ws r
+
+    goes-on : ((ws : List Sections) (r : Readable buffer pairs ws) → isSome (safety (next ws r .first)) ≡ true) → Safe buffer pairs (w + 1)
+    goes-on f = record { rest = λ ws r. ap (λ (q : Bool). q && allSafe (drop (w + 1) ws)) (sym (f ws r)) ∙ both ws r }
+
+    pub safe-bads : (n .bads ≡ 0 → ⊥) → Safe buffer pairs (w + 1)
+    safe-bads z = goes-on (λ ws r. bad-safe (next ws r .first .bads) (next ws r .first .outputs) (λ e. z (bads-are ws r ∙ e)))
+
+    pub safe-outputs : (n .outputs ≡ 0 → ⊥) → Safe buffer pairs (w + 1)
+    safe-outputs z = goes-on (λ ws r. output-safe (next ws r .first .bads) (next ws r .first .outputs) (λ e. z (outputs-are ws r ∙ e)))

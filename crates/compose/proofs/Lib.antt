@@ -1,0 +1,2 @@
+-- Laws of the composer.
+pub mod CallLaws

@@ -1,0 +1,56 @@
+use borrow.Author.Needs.{needs}
+use Rattle.compose.proofs.in_order.Statement.{statement}
+use Rattle.compose.proofs.in_order.Tie as tie
+use Rattle.compose.proofs.CallLaws.{Ordering, ordering-none, ordering-stop, ordering-more, ordering-end}
+use lib.ListN.{length}
+use Prim.Native.Nat.{_-_, _/_}
+use mathlib.Core.Path.{_≡_}
+
+abbrev Inv-loop : tie.InvT-loop
+Inv-loop pairs all count end₀ i₀ end i = Ordering pairs all end i × (count ≡ length pairs / 2)
+
+abbrev μ-loop : tie.MeasureT-loop
+μ-loop pairs all count end₀ i₀ end i = count - i
+
+loop-holds : tie.Need-loop-holds Inv-loop μ-loop
+loop-holds c = search (needs, ordering-none)
+
+pair-end-requires : tie.Need-pair-end-requires Inv-loop μ-loop
+pair-end-requires c κs = search needs
+
+enum-known-next : tie.Need-enum-known-next Inv-loop μ-loop
+enum-known-next c = search needs
+
+enum-told : tie.Need-enum-told Inv-loop μ-loop
+enum-told c = search needs
+
+returns : tie.Need-returns Inv-loop μ-loop
+returns c = search ordering-stop
+
+add-i : tie.Need-add-i Inv-loop μ-loop
+add-i c = search needs
+
+loop-less : tie.Need-loop-less Inv-loop μ-loop
+loop-less c = search needs
+
+loop-again : tie.Need-loop-again Inv-loop μ-loop
+loop-again c = (search ordering-more, search needs)
+
+returns-2 : tie.Need-returns-2 Inv-loop μ-loop
+returns-2 c = search ordering-end
+
+pub in-order-spec : {M : Type 1} → statement M
+in-order-spec =
+    tie.close
+    (tie.spec
+    Inv-loop
+    μ-loop
+    loop-holds
+    pair-end-requires
+    enum-known-next
+    enum-told
+    returns
+    add-i
+    loop-less
+    loop-again
+    returns-2)

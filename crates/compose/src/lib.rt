@@ -1,0 +1,192 @@
+// The composer of item 8 of 01.
+ghost use mathlib.Core.Path.{_≡_};
+ghost use lib.ListN.{length, getD};
+ghost use Prim.Native.Nat.{_+_, _*_, _<_};
+ghost use Rattle.lists.specs.Words.{inOrder};
+ghost use Rattle.composition.specs.Calling.{textsIn, composeTexts, composeCall};
+ghost use Rattle.gathering.specs.Checking.{FewInOrder, SmallSums, noneYet};
+ghost use Rattle.laying.specs.Laid.{CanLay};
+ghost use Rattle.compose.specs.Promise.{Composes};
+ghost use Rattle.compose.specs.Steps.{partEnd, firstRoom, TestsSafety, roomBeside, Answers, LaidSome, ComposesLaid, ComposesFitting, ModelSome, ComposesWitnesses};
+use gathering::Checked;
+use gathering::Totals;
+use laying::Laid;
+use laying::Places;
+use witness::ReadAag;
+use witness_text::AagCounts;
+
+// How many bytes the composed text has, or the number of the reason.
+pub enum Composed {
+    Got(usize),
+    Refused(u64),
+}
+
+// Where a part ends, or that it starts before the end of the one ahead or runs past the buffer.
+pub enum PartEnd {
+    At(usize),
+    Outside,
+}
+
+// Where a part ends that may not start before a place, and ends within so many bytes.
+fn part_end(end: usize, start: usize, size: usize, all: usize) -> PartEnd
+    ensures { λ r. ⌜ r ≡ partEnd end start size all ⌝ }
+{
+    if start < end {
+        return PartEnd::Outside;
+    }
+    if all < start {
+        return PartEnd::Outside;
+    }
+    if all - start < size {
+        return PartEnd::Outside;
+    }
+    PartEnd::At(start + size)
+}
+
+// The same of the part that pair i says.
+fn pair_end(pairs: &[u64], i: usize, end: usize, all: usize) -> PartEnd
+    requires { ⌜ 2 * i + 1 < length (now pairs) ⌝ }
+    ensures { λ r. ⌜ r ≡ partEnd end (getD (now (pairs .entry)) (2 * i) 0) (getD (now (pairs .entry)) (2 * i + 1) 0) all ⌝ }
+{
+    let start = lists::index(pairs[2 * i]);
+    let size = lists::index(pairs[2 * i + 1]);
+    part_end(end, start, size, all)
+}
+
+// Whether the pairs are in order, within so many bytes (reason 2).
+fn in_order(pairs: &[u64], all: usize) -> bool
+    ensures { λ r. ⌜ r ≡ inOrder 0 all (now (pairs .entry)) ⌝ }
+{
+    let count = pairs.len() / 2;
+    let mut end = 0;
+    let mut i = 0;
+    while i < count {
+        let PartEnd::At(next) = pair_end(pairs, i, end, all) else {
+            return false;
+        };
+        end = next;
+        i += 1;
+    }
+    true
+}
+
+// How much room so many work words give.
+fn first_room(words: usize) -> usize
+    ensures { λ r. ⌜ r ≡ firstRoom words ⌝ }
+{
+    if words < 1024 {
+        return 0;
+    }
+    (words - 1024) / 16 + 1
+}
+
+// Whether each witness has a bad or an output (reason 19).
+fn all_safe(witnesses: &[u8], pairs: &[u64]) -> bool
+    requires { ⌜ FewInOrder (now witnesses) (now pairs) ⌝ }
+    ensures { λ r. ⌜ TestsSafety (now (witnesses .entry)) (now (pairs .entry)) r ⌝ }
+{
+    let count = pairs.len() / 2;
+    let mut w = 0;
+    while w < count {
+        let n = gathering::counts_at(witnesses, pairs, w);
+        if n.bads == 0 {
+            if n.outputs == 0 {
+                return false;
+            }
+            w += 1;
+            continue;
+        }
+        w += 1;
+    }
+    true
+}
+
+// Composes witnesses that are laid out.
+fn compose_laid(witnesses: &[u8], pairs: &[u64], work: &mut [u64], m: AagCounts, t: Totals, at: Places, out: &mut [u8]) -> Composed
+    requires { ⌜ LaidSome m t (now witnesses) (now pairs) (now work) at ⌝ }
+    ensures { λ r. ⌜ ComposesLaid m t (now (witnesses .entry)) (now (pairs .entry)) (now (work .entry)) at (now (out .entry)) (now (out .exit)) r ⌝ }
+{
+    Composed::Refused(0)
+}
+
+// Composes witnesses that are read and for which there are enough work words; m are the counts of the model.
+fn compose_fitting(witnesses: &[u8], pairs: &[u64], work: &mut [u64], m: AagCounts, t: Totals, out: &mut [u8]) -> Composed
+    requires { ⌜ CanLay m t (now witnesses) (now pairs) (now work) ⌝ }
+    ensures { λ r. ⌜ ComposesFitting m t (now (witnesses .entry)) (now (pairs .entry)) (now (work .entry)) (now (out .entry)) (now (out .exit)) r ⌝ }
+{
+    let laid = laying::lay(witnesses, pairs, work, m, t);
+    match laid {
+        Laid::Wrong => Composed::Refused(16),
+        Laid::At(at) => compose_laid(witnesses, pairs, work, m, t, at, out),
+    }
+}
+
+// How much room the model leaves.
+fn room_beside(m: AagCounts, words: usize) -> usize
+    requires { ⌜ SmallSums (noneYet (firstRoom words)) m ⌝ }
+    ensures { λ r. ⌜ r ≡ roomBeside m words ⌝ }
+{
+    let none = Totals {
+        room: first_room(words),
+        inputs: 0,
+        latches: 0,
+        gates: 0,
+    };
+    let t = gathering::add_counts(none, m);
+    t.room
+}
+
+// Reads the witnesses and composes them; m are the counts of the model.
+fn compose_witnesses(witnesses: &[u8], pairs: &[u64], work: &mut [u64], m: AagCounts, out: &mut [u8]) -> Composed
+    requires { ⌜ ModelSome (now witnesses) (now pairs) m ⌝ }
+    ensures { λ r. ⌜ ComposesWitnesses m (now (witnesses .entry)) (now (pairs .entry)) (now (work .entry)) (now (out .entry)) (now (out .exit)) r ⌝ }
+{
+    let room = room_beside(m, work.len());
+    let checked = gathering::check_all(witnesses, pairs, room);
+    match checked {
+        Checked::Refused(reason) => Composed::Refused(reason),
+        Checked::Read(t) => {
+            if t.room == 0 {
+                return Composed::Refused(15);
+            }
+            compose_fitting(witnesses, pairs, work, m, t, out)
+        }
+    }
+}
+
+// Reads the model, then the witnesses, and composes them.
+fn compose_texts(model: &[u8], witnesses: &[u8], pairs: &[u64], work: &mut [u64], out: &mut [u8]) -> Composed
+    requires { ⌜ FewInOrder (now witnesses) (now pairs) ⌝ }
+    ensures { λ r. ⌜ Answers (now (out .entry)) (composeTexts (length (now (work .entry))) (length (now (out .entry))) (now (model .entry)) (textsIn (now (witnesses .entry)) (now (pairs .entry)))) (now (out .exit)) r ⌝ }
+{
+    match witness::parse_aag(model, false) {
+        ReadAag::Refused(reason) => Composed::Refused(reason),
+        ReadAag::Got(m) => compose_witnesses(witnesses, pairs, work, m, out),
+    }
+}
+
+// The composition, with the work words left as they are.
+fn compose_in(model: &[u8], witnesses: &[u8], pairs: &[u64], work: &mut [u64], out: &mut [u8]) -> Composed
+    ensures { λ r. ⌜ Answers (now (out .entry)) (composeCall (length (now (work .entry))) (length (now (out .entry))) (now (model .entry)) (now (witnesses .entry)) (now (pairs .entry))) (now (out .exit)) r ⌝ }
+{
+    let count = pairs.len() / 2;
+    if count < 2 {
+        return Composed::Refused(1);
+    }
+    if 64 < count {
+        return Composed::Refused(1);
+    }
+    if in_order(pairs, witnesses.len()) {
+        return compose_texts(model, witnesses, pairs, work, out);
+    }
+    Composed::Refused(2)
+}
+
+// Composes safety witnesses for a model: item 8 of 01.
+pub fn compose_safety_witnesses_v1(model: &[u8], witnesses: &[u8], pairs: &[u64], work: &mut [u64], out: &mut [u8]) -> Composed
+    ensures { λ r. ⌜ Composes (now (model .entry)) (now (witnesses .entry)) (now (pairs .entry)) (now (work .entry)) (now (out .entry)) (now (work .exit)) (now (out .exit)) r ⌝ }
+{
+    let r = compose_in(model, witnesses, pairs, work, out);
+    lists::clear(work);
+    r
+}
