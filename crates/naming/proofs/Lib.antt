@@ -1,0 +1,8 @@
+-- Laws of symbol lines.
+pub mod PieceLaws
+pub mod WalkLaws
+pub mod WitnessLaws
+pub mod FirstLaws
+pub mod RowLaws
+pub mod EntryLaws
+pub mod SymbolLaws

@@ -1,0 +1,22 @@
+use Rattle.naming.proofs.WitnessLaws.{passed-is}
+use borrow.Author.Needs.{needs}
+use Rattle.naming.proofs.pass.Statement.{statement}
+use Rattle.naming.proofs.pass.Tie as tie
+
+name-count-requires : tie.Need-name-count-requires
+name-count-requires c κs = search needs
+
+after-words-requires : tie.Need-after-words-requires
+after-words-requires c κs = search needs
+
+add-t7 : tie.Need-add-t7
+add-t7 c = search needs
+
+add-t8 : tie.Need-add-t8
+add-t8 c = search needs
+
+returns : tie.Need-returns
+returns c = search passed-is
+
+pub pass-spec : {M : Type 1} → statement M
+pass-spec = tie.close (tie.spec name-count-requires after-words-requires add-t7 add-t8 returns)

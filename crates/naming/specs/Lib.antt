@@ -1,0 +1,3 @@
+-- Symbol lines of the composition, from words.
+pub mod Names
+pub mod Symbols
