@@ -1,0 +1,4 @@
+-- Laws of the text.
+pub mod HeaderLaws
+pub mod GateLaws
+pub mod PartLaws

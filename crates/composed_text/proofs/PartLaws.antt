@@ -1,0 +1,68 @@
+-- The text of the composition is made up of the parts that are printed one after the other.
+use Prim.Native.Nat.{ℕ, suc, _+_}
+use mathlib.Core.List.{List, [], _∷_, _++_, map, append-assoc}
+use mathlib.Core.Option.{Option, some}
+use mathlib.Core.Path.{_≡_, refl, sym, ap, ap₂, _∙_}
+use native.Mathlib.Omega.{arith}
+use lib.ListN.{length, length-map}
+use Rattle.lists.specs.Parts.{Bytes}
+use Rattle.lists.specs.Words.{wordsOf}
+use Rattle.decimal.specs.Printed.{textOf}
+use Rattle.printing.specs.Lines as lines
+use Rattle.witness.specs.Sections.{NamedLatch, Sections, latchNames}
+use Rattle.witness_words.specs.Loaded.{latchWords}
+use Rattle.composition.specs.Numbering.{Entry}
+use Rattle.composition.specs.Printing.{headerLine, inputLines, latchLines, gateLines, literalLines, symbolLines, closing, tailLines, printed}
+use Rattle.composed_text.specs.Header.{headerOf, countsOf}
+use Rattle.composed_text.specs.Text.{closingText, partsOf}
+use Rattle.composed_text.proofs.HeaderLaws.{header-is}
+
+-- lines one list after the other
+text-append : (ls ms : List Bytes) → textOf (ls ++ ms) ≡ textOf ls ++ textOf ms
+text-append [] ms = refl
+text-append (l ∷ ls) ms = ap (λ (x : Bytes). l ++ 10 ∷ x) (text-append ls ms) ∙ sym (append-assoc l (10 ∷ textOf ls) (textOf ms))
+
+-- what comes behind some lines
+then : (ls ms : List Bytes) (rest : Bytes) → textOf ms ≡ rest → textOf (ls ++ ms) ≡ textOf ls ++ rest
+then ls ms rest e = text-append ls ms ∙ ap (λ (x : Bytes). textOf ls ++ x) e
+
+-- the lines of inputs are those of variables in a row
+input-lines : {A : Type 0} (x : ℕ) (is : List A) → inputLines x is ≡ lines.literalLines (lines.literalsFrom x (length is))
+input-lines x [] = refl
+input-lines x (i ∷ is) = ap₂ (λ (l : Bytes) (ls : List Bytes). l ∷ ls) refl (input-lines (suc x) is)
+
+-- the lines of latches are those of gates with next and reset for operands
+latch-lines : (x : ℕ) (qs : List NamedLatch) → latchLines x qs ≡ lines.gateLines x (wordsOf latchWords qs)
+latch-lines x [] = refl
+latch-lines x (q ∷ qs) = ap₂ (λ (l : Bytes) (ls : List Bytes). l ∷ ls) refl (latch-lines (suc x) qs)
+
+module _ (s : Sections) where
+  tail-parts : textOf (tailLines s) ≡ textOf (symbolLines 105 0 (s .inputs)) ++ (textOf (symbolLines 108 0 (latchNames s)) ++ closingText)
+  tail-parts = then (symbolLines 105 0 (s .inputs)) (symbolLines 108 0 (latchNames s) ++ ((99 ∷ []) ∷ closing ∷ [])) _ (text-append (symbolLines 108 0 (latchNames s)) ((99 ∷ []) ∷ closing ∷ []))
+
+  -- what comes behind the latches
+  abbrev behind : Bytes
+  behind =
+      textOf (literalLines (s .bads))
+      ++ (textOf (literalLines (s .constraints))
+      ++ (textOf (gateLines (s .gates))
+      ++ (textOf (symbolLines 105 0 (s .inputs))
+      ++ (textOf (symbolLines 108 0 (latchNames s))
+      ++ closingText))))
+
+  -- the text of sections without outputs
+  pub printed-parts : s .outputs ≡ [] → printed s ≡ partsOf s
+  unfolding printed
+  printed-parts e =
+      let gates : List Bytes = gateLines (s .gates) ++ tailLines s in
+      let constraints : List Bytes = literalLines (s .constraints) ++ gates in
+      let bads : List Bytes = literalLines (s .bads) ++ constraints in
+      let latches : List Bytes = latchLines (suc (length (s .inputs))) (s .latches) ++ (literalLines (s .outputs) ++ bads) in
+      let none : literalLines (s .outputs) ++ bads ≡ bads = ap (λ (ls : List ℕ). literalLines ls ++ bads) e in
+      ap (λ (l : Bytes). l ++ 10 ∷ textOf (inputLines 1 (s .inputs) ++ latches)) (header-is s e)
+      ∙ (sym (append-assoc (headerOf (countsOf s)) (10 ∷ []) (textOf (inputLines 1 (s .inputs) ++ latches)))
+      ∙ ap (λ (x : Bytes). (headerOf (countsOf s) ++ 10 ∷ []) ++ x)
+      (then (inputLines 1 (s .inputs)) latches _
+      (then (latchLines (suc (length (s .inputs))) (s .latches)) (literalLines (s .outputs) ++ bads) _
+      (ap textOf none ∙ then (literalLines (s .bads)) constraints _ (then (literalLines (s .constraints)) gates _ (then (gateLines (s .gates)) (tailLines s) _ tail-parts))))
+      ∙ ap₂ (λ (a b : List Bytes). textOf a ++ (textOf b ++ behind)) (input-lines 1 (s .inputs)) (latch-lines (suc (length (s .inputs))) (s .latches))))
