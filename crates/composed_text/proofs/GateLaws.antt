@@ -13,7 +13,7 @@ use Rattle.printing.proofs.PrintsLaws.{Word, Printing, printing-none, printing-
 use Rattle.composition.specs.Sharing.{Operands, gatesFrom}
 use Rattle.composition.specs.Printing.{gateLines}
 use Rattle.naming.proofs.PieceLaws.{prints-as}
-use Rattle.composed_text.specs.GateText.{keyOf, Narrow, GateKeys, CanPrintGates, PrintsGates}
+use Rattle.composed_text.specs.GateText.{keyOf, Narrow, CanPrintGates, PrintsGates}
 
 -- key k of the words
 abbrev pub keyAt : List ℕ → ℕ → ℕ → ℕ
@@ -80,13 +80,13 @@ module _ (first : ℕ) (table : List ℕ) (heads count : ℕ) where
     walk-more o′ to′ h same p =
         let n : count - k ≡ suc (count - (k + 1)) = omega arith in
         let split : textOf (keyLines table heads x k (count - k)) ≡ (keyLine x (keyAt table heads k) ++ 10 ∷ []) ++ textOf (keyLines table heads (x + 1) (k + 1) (count - (k + 1))) =
-            ap (λ (l : ℕ). textOf (keyLines table heads x k l)) n
-            ∙ (sym (append-assoc (keyLine x (keyAt table heads k)) (10 ∷ []) (textOf (keyLines table heads (suc x) (suc k) (count - (k + 1)))))
-            ∙ ap₂ (λ (y j : ℕ). (keyLine x (keyAt table heads k) ++ 10 ∷ []) ++ textOf (keyLines table heads y j (count - (k + 1)))) (sym (add-one x)) (sym (add-one k))) in
+        ap (λ (l : ℕ). textOf (keyLines table heads x k l)) n
+        ∙ (sym (append-assoc (keyLine x (keyAt table heads k)) (10 ∷ []) (textOf (keyLines table heads (suc x) (suc k) (count - (k + 1)))))
+        ∙ ap₂ (λ (y j : ℕ). (keyLine x (keyAt table heads k) ++ 10 ∷ []) ++ textOf (keyLines table heads y j (count - (k + 1)))) (sym (add-one x)) (sym (add-one k))) in
         record {
           printing =
-            printing-more o₀ at all o to (textOf (keyLines table heads x k (count - k))) (w .printing) (keyLine x (keyAt table heads k) ++ 10 ∷ [])
-            (textOf (keyLines table heads (x + 1) (k + 1) (count - (k + 1)))) o′ to′ (w .lent) split same p;
+              printing-more o₀ at all o to (textOf (keyLines table heads x k (count - k))) (w .printing) (keyLine x (keyAt table heads k) ++ 10 ∷ [])
+              (textOf (keyLines table heads (x + 1) (k + 1) (count - (k + 1)))) o′ to′ (w .lent) split same p;
           number = omega (arith, w .number);
           passed = omega arith;
           fits = w .fits;
@@ -99,8 +99,8 @@ module _ (first : ℕ) (table : List ℕ) (heads count : ℕ) where
         let n : count - k ≡ 0 = omega arith in
         let none : textOf (keyLines table heads x k (count - k)) ≡ [] = ap (λ (l : ℕ). textOf (keyLines table heads x k l)) n in
         let keys : (j : ℕ) → j < length gs → getD table (heads + 3 * (0 + j)) 0 ≡ getD (map keyOf gs) j 0 + 1 =
-            λ j l. let z : 0 + j ≡ j = omega arith in ap (λ (i : ℕ). getD table (heads + 3 * i) 0) z ∙ c .held .key j (omega (arith, length-map gs keyOf)) in
+        λ j l. let z : 0 + j ≡ j = omega arith in ap (λ (i : ℕ). getD table (heads + 3 * i) 0) z ∙ c .held .key j (omega (arith, length-map gs keyOf)) in
         let lines : keyLines table heads first 0 count ≡ gateLines (gatesFrom first gs) =
-            ap (keyLines table heads first 0) (sym (c .counted)) ∙ lines-are table heads first 0 gs keys (c .narrow) in
+        ap (keyLines table heads first 0) (sym (c .counted)) ∙ lines-are table heads first 0 gs keys (c .narrow) in
         prints-as o₀ at all (textOf (gateLines (gatesFrom first gs))) o to (ap textOf lines)
         (printing-done o₀ at all o to (textOf (keyLines table heads x k (count - k))) (w .printing) none)

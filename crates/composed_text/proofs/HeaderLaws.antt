@@ -49,7 +49,7 @@ module _ (o : Bytes) (at : ℕ) (o₁ : Bytes) (r₁ : ℕ) (o₂ : Bytes) (r₂
       let Y : Bytes = fieldsText ys in
       let Z : Bytes = fieldsText (0 ∷ []) in
       let whole : headerOf n ≡ (aag ++ X) ++ (Y ++ Z) =
-          spaced-fields aag (xs ++ (ys ++ (0 ∷ []))) ∙ (ap (λ (x : Bytes). aag ++ x) (fields-append xs (ys ++ (0 ∷ [])) ∙ ap (λ (x : Bytes). X ++ x) (fields-append ys (0 ∷ [])))) in
+      spaced-fields aag (xs ++ (ys ++ (0 ∷ []))) ∙ (ap (λ (x : Bytes). aag ++ x) (fields-append xs (ys ++ (0 ∷ [])) ∙ ap (λ (x : Bytes). X ++ x) (fields-append ys (0 ∷ [])))) in
       prints-as o at ((aag ++ X) ++ (Y ++ (Z ++ 10 ∷ []))) (headerOf n ++ 10 ∷ []) o₃ r₃
       (sym (ap (λ (x : Bytes). x ++ 10 ∷ []) whole ∙ (append-assoc (aag ++ X) (Y ++ Z) (10 ∷ []) ∙ ap (λ (x : Bytes). (aag ++ X) ++ x) (append-assoc Y Z (10 ∷ [])))))
       (prints-then o at (aag ++ X) o₁ r₁ (Y ++ (Z ++ 10 ∷ [])) o₃ r₃ small same p

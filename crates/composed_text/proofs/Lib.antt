@@ -2,3 +2,4 @@
 pub mod HeaderLaws
 pub mod GateLaws
 pub mod PartLaws
+pub mod Examples

@@ -3,7 +3,6 @@ use Prim.Native.Nat.{ℕ, suc, _+_}
 use mathlib.Core.List.{List, [], _∷_, _++_, map, append-assoc}
 use mathlib.Core.Option.{Option, some}
 use mathlib.Core.Path.{_≡_, refl, sym, ap, ap₂, _∙_}
-use native.Mathlib.Omega.{arith}
 use lib.ListN.{length, length-map}
 use Rattle.lists.specs.Parts.{Bytes}
 use Rattle.lists.specs.Words.{wordsOf}
@@ -11,10 +10,13 @@ use Rattle.decimal.specs.Printed.{textOf}
 use Rattle.printing.specs.Lines as lines
 use Rattle.witness.specs.Sections.{NamedLatch, Sections, latchNames}
 use Rattle.witness_words.specs.Loaded.{latchWords}
-use Rattle.composition.specs.Numbering.{Entry}
-use Rattle.composition.specs.Printing.{headerLine, inputLines, latchLines, gateLines, literalLines, symbolLines, closing, tailLines, printed}
+use Rattle.composition.specs.Numbering.{Entry, inputFirsts, latchFirsts, leafCount}
+use Rattle.composition.specs.Sharing.{Operands, gatesFrom}
+use Rattle.composition.specs.Composing.{Defined, safety, literalsOf, whole, allDefined, composedGates, composedLatches, composed}
+use Rattle.composition.specs.Printing.{inputLines, latchLines, gateLines, literalLines, symbolLines, closing, tailLines, printed}
+use Rattle.composed_text.specs.declared.Counts.{Counts}
 use Rattle.composed_text.specs.Header.{headerOf, countsOf}
-use Rattle.composed_text.specs.Text.{closingText, partsOf}
+use Rattle.composed_text.specs.Text.{closingText, textWith, partsOf, jointLatches, composedCounts, namesOf, composedText}
 use Rattle.composed_text.proofs.HeaderLaws.{header-is}
 
 -- lines one list after the other
@@ -66,3 +68,45 @@ module _ (s : Sections) where
       (then (latchLines (suc (length (s .inputs))) (s .latches)) (literalLines (s .outputs) ++ bads) _
       (ap textOf none ∙ then (literalLines (s .bads)) constraints _ (then (literalLines (s .constraints)) gates _ (then (gateLines (s .gates)) (tailLines s) _ tail-parts))))
       ∙ ap₂ (λ (a b : List Bytes). textOf a ++ (textOf b ++ behind)) (input-lines 1 (s .inputs)) (latch-lines (suc (length (s .inputs))) (s .latches))))
+
+-- ---- the composition
+
+gates-length : (n : ℕ) (gs : List Operands) → length (gatesFrom n gs) ≡ length gs
+gates-length n [] = refl
+gates-length n (g ∷ gs) = ap suc (gates-length (suc n) gs)
+
+-- a latch for each entry, with its name
+latches-length : (x : ℕ) (es : List Entry) (ds : List Defined) → length (composedLatches x es ds) ≡ length es
+latches-length x [] ds = refl
+latches-length x (e ∷ es) ds = ap suc (latches-length (suc x) es ds)
+
+latches-names : (x : ℕ) (es : List Entry) (ds : List Defined) → map (λ (q : NamedLatch). q .name) (composedLatches x es ds) ≡ namesOf es
+latches-names x [] ds = refl
+latches-names x (e ∷ es) ds = ap (λ (l : List (Option Bytes)). some (e .name) ∷ l) (latches-names (suc x) es ds)
+
+module _ (m : Sections) (ws : List Sections) where
+  -- the counts, where there are so many inputs, latches and gates
+  abbrev countsWith : ℕ → ℕ → ℕ → Counts
+  countsWith i q g =
+      record {
+        variables = i + q + g;
+        inputs = i;
+        latches = q;
+        gates = g;
+        bads = length (literalsOf safety (whole m ws));
+        constraints = length (literalsOf (λ s. s .constraints) (whole m ws));
+      }
+
+  counts-are : countsOf (composed m ws) ≡ composedCounts m ws
+  counts-are =
+      ap₂ (λ (i : ℕ) (q : ℕ). countsWith i q (length (gatesFrom (suc (leafCount m ws)) (composedGates m ws)))) (length-map (inputFirsts m ws) (λ e. some (e .name)))
+      (latches-length (suc (length (inputFirsts m ws))) (latchFirsts m ws) (allDefined (whole m ws)))
+      ∙ ap (countsWith (length (inputFirsts m ws)) (length (latchFirsts m ws))) (gates-length (suc (leafCount m ws)) (composedGates m ws))
+
+  -- what is printed of the composition
+  pub composed-parts : printed (composed m ws) ≡ composedText m ws
+  composed-parts =
+      printed-parts (composed m ws) refl
+      ∙ ap₂ (λ (n : Counts) (names : List (Option Bytes)). textWith n (wordsOf latchWords (jointLatches m ws)) (literalsOf safety (whole m ws)) (literalsOf (λ s. s .constraints) (whole m ws))
+      (gatesFrom (suc (leafCount m ws)) (composedGates m ws)) (namesOf (inputFirsts m ws)) names) counts-are
+      (latches-names (suc (length (inputFirsts m ws))) (latchFirsts m ws) (allDefined (whole m ws)))

@@ -1,29 +1,65 @@
 -- The text of the composition, in the parts that are printed one after the other.
-use Prim.Native.Nat.{suc}
-use mathlib.Core.List.{[], _∷_, _++_}
+use Prim.Native.Nat.{ℕ, suc, _+_}
+use mathlib.Core.List.{List, [], _∷_, _++_, map}
+use mathlib.Core.Option.{Option, some}
 use lib.ListN.{length}
 use Rattle.lists.specs.Parts.{Bytes}
 use Rattle.lists.specs.Words.{wordsOf}
 use Rattle.decimal.specs.Printed.{textOf}
 use Rattle.printing.specs.Lines as lines
-use Rattle.witness.specs.Sections.{Sections, latchNames}
+use Rattle.aiger.specs.declared.Gate.{Gate}
+use Rattle.witness.specs.Sections.{NamedLatch, Sections, latchNames}
 use Rattle.witness_words.specs.Loaded.{latchWords}
+use Rattle.composition.specs.Numbering.{Entry, inputFirsts, latchFirsts, leafCount}
+use Rattle.composition.specs.Sharing.{gatesFrom}
+use Rattle.composition.specs.Composing.{safety, literalsOf, whole, allDefined, composedGates, composedLatches}
 use Rattle.composition.specs.Printing.{gateLines, symbolLines, closing}
+use Rattle.composed_text.specs.declared.Counts.{Counts}
 use Rattle.composed_text.specs.Header.{headerOf, countsOf}
 
 -- the line `c` and the composer's comment
 abbrev pub closingText : Bytes
 closingText = textOf ((99 ∷ []) ∷ closing ∷ [])
 
--- the texts of header, inputs, latches, bads, constraints, gates, symbols of inputs, symbols of latches, and the last lines
-abbrev pub partsOf : Sections → Bytes
-partsOf s =
-    (headerOf (countsOf s) ++ 10 ∷ [])
-    ++ (textOf (lines.literalLines (lines.literalsFrom 1 (length (s .inputs))))
-    ++ (textOf (lines.gateLines (suc (length (s .inputs))) (wordsOf latchWords (s .latches)))
-    ++ (textOf (lines.literalLines (s .bads))
-    ++ (textOf (lines.literalLines (s .constraints))
-    ++ (textOf (gateLines (s .gates))
-    ++ (textOf (symbolLines 105 0 (s .inputs))
-    ++ (textOf (symbolLines 108 0 (latchNames s))
+-- the texts of header, inputs, latches, bads, constraints, gates, symbols of inputs, symbols of latches, and the last lines; two words a latch, next and reset
+abbrev pub textWith : Counts → List ℕ → List ℕ → List ℕ → List Gate → List (Option Bytes) → List (Option Bytes) → Bytes
+textWith n latches bads constraints gates inputNames names =
+    (headerOf n ++ 10 ∷ [])
+    ++ (textOf (lines.literalLines (lines.literalsFrom 1 (n .inputs)))
+    ++ (textOf (lines.gateLines (suc (n .inputs)) latches)
+    ++ (textOf (lines.literalLines bads)
+    ++ (textOf (lines.literalLines constraints)
+    ++ (textOf (gateLines gates)
+    ++ (textOf (symbolLines 105 0 inputNames)
+    ++ (textOf (symbolLines 108 0 names)
     ++ closingText)))))))
+
+-- the text of sections without outputs
+abbrev pub partsOf : Sections → Bytes
+partsOf s = textWith (countsOf s) (wordsOf latchWords (s .latches)) (s .bads) (s .constraints) (s .gates) (s .inputs) (latchNames s)
+
+-- the latches of the composition
+abbrev pub jointLatches : Sections → List Sections → List NamedLatch
+jointLatches m ws = composedLatches (suc (length (inputFirsts m ws))) (latchFirsts m ws) (allDefined (whole m ws))
+
+-- the counts of the composition
+abbrev pub composedCounts : Sections → List Sections → Counts
+composedCounts m ws =
+    record {
+      variables = leafCount m ws + length (composedGates m ws);
+      inputs = length (inputFirsts m ws);
+      latches = length (latchFirsts m ws);
+      gates = length (composedGates m ws);
+      bads = length (literalsOf safety (whole m ws));
+      constraints = length (literalsOf (λ s. s .constraints) (whole m ws));
+    }
+
+-- the names of entries
+abbrev pub namesOf : List Entry → List (Option Bytes)
+namesOf es = map (λ e. some (e .name)) es
+
+-- the text of the composition, each part as it is printed
+abbrev pub composedText : Sections → List Sections → Bytes
+composedText m ws =
+    textWith (composedCounts m ws) (wordsOf latchWords (jointLatches m ws)) (literalsOf safety (whole m ws)) (literalsOf (λ s. s .constraints) (whole m ws))
+    (gatesFrom (suc (leafCount m ws)) (composedGates m ws)) (namesOf (inputFirsts m ws)) (namesOf (latchFirsts m ws))

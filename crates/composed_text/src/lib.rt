@@ -59,7 +59,14 @@ pub fn print_header(out: &mut [u8], at: usize, n: Counts) -> usize
 }
 
 // Prints the lines of the gates whose keys a table holds; the first gate has the variable `first`.
-pub fn print_gates(out: &mut [u8], at: usize, first: u64, table: &[u64], heads: usize, count: usize) -> usize
+pub fn print_gates(
+    out: &mut [u8],
+    at: usize,
+    first: u64,
+    table: &[u64],
+    heads: usize,
+    count: usize,
+) -> usize
     requires { ⌜ CanPrintGates first (now table) heads count ⌝ }
     ensures { λ r. ⌜ PrintsGates first (now (table .entry)) heads count (now (out .entry)) at (now (out .exit)) r ⌝ }
 {

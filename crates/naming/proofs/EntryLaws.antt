@@ -7,7 +7,7 @@ use mathlib.Core.Path.{_≡_, refl, sym, ap, ap₂, _∙_, subst}
 use native.Mathlib.Nat.{add-zero}
 use native.Mathlib.Omega.{arith}
 use borrow.Author.Tests.{eq-eqb, ne-eqb}
-use lib.Dec.{eqb, leb, ltb}
+use lib.Dec.{leb, ltb}
 use lib.ListN.{length, getD, drop, length-append, length-map, List·getD-append}
 use lib.Seq.{getD-append-add, drop-drop}
 use Rattle.lists.specs.Bits.{odd}
@@ -27,7 +27,7 @@ use Rattle.witness_words.specs.Loaded.{wordCount}
 use Rattle.composition.specs.declared.ModelLeaves.{ModelLeaves}
 use Rattle.composition.specs.declared.Mapping.{Mapping}
 use Rattle.composition.specs.declared.Mapping.the-variants.{Private, Onto, Wrong}
-use Rattle.composition.specs.Mapping.{equals, isOf, ontoNumber, byName, byPosition, mapsByName, mappingOf}
+use Rattle.composition.specs.Mapping.{equals, isOf, ontoNumber, mapsByName, mappingOf}
 use Rattle.composition.specs.Numbering.{Entry, shared, numbered, entryOf, entriesFrom}
 use Rattle.composition.proofs.PlacedLaws.{entries-length}
 use Rattle.joint.specs.declared.Before.{Before}

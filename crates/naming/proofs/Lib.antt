@@ -6,3 +6,4 @@ pub mod FirstLaws
 pub mod RowLaws
 pub mod EntryLaws
 pub mod SymbolLaws
+pub mod Examples

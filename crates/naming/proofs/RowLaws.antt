@@ -1,22 +1,16 @@
 -- The rows of all witnesses are their entries with their numbers.
-use Prim.Native.Nat.{ℕ, zero, suc, _+_, _-_, _*_, _≤_, _<_}
+use Prim.Native.Nat.{ℕ, _+_, _-_, _*_, _≤_, _<_}
 use mathlib.Core.Bool.{Bool, true, false, cond}
-use mathlib.Core.List.{List, [], _∷_, _++_, map, map-append}
+use mathlib.Core.List.{List}
 use mathlib.Core.Option.{Option, some, none, Option·none-ne-some, Option·some-injective}
-use mathlib.Core.Path.{_≡_, refl, sym, ap, ap₂, _∙_, subst}
-use native.Mathlib.Nat.{add-zero}
+use mathlib.Core.Path.{_≡_, refl, sym, ap, ap₂, _∙_}
 use native.Mathlib.Omega.{arith}
-use borrow.Author.Tests.{leb-true, eqb-true, eq-eqb}
+use borrow.Author.Tests.{leb-true, eqb-true}
 use lib.Dec.{eqb, leb}
-use lib.ListN.{length, getD, drop, length-append, length-map, List·getD-append, List·getD-map}
+use lib.ListN.{length, getD, drop, length-map, List·getD-append, List·getD-map}
 use lib.Seq.{getD-append-add, getD-drop, getD-take}
-use Rattle.lists.specs.Bits.{odd}
 use Rattle.lists.specs.Parts.{Bytes, part}
-use Rattle.lists.proofs.BoolLaws.{true-false}
-use Rattle.lists.proofs.MapLaws.{map-at}
-use Rattle.lists.proofs.PartLaws.{part-at, part-length}
 use Rattle.lists.proofs.WordLaws.{pairs-at}
-use Rattle.lists.specs.Words.{pairsOf}
 use Rattle.witness.specs.Sections.{Sections, leaves, namesIn, latchNames}
 use Rattle.witness.specs.Reading.{countsIn}
 use Rattle.witness_words.specs.Loaded.{nameFrom, literalWords, wordCount}

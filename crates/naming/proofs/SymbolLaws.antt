@@ -1,7 +1,7 @@
 -- The loop over the witnesses: their rows are walked, one witness after the other.
-use Prim.Native.Nat.{ℕ, suc, _+_, _*_, _/_, _≤_, _<_}
+use Prim.Native.Nat.{ℕ, suc, _+_, _/_, _≤_, _<_}
 use mathlib.Core.List.{List, [], _∷_, _++_}
-use mathlib.Core.Path.{_≡_, refl, sym, ap, _∙_, subst}
+use mathlib.Core.Path.{_≡_, sym, ap, _∙_, subst}
 use native.Mathlib.Numerals.{add-one}
 use native.Mathlib.Omega.{arith}
 use lib.ListN.{length, getD, drop, length-map}
@@ -16,18 +16,17 @@ use Rattle.witness.specs.Sections.{Sections, variables}
 use Rattle.witness.specs.Reading.{countsIn}
 use Rattle.witness_words.specs.Loaded.{wordCount}
 use Rattle.composition.specs.Calling.{textsIn}
-use Rattle.composition.specs.Printing.{symbolLines}
 use Rattle.joint.specs.declared.Leaves.{Leaves}
 use Rattle.joint.specs.declared.Leaves.the-variants as leaf
 use Rattle.joint.specs.Joint.{totalOf, nothingBefore, origins}
-use Rattle.gathering.specs.Gathered.{CountsOf, wordsFor, Block, Blocks, wordTotal, Readable, leafCountOf}
+use Rattle.gathering.specs.Gathered.{CountsOf, Block, Blocks, wordTotal, Readable, leafCountOf}
 use Rattle.gathering.proofs.TextLaws.{FirstRead, Left, left-more, left-none, texts-left}
 use Rattle.gathering.proofs.BlockLaws.{words-for}
 use Rattle.gathering.proofs.TurnLaws.{total-below, total-small}
 use Rattle.naming.specs.declared.Places.{Places}
 use Rattle.naming.specs.declared.Printed.{Printed}
 use Rattle.naming.specs.Names.{kindOf, entriesOf, firstsOf}
-use Rattle.naming.specs.Symbols.{Row, newLines, nextAfter, nameStart, nameCount, rowsIn, CanPrintNames, PrintsNew, CanPrintWitness, passed, CanPass, SymbolWords, CanPrintSymbols, PrintsSymbols}
+use Rattle.naming.specs.Symbols.{Row, newLines, nextAfter, nameCount, rowsIn, PrintsNew, CanPrintWitness, passed, CanPass, SymbolWords, CanPrintSymbols, PrintsSymbols}
 use Rattle.naming.proofs.PieceLaws.{prints-as}
 use Rattle.naming.proofs.WalkLaws.{newText, rows-append, rows-length, after-least, after-most}
 use Rattle.naming.proofs.FirstLaws.{first-lines}

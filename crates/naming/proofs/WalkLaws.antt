@@ -14,7 +14,6 @@ use Rattle.printing.specs.Prints.{Prints}
 use Rattle.printing.proofs.PrintsLaws.{Word, Printing, printing-none, printing-more, printing-as, printing-done}
 use Rattle.composition.specs.Printing.{symbolLine}
 use Rattle.joint.specs.declared.Leaves.{Leaves}
-use Rattle.naming.specs.declared.Printed.{Printed}
 use Rattle.naming.specs.Names.{kindOf}
 use Rattle.naming.specs.Symbols.{Row, newLines, nextAfter, rowsFrom, PrintsNew}
 

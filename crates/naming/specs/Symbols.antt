@@ -1,7 +1,7 @@
 -- For the contracts of the functions that print symbol lines: names with their composed variables, walked in their order.
 use Prim.Native.Nat.{ℕ, zero, suc, _+_, _-_, _*_, _≤_, _<_}
 use mathlib.Core.Bool.{cond}
-use mathlib.Core.List.{List, [], _∷_, _++_, map}
+use mathlib.Core.List.{List, [], _∷_, map}
 use mathlib.Core.Option.{some}
 use mathlib.Core.Path.{_≡_}
 use lib.Dec.{eqb}

@@ -1,12 +1,12 @@
 // The symbol lines of the composition's inputs, or latches: each where it first appears among those of all witnesses.
 ghost use Prim.Native.Nat.{_+_, _≤_, _<_};
+ghost use mathlib.Core.List.{[], _∷_, _++_};
+ghost use mathlib.Core.Option.{some};
 ghost use mathlib.Core.Path.{_≡_};
 ghost use lib.ListN.{length};
-ghost use mathlib.Core.Option.{some};
+ghost use Rattle.printing.specs.Prints.{Prints};
 ghost use Rattle.composition.specs.Numbering.{orElse, privateName};
 ghost use Rattle.composition.specs.Printing.{symbolLine};
-ghost use Rattle.printing.specs.Prints.{Prints};
-ghost use mathlib.Core.List.{[], _∷_, _++_};
 ghost use Rattle.gathering.specs.Gathered.{wordsFor};
 ghost use Rattle.naming.specs.Names.{kindOf, unnamedOf, ownName, nameFor};
 ghost use Rattle.naming.specs.Symbols.{rowAt, rowsFrom, RowWords, CanPrintNames, PrintsNew, nameStart, nameCount, CanPrintWitness, rowsIn, CanPass, passed, CanPrintSymbols, PrintsSymbols};

@@ -1,3 +1,4 @@
+use Rattle.naming.specs.Names.{ownName, nameFor}
 use native.Mathlib.Omega.{arith}
 use Rattle.naming.proofs.PieceLaws.{symbol-printed}
 use borrow.Author.Needs.{needs}
@@ -22,7 +23,8 @@ returns c =
     let head = c .before .before .before .before .before .before .before .before .before .before .print-head in
     let name = c .before .before .before .before .before .before .print-name in
     let end = c .before .before .print-byte in
-    symbol-printed _ _ (omega arith) (args .leaves) (args .k) _ _ _ _ _ _ (omega (arith, head .kept .0)) (omega (arith, head .kept .0, name .kept .0)) _ (head .ensures) (name .ensures) (end .ensures)
+    symbol-printed _ _ (omega arith) (args .leaves) (args .k) _ _ _ _ _ _ (omega (arith, head .kept .0)) (omega (arith, head .kept .0, name .kept .0))
+    (nameFor (args .leaves) (args .w) (args .origin) (ownName (args .text .now) (args .start) (args .size))) (head .ensures) (name .ensures) (end .ensures)
 
 pub print-symbol-spec : {M : Type 1} → statement M
 print-symbol-spec =
