@@ -47,6 +47,7 @@ lines-are table heads x k (g ∷ gs) h n =
     (λ j l. let m : suc k + j ≡ k + suc j = omega arith in ap (λ (i : ℕ). getD table (heads + 3 * i) 0) m ∙ h (suc j) (omega arith)) (n .1))
 
 module _ (first : ℕ) (table : List ℕ) (heads count : ℕ) where
+  -- what is printed in all
   abbrev all : Bytes
   all = textOf (keyLines table heads first 0 count)
 
@@ -59,6 +60,7 @@ module _ (first : ℕ) (table : List ℕ) (heads count : ℕ) where
     pub small : first + count < 4294967296
     pub lent : Word (length o₀)
 
+  -- before the loop
   pub walk-none : (o : Bytes) (at : ℕ) → CanPrintGates first table heads count → Word at → Word (length o) → GateWalk o at o at first 0
   walk-none o at c h lent =
       let z : count - 0 ≡ count = omega arith in
@@ -76,6 +78,7 @@ module _ (first : ℕ) (table : List ℕ) (heads count : ℕ) where
   key-some k c h = omega (arith, c .keys .held .key k (omega (arith, c .keys .counted, length-map (c .gs) keyOf)))
 
   module _ (o₀ : Bytes) (at : ℕ) (o : Bytes) (to x k : ℕ) (w : GateWalk o₀ at o to x k) where
+    -- a turn
     pub walk-more : (o′ : Bytes) (to′ : ℕ) → k < count → length o′ ≡ length o → Prints o to (keyLine x (keyAt table heads k) ++ 10 ∷ []) o′ to′ → GateWalk o₀ at o′ to′ (x + 1) (k + 1)
     walk-more o′ to′ h same p =
         let n : count - k ≡ suc (count - (k + 1)) = omega arith in
@@ -94,6 +97,7 @@ module _ (first : ℕ) (table : List ℕ) (heads count : ℕ) where
           lent = w .lent;
         }
 
+    -- after the loop, whichever gates the keys are of
     pub walk-end : count ≤ k → PrintsGates first table heads count o₀ at o to
     walk-end h gs c =
         let n : count - k ≡ 0 = omega arith in

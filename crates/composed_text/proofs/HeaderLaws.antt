@@ -27,6 +27,7 @@ fields-append [] ms = refl
 fields-append (n ∷ ns) ms = ap (λ (x : Bytes). 32 ∷ x) (ap (λ (x : Bytes). decimal n ++ x) (fields-append ns ms) ∙ sym (append-assoc (decimal n) (fieldsText ns) (fieldsText ms)))
 
 module _ (o : Bytes) (at : ℕ) (o₁ : Bytes) (r₁ : ℕ) (o₂ : Bytes) (r₂ : ℕ) (small : Word (length o)) (same : length o₁ ≡ length o) where
+  -- two fields, and four
   pub two-printed : (a b : ℕ) → Prints o at (32 ∷ decimal a) o₁ r₁ → Prints o₁ r₁ (32 ∷ decimal b) o₂ r₂ → Prints o at (fieldsText (a ∷ b ∷ [])) o₂ r₂
   two-printed a b p q =
       prints-as o at ((32 ∷ decimal a) ++ 32 ∷ decimal b) (fieldsText (a ∷ b ∷ [])) o₂ r₂ (ap (λ (x : Bytes). (32 ∷ decimal a) ++ 32 ∷ x) (sym (append-nil (decimal b))))

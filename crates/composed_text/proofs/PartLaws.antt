@@ -16,7 +16,7 @@ use Rattle.composition.specs.Composing.{Defined, safety, literalsOf, whole, all
 use Rattle.composition.specs.Printing.{inputLines, latchLines, gateLines, literalLines, symbolLines, closing, tailLines, printed}
 use Rattle.composed_text.specs.declared.Counts.{Counts}
 use Rattle.composed_text.specs.Header.{headerOf, countsOf}
-use Rattle.composed_text.specs.Text.{closingText, textWith, partsOf, jointLatches, composedCounts, namesOf, composedText}
+use Rattle.composed_text.specs.Text.{closingText, textWith, partsOf, latchesOf, composedCounts, entryNames, composedText}
 use Rattle.composed_text.proofs.HeaderLaws.{header-is}
 
 -- lines one list after the other
@@ -39,6 +39,7 @@ latch-lines x [] = refl
 latch-lines x (q ∷ qs) = ap₂ (λ (l : Bytes) (ls : List Bytes). l ∷ ls) refl (latch-lines (suc x) qs)
 
 module _ (s : Sections) where
+  -- the symbols and the last lines
   tail-parts : textOf (tailLines s) ≡ textOf (symbolLines 105 0 (s .inputs)) ++ (textOf (symbolLines 108 0 (latchNames s)) ++ closingText)
   tail-parts = then (symbolLines 105 0 (s .inputs)) (symbolLines 108 0 (latchNames s) ++ ((99 ∷ []) ∷ closing ∷ [])) _ (text-append (symbolLines 108 0 (latchNames s)) ((99 ∷ []) ∷ closing ∷ []))
 
@@ -71,6 +72,7 @@ module _ (s : Sections) where
 
 -- ---- the composition
 
+-- there are as many gates as operands
 gates-length : (n : ℕ) (gs : List Operands) → length (gatesFrom n gs) ≡ length gs
 gates-length n [] = refl
 gates-length n (g ∷ gs) = ap suc (gates-length (suc n) gs)
@@ -80,7 +82,8 @@ latches-length : (x : ℕ) (es : List Entry) (ds : List Defined) → length (com
 latches-length x [] ds = refl
 latches-length x (e ∷ es) ds = ap suc (latches-length (suc x) es ds)
 
-latches-names : (x : ℕ) (es : List Entry) (ds : List Defined) → map (λ (q : NamedLatch). q .name) (composedLatches x es ds) ≡ namesOf es
+-- and their names
+latches-names : (x : ℕ) (es : List Entry) (ds : List Defined) → map (λ (q : NamedLatch). q .name) (composedLatches x es ds) ≡ entryNames es
 latches-names x [] ds = refl
 latches-names x (e ∷ es) ds = ap (λ (l : List (Option Bytes)). some (e .name) ∷ l) (latches-names (suc x) es ds)
 
@@ -97,6 +100,7 @@ module _ (m : Sections) (ws : List Sections) where
         constraints = length (literalsOf (λ s. s .constraints) (whole m ws));
       }
 
+  -- the counts of the composition
   counts-are : countsOf (composed m ws) ≡ composedCounts m ws
   counts-are =
       ap₂ (λ (i : ℕ) (q : ℕ). countsWith i q (length (gatesFrom (suc (leafCount m ws)) (composedGates m ws)))) (length-map (inputFirsts m ws) (λ e. some (e .name)))
@@ -107,6 +111,6 @@ module _ (m : Sections) (ws : List Sections) where
   pub composed-parts : printed (composed m ws) ≡ composedText m ws
   composed-parts =
       printed-parts (composed m ws) refl
-      ∙ ap₂ (λ (n : Counts) (names : List (Option Bytes)). textWith n (wordsOf latchWords (jointLatches m ws)) (literalsOf safety (whole m ws)) (literalsOf (λ s. s .constraints) (whole m ws))
-      (gatesFrom (suc (leafCount m ws)) (composedGates m ws)) (namesOf (inputFirsts m ws)) names) counts-are
+      ∙ ap₂ (λ (n : Counts) (names : List (Option Bytes)). textWith n (wordsOf latchWords (latchesOf m ws)) (literalsOf safety (whole m ws)) (literalsOf (λ s. s .constraints) (whole m ws))
+      (gatesFrom (suc (leafCount m ws)) (composedGates m ws)) (entryNames (inputFirsts m ws)) names) counts-are
       (latches-names (suc (length (inputFirsts m ws))) (latchFirsts m ws) (allDefined (whole m ws)))

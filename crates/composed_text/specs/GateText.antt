@@ -26,6 +26,7 @@ pub record GateKeys (gs : List Operands) (first : ℕ) (table : List ℕ) (heads
   pub narrow : Each Narrow gs
   pub small : first + count < 4294967296
 
+-- there are such gates
 pub record CanPrintGates (first : ℕ) (table : List ℕ) (heads count : ℕ) : Type 0 where
   pub gs : List Operands
   pub keys : GateKeys gs first table heads count

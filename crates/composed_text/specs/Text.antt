@@ -39,8 +39,8 @@ abbrev pub partsOf : Sections → Bytes
 partsOf s = textWith (countsOf s) (wordsOf latchWords (s .latches)) (s .bads) (s .constraints) (s .gates) (s .inputs) (latchNames s)
 
 -- the latches of the composition
-abbrev pub jointLatches : Sections → List Sections → List NamedLatch
-jointLatches m ws = composedLatches (suc (length (inputFirsts m ws))) (latchFirsts m ws) (allDefined (whole m ws))
+abbrev pub latchesOf : Sections → List Sections → List NamedLatch
+latchesOf m ws = composedLatches (suc (length (inputFirsts m ws))) (latchFirsts m ws) (allDefined (whole m ws))
 
 -- the counts of the composition
 abbrev pub composedCounts : Sections → List Sections → Counts
@@ -55,11 +55,11 @@ composedCounts m ws =
     }
 
 -- the names of entries
-abbrev pub namesOf : List Entry → List (Option Bytes)
-namesOf es = map (λ e. some (e .name)) es
+abbrev pub entryNames : List Entry → List (Option Bytes)
+entryNames es = map (λ e. some (e .name)) es
 
 -- the text of the composition, each part as it is printed
 abbrev pub composedText : Sections → List Sections → Bytes
 composedText m ws =
-    textWith (composedCounts m ws) (wordsOf latchWords (jointLatches m ws)) (literalsOf safety (whole m ws)) (literalsOf (λ s. s .constraints) (whole m ws))
-    (gatesFrom (suc (leafCount m ws)) (composedGates m ws)) (namesOf (inputFirsts m ws)) (namesOf (latchFirsts m ws))
+    textWith (composedCounts m ws) (wordsOf latchWords (latchesOf m ws)) (literalsOf safety (whole m ws)) (literalsOf (λ s. s .constraints) (whole m ws))
+    (gatesFrom (suc (leafCount m ws)) (composedGates m ws)) (entryNames (inputFirsts m ws)) (entryNames (latchFirsts m ws))

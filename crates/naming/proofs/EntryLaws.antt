@@ -21,19 +21,19 @@ use Rattle.text.specs.declared.Number.the-variants.{Value, Unreadable}
 use Rattle.text.specs.declared.Reader.the-variants.{Witness}
 use Rattle.text.specs.Numbers.{numberOf}
 use Rattle.aiger.specs.Gates.{variable}
-use Rattle.witness.specs.Sections.{Sections}
+use Rattle.witness.specs.Sections.{Sections, latchNames}
 use Rattle.witness.specs.Reading.{countsIn}
 use Rattle.witness_words.specs.Loaded.{wordCount}
 use Rattle.composition.specs.declared.ModelLeaves.{ModelLeaves}
 use Rattle.composition.specs.declared.Mapping.{Mapping}
 use Rattle.composition.specs.declared.Mapping.the-variants.{Private, Onto, Wrong}
 use Rattle.composition.specs.Mapping.{equals, isOf, ontoNumber, mapsByName, mappingOf}
-use Rattle.composition.specs.Numbering.{Entry, shared, numbered, entryOf, entriesFrom}
+use Rattle.composition.specs.Numbering.{Entry, shared, numbered, entryOf, entriesFrom, inputEntries, latchEntries}
 use Rattle.composition.proofs.PlacedLaws.{entries-length}
 use Rattle.joint.specs.declared.Before.{Before}
 use Rattle.joint.specs.declared.Leaves.{Leaves}
 use Rattle.joint.specs.declared.Leaves.the-variants as leaf
-use Rattle.joint.specs.Joint.{beyond, gatheredFrom, namesOf, modelOf, originWord, originsFrom, jointOrigins}
+use Rattle.joint.specs.Joint.{totalOf, beyond, gatheredFrom, namesOf, modelOf, originWord, originsFrom, jointOrigins}
 use Rattle.gathering.specs.Gathered.{Block, Blocks, leafCountOf}
 use Rattle.gathering.proofs.BlockLaws.{words-for}
 use Rattle.naming.specs.declared.Places.{Places}
@@ -50,6 +50,7 @@ Even Private = Unit {0}
 Even (Onto l) = odd l ≡ false
 Even Wrong = Unit {0}
 
+-- what is not so
 not-not : (b : Bool) → not b ≡ true → b ≡ false
 not-not true e = sym e
 not-not false e = refl
@@ -63,6 +64,7 @@ onto-even p (Value l) = go (isOf p l) refl
     go true e = not-not (odd l) (and-left (not (odd l)) (ltb (p .before) (variable l) && leb (variable l) (p .before + p .count)) e)
     go false e = tt
 
+-- by name or by position
 mapping-even : (p : ModelLeaves) (named : Bool) (k : ℕ) (name : Option Bytes) → Even (mappingOf p named k name)
 mapping-even p true k none = tt
 mapping-even p true k (some name) = go (beginsWith name equals)
@@ -101,15 +103,18 @@ module _ (kind : Leaves) (p : ModelLeaves) (w : ℕ) (named : Bool) where
 abbrev pub StandsAt : List ℕ → ℕ → List ℕ → Type 0
 StandsAt work at l = (k : ℕ) → k < length l → getD work (at + k) 0 ≡ getD l k 0
 
+-- a part of the words
 pub part-stands : (work : List ℕ) (at n : ℕ) (l : List ℕ) → at + n ≤ length work → part work at (at + n) ≡ l → StandsAt work at l
 part-stands work at n l h e k less =
     let long : length l ≡ at + n - at = sym (ap length e) ∙ part-length work at (at + n) h in
     sym (part-at work at (at + n) k 0 (omega (arith, long))) ∙ ap (λ (x : List ℕ). getD x k 0) e
 
 module _ (work : List ℕ) (at : ℕ) (xs ys : List ℕ) (s : StandsAt work at (xs ++ ys)) where
+  -- the front of it
   stands-front : StandsAt work at xs
   stands-front k h = s k (omega (arith, length-append xs ys)) ∙ List·getD-append xs ys 0 k h
 
+  -- what is behind the front
   stands-back : (n : ℕ) → length xs ≡ n → StandsAt work (at + n) ys
   stands-back n e k h =
       let x : at + n + k ≡ at + (length xs + k) = omega (arith, e) in
@@ -124,9 +129,11 @@ rows-map row f d k (e ∷ es) h =
 
 -- ---- one witness, and all
 
+-- the entries of a witness
 abbrev entriesIn : Leaves → Sections → ℕ → Sections → List Entry
 entriesIn kind m w s = entriesFrom (modelOf kind m) (unnamedOf kind) w (mapsByName s) 0 (namesOf kind s)
 
+-- those of a witness and of those after it
 entries-split : (kind : Leaves) (m : Sections) (w : ℕ) (s : Sections) (ss : List Sections) → entriesOf kind m w (s ∷ ss) ≡ entriesIn kind m w s ++ entriesOf kind m (suc w) ss
 entries-split leaf.Inputs m w s ss = refl
 entries-split leaf.Latches m w s ss = refl
@@ -137,6 +144,7 @@ rowsAll kind work w [] ss p = []
 rowsAll kind work w (t ∷ ts) [] p = []
 rowsAll kind work w (t ∷ ts) (s ∷ ss) p = rowsIn t (countsIn s) work kind w p ++ rowsAll kind work (suc w) ts ss (passed kind (countsIn s) p)
 
+-- no witness is left
 pub rows-none : (kind : Leaves) (work : List ℕ) (w : ℕ) (ts : List Bytes) (p : Places) → rowsAll kind work w ts [] p ≡ []
 rows-none kind work w [] p = refl
 rows-none kind work w (t ∷ ts) p = refl
@@ -169,6 +177,7 @@ module _ (kind : Leaves) (m : Sections) (first : ℕ) (firsts : List Entry) (wor
           (ap₂ (nameFor kind w) (os j (omega (arith, origins-length kind (modelOf kind m) w (mapsByName s) 0 (namesOf kind s)))) (leaf-said t s work (p .names) block kind j k .own)
           ∙ sym (entry-at kind (modelOf kind m) w (mapsByName s) 0 (namesOf kind s) j d k))
 
+  -- no witness has no entry
   entries-none : (w : ℕ) → entriesOf kind m w [] ≡ []
   entries-none w = none kind
     where
@@ -199,3 +208,23 @@ module _ (kind : Leaves) (m : Sections) (first : ℕ) (firsts : List Entry) (wor
       (stands-back work (p .numbers) (map f es) (map f (entriesOf kind m (suc w) ss)) numbers (nameCount kind (countsIn s))
       (length-map es f ∙ (entries-length (modelOf kind m) (unnamedOf kind) w (mapsByName s) 0 (namesOf kind s) ∙ count))))
       ∙ (sym (map-append (rowOf first firsts) es (entriesOf kind m (suc w) ss)) ∙ ap (map (rowOf first firsts)) (sym (entries-split kind m w s ss)))
+
+-- ---- how many there are
+
+-- an origin word for each input, or latch, of all witnesses
+pub origins-total : (kind : Leaves) (m : Sections) (w : ℕ) (b : Before) (ss : List Sections) → length (gatheredFrom (jointOrigins kind m) w b ss) ≡ totalOf (leafCountOf kind) ss
+origins-total kind m w b [] = refl
+origins-total kind m w b (s ∷ ss) =
+    length-append (jointOrigins kind m w b s) (gatheredFrom (jointOrigins kind m) (suc w) (beyond b s) ss)
+    ∙ ap₂ (λ (x y : ℕ). x + y) (origins-length kind (modelOf kind m) w (mapsByName s) 0 (namesOf kind s)) (origins-total kind m (suc w) (beyond b s) ss)
+
+-- and an entry
+pub entries-total : (kind : Leaves) (m : Sections) (w : ℕ) (ss : List Sections) → length (entriesOf kind m w ss) ≡ totalOf (leafCountOf kind) ss
+entries-total leaf.Inputs m w [] = refl
+entries-total leaf.Latches m w [] = refl
+entries-total leaf.Inputs m w (s ∷ ss) =
+    length-append (entriesIn leaf.Inputs m w s) (inputEntries m (suc w) ss)
+    ∙ ap₂ (λ (x y : ℕ). x + y) (entries-length (modelOf leaf.Inputs m) (unnamedOf leaf.Inputs) w (mapsByName s) 0 (s .inputs)) (entries-total leaf.Inputs m (suc w) ss)
+entries-total leaf.Latches m w (s ∷ ss) =
+    length-append (entriesIn leaf.Latches m w s) (latchEntries m (suc w) ss)
+    ∙ ap₂ (λ (x y : ℕ). x + y) (entries-length (modelOf leaf.Latches m) (unnamedOf leaf.Latches) w (mapsByName s) 0 (latchNames s)) (entries-total leaf.Latches m (suc w) ss)

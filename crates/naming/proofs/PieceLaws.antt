@@ -23,6 +23,7 @@ pub prints-as : (o : Bytes) (at : ℕ) (b c o′ : Bytes) (r : ℕ) → b ≡ c 
 prints-as o at b c o′ r e p = subst (λ (x : Bytes). Prints o at x o′ r) e p
 
 module _ (o : Bytes) (at : ℕ) (o′ : Bytes) (r : ℕ) (leaves : Leaves) where
+  -- what stands for a name, by kind
   pub unnamed-input : leaves ≡ leaf.Inputs → Prints o at private-input o′ r → Prints o at (unnamedOf leaves) o′ r
   unnamed-input e p = prints-as o at private-input (unnamedOf leaves) o′ r (ap unnamedOf (sym e)) p
 
@@ -30,6 +31,7 @@ module _ (o : Bytes) (at : ℕ) (o′ : Bytes) (r : ℕ) (leaves : Leaves) where
   unnamed-latch e p = prints-as o at private-latch (unnamedOf leaves) o′ r (ap unnamedOf (sym e)) p
 
   module _ (t : Bytes) (start size : ℕ) where
+    -- no name, and a name
     pub own-none : start ≡ 0 → Prints o at (unnamedOf leaves) o′ r → Prints o at (orElse (unnamedOf leaves) (ownName t start size)) o′ r
     own-none e p = prints-as o at (unnamedOf leaves) (orElse (unnamedOf leaves) (ownName t start size)) o′ r (sym (rw (eq-eqb start 0 e) refl)) p
 

@@ -1,4 +1,4 @@
--- The rows of all witnesses are their entries with their numbers.
+-- The names of a witness, from its words.
 use Prim.Native.Nat.{ℕ, _+_, _-_, _*_, _≤_, _<_}
 use mathlib.Core.Bool.{Bool, true, false, cond}
 use mathlib.Core.List.{List}
@@ -28,6 +28,7 @@ pub record Says (t : Bytes) (start size : ℕ) (name : Option Bytes) : Type 0 wh
   pub own : ownName t start size ≡ name
   pub within : start + size ≤ length t
 
+-- words that say a name are within the text
 name-said : (t : Bytes) (start size : ℕ) (name : Option Bytes) → nameFrom t start size ≡ some name → Says t start size name
 name-said t start size name h = go (eqb start 0) refl h
   where
@@ -62,6 +63,7 @@ module _ (t : Bytes) (s : Sections) (ws : List ℕ) (block : Block t s ws) where
       ∙ (sym (pairs-at (nameFrom t) (block .nameWords) j 0 (some none) (omega (arith, block .count)))
       ∙ (ap (λ (l : List (Option (Option Bytes))). getD l j (some none)) (block .names) ∙ List·getD-map some (namesIn s) j none))
 
+  -- the same, with other words for the place and the name
   name-as : (j i : ℕ) (x : Option Bytes) → j < leaves s → i ≡ 2 * j → getD (namesIn s) j none ≡ x → nameFrom t (getD ws i 0) (getD ws (i + 1) 0) ≡ some x
   name-as j i x h e f = rw e (name-at j h ∙ ap some f)
 

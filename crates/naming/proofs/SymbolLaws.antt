@@ -37,6 +37,7 @@ use Rattle.naming.proofs.EntryLaws.{part-stands, rowsAll, rows-none, ro
 abbrev pub start : ℕ → ℕ → Places
 start fromOrigins fromNumbers = record { names = 0; origins = fromOrigins; numbers = fromNumbers }
 
+-- inputs, or latches, are some of the variables
 leaves-few : (kind : Leaves) (s : Sections) → leafCountOf kind s ≤ variables s
 leaves-few leaf.Inputs s = omega arith
 leaves-few leaf.Latches s = omega (arith, length-map (s .latches) (λ q. q .name))
@@ -47,6 +48,7 @@ pub record Walking (kind : Leaves) (buffer : Bytes) (pairs work : List ℕ) (fro
   pub rest : List Sections
   pub readable : Readable buffer pairs ws
   pub left : Left buffer pairs w rest
+  -- its words, and those of the others
   pub blocks : Blocks (drop w (textsIn buffer pairs)) rest (drop (p .names) work)
   pub room : p .names + wordTotal rest ≤ length work
   pub originsFit : p .origins + totalOf (leafCountOf kind) rest ≤ length work
@@ -60,6 +62,7 @@ pub record Walking (kind : Leaves) (buffer : Bytes) (pairs work : List ℕ) (fro
       (newText (kindOf kind) first (done .next) (rowsAll kind work w (drop w (textsIn buffer pairs)) rest p))
 
 module _ (kind : Leaves) (buffer : Bytes) (pairs work : List ℕ) (fromOrigins fromNumbers first : ℕ) (o₀ : Bytes) (at : ℕ) where
+  -- before the loop
   pub walking-none : CanPrintSymbols kind buffer pairs work fromOrigins fromNumbers first → Word at → Word (length o₀)
       → Walking kind buffer pairs work fromOrigins fromNumbers first o₀ at o₀ (start fromOrigins fromNumbers) (record { at = at; next = first }) 0
   walking-none c h lent =
@@ -81,9 +84,11 @@ module _ (kind : Leaves) (buffer : Bytes) (pairs work : List ℕ) (fromOrigins f
       }
 
   module _ (o : Bytes) (p : Places) (done : Printed) (w count : ℕ) (k : Walking kind buffer pairs work fromOrigins fromNumbers first o₀ at o p done w) (all : count ≡ length pairs / 2) where
+    -- the rows of all
     abbrev rows : List Row
     rows = rowsAll kind work 0 (textsIn buffer pairs) (k .ws) (start fromOrigins fromNumbers)
 
+    -- after the loop, whatever the model is
     pub walking-end : count ≤ w → PrintsSymbols kind buffer pairs work fromOrigins fromNumbers first o₀ at o (done .at)
     walking-end h m ws c =
         let none : k .rest ≡ [] = left-none buffer pairs w (k .rest) (k .left) (omega arith) in
@@ -100,12 +105,15 @@ module _ (kind : Leaves) (buffer : Bytes) (pairs work : List ℕ) (fromOrigins f
         (printing-done o₀ at (newText (kindOf kind) first first rows) o (done .at) (newText (kindOf kind) first (done .next) (rowsAll kind work w (drop w (textsIn buffer pairs)) (k .rest) p)) (k .printing) ended)
 
     module _ (less : w < count) (t : Bytes) (is : t ≡ getD (textsIn buffer pairs) w []) (n : AagCounts) (c : CountsOf t n) where
+      -- witness w and those after it
       next : FirstRead (getD (textsIn buffer pairs) w []) (drop (w + 1) (textsIn buffer pairs)) (k .rest)
       next = left-more buffer pairs w (k .rest) (k .left) (omega arith)
 
+      -- its sections
       abbrev s : Sections
       s = next .first
 
+      -- its counts
       counts : n ≡ countsIn s
       counts = subst (λ (x : Bytes). CountsOf x n) is c s (next .reads)
 
@@ -114,9 +122,11 @@ module _ (kind : Leaves) (buffer : Bytes) (pairs work : List ℕ) (fromOrigins f
           subst (λ (ss : List Sections). Blocks (getD (textsIn buffer pairs) w [] ∷ drop (w + 1) (textsIn buffer pairs)) ss (drop (p .names) work)) (next .is)
           (subst (λ (ts : List Bytes). Blocks ts (k .rest) (drop (p .names) work)) (texts-left buffer pairs w (omega arith)) (k .blocks))
 
+      -- its words
       block : Block t s (drop (p .names) work)
       block = subst (λ (x : Bytes). Block x s (drop (p .names) work)) (sym is) (blocks .0)
 
+      -- totals of what is left
       split : (f : Sections → ℕ) → totalOf f (k .rest) ≡ f s + totalOf f (next .others)
       split f = ap (totalOf f) (next .is)
 
@@ -131,6 +141,7 @@ module _ (kind : Leaves) (buffer : Bytes) (pairs work : List ℕ) (fromOrigins f
             k .readable .pairsHold .few,
           )
 
+      -- its names may be printed
       pub walking-can : CanPrintWitness t n work kind p first (done .next)
       walking-can =
           subst (λ (x : AagCounts). CanPrintWitness t x work kind p first (done .next)) (sym counts)
@@ -147,6 +158,7 @@ module _ (kind : Leaves) (buffer : Bytes) (pairs work : List ℕ) (fromOrigins f
                 };
           })
 
+      -- the places of the next witness
       pub walking-pass : CanPass kind n p (length work)
       walking-pass =
           subst (λ (x : AagCounts). CanPass kind x p (length work)) (sym counts)
@@ -157,18 +169,23 @@ module _ (kind : Leaves) (buffer : Bytes) (pairs work : List ℕ) (fromOrigins f
           })
 
       module _ (o′ : Bytes) (r : Printed) (same : length o′ ≡ length o) (l : PrintsNew kind first (done .next) (rowsIn t n work kind w p) o (done .at) o′ r) where
+        -- its rows
         abbrev mine : List Row
         mine = rowsIn t (countsIn s) work kind w p
 
+        -- the rows of those after it
         abbrev others : List Row
         others = rowsAll kind work (w + 1) (drop (w + 1) (textsIn buffer pairs)) (next .others) (passed kind (countsIn s) p)
 
+        -- there is a row for each name
         mine-counted : length mine ≡ leafCountOf kind s
         mine-counted = rows-length _ 0 (nameCount kind (countsIn s)) ∙ count-is kind s
 
+        -- what is printed
         prints : PrintsNew kind first (done .next) mine o (done .at) o′ r
         prints = subst (λ (x : AagCounts). PrintsNew kind first (done .next) (rowsIn t x work kind w p) o (done .at) o′ r) counts l
 
+        -- the rows that were left
         rest-split : rowsAll kind work w (drop w (textsIn buffer pairs)) (k .rest) p ≡ mine ++ others
         rest-split =
             ap (λ (ts : List Bytes). rowsAll kind work w ts (k .rest) p) (texts-left buffer pairs w (omega arith))
@@ -176,9 +193,11 @@ module _ (kind : Leaves) (buffer : Bytes) (pairs work : List ℕ) (fromOrigins f
             ∙ (ap (λ (x : Bytes). rowsIn x (countsIn s) work kind w p ++ rowsAll kind work (suc w) (drop (w + 1) (textsIn buffer pairs)) (next .others) (passed kind (countsIn s) p)) (sym is)
             ∙ ap (λ (j : ℕ). mine ++ rowsAll kind work j (drop (w + 1) (textsIn buffer pairs)) (next .others) (passed kind (countsIn s) p)) (sym (add-one w))))
 
+        -- the next new variable
         after : r .next ≡ nextAfter (done .next) mine
         after = prints .after
 
+        -- after the turn
         further : Walking kind buffer pairs work fromOrigins fromNumbers first o₀ at o′ (passed kind (countsIn s) p) r (w + 1)
         further =
             record {
@@ -203,5 +222,6 @@ module _ (kind : Leaves) (buffer : Bytes) (pairs work : List ℕ) (fromOrigins f
                   same (prints .prints);
             }
 
+        -- the same, with the places that the code has
         pub walking-more : (p′ : Places) → p′ ≡ passed kind n p → Walking kind buffer pairs work fromOrigins fromNumbers first o₀ at o′ p′ r (w + 1)
         walking-more p′ e = subst (λ (x : Places). Walking kind buffer pairs work fromOrigins fromNumbers first o₀ at o′ x r (w + 1)) (sym (e ∙ ap (λ (x : AagCounts). passed kind x p) counts)) further

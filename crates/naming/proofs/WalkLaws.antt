@@ -31,6 +31,7 @@ module _ (kind first : ℕ) where
   pub row-old : (next : ℕ) (x : Row) (xs : List Row) → (x .number ≡ next → ⊥) → newText kind first next (x ∷ xs) ≡ newText kind first next xs
   row-old next x xs h = rw (ne-eqb (x .number) next h) refl
 
+  -- a new one
   pub row-new : (next : ℕ) (x : Row) (xs : List Row) → x .number ≡ next
       → newText kind first next (x ∷ xs) ≡ (symbolLine kind (next - first) (x .name) ++ 10 ∷ []) ++ newText kind first (suc next) xs
   row-new next x xs h = rw (eq-eqb (x .number) next h) (sym (append-assoc (symbolLine kind (next - first) (x .name)) (10 ∷ []) (newText kind first (suc next) xs)))
@@ -52,13 +53,14 @@ module _ (kind first : ℕ) where
           ∙ sym (append-assoc line (10 ∷ newText kind first (suc next) xs) (newText kind first (nextAfter (suc next) xs) ys))
       go false e f = e
 
+-- the next new variable after one row
 after-old : (next : ℕ) (x : Row) (xs : List Row) → (x .number ≡ next → ⊥) → nextAfter next (x ∷ xs) ≡ nextAfter next xs
 after-old next x xs h = rw (ne-eqb (x .number) next h) refl
 
 after-new : (next : ℕ) (x : Row) (xs : List Row) → x .number ≡ next → nextAfter next (x ∷ xs) ≡ nextAfter (suc next) xs
 after-new next x xs h = rw (eq-eqb (x .number) next h) refl
 
--- each row makes at most one new one
+-- the next new variable does not fall
 pub after-least : (next : ℕ) (xs : List Row) → next ≤ nextAfter next xs
 after-least next [] = omega arith
 after-least next (x ∷ xs) = go (eqb (x .number) next) (nextAfter (suc next) xs) (nextAfter next xs) (after-least (suc next) xs) (after-least next xs)
@@ -67,6 +69,7 @@ after-least next (x ∷ xs) = go (eqb (x .number) next) (nextAfter (suc next) xs
     go true m n h k = omega arith
     go false m n h k = k
 
+-- and each row makes at most one new one
 pub after-most : (next : ℕ) (xs : List Row) → nextAfter next xs ≤ next + length xs
 after-most next [] = omega arith
 after-most next (x ∷ xs) = go (eqb (x .number) next) (nextAfter (suc next) xs) (nextAfter next xs) (after-most (suc next) xs) (after-most next xs)
@@ -81,6 +84,7 @@ after-most next (x ∷ xs) = go (eqb (x .number) next) (nextAfter (suc next) xs)
 abbrev rest : (ℕ → Row) → ℕ → ℕ → List Row
 rest row count k = rowsFrom row k (count - k)
 
+-- the first of them
 rest-first : (row : ℕ → Row) (count k : ℕ) → k < count → rest row count k ≡ row k ∷ rest row count (k + 1)
 rest-first row count k h =
     let e : count - k ≡ suc (count - (k + 1)) = omega arith in
@@ -94,15 +98,18 @@ pub record Walk (leaves : Leaves) (row : ℕ → Row) (count first new : ℕ) (o
   pub few : next ≤ new + k
 
 module _ (leaves : Leaves) (row : ℕ → Row) (count first new : ℕ) (o₀ : Bytes) (at : ℕ) where
+  -- what is printed in all
   abbrev all : Bytes
   all = newText (kindOf leaves) first new (rowsFrom row 0 count)
 
+  -- before the loop
   pub walk-none : first ≤ new → Word at → Walk leaves row count first new o₀ at o₀ at new 0
   walk-none h small =
       let e : count - 0 ≡ count = omega arith in
       record { printing = rw e (printing-none o₀ at all small); after = rw e refl; low = h; few = omega arith }
 
   module _ (o : Bytes) (to next k : ℕ) (walk : Walk leaves row count first new o₀ at o to next k) where
+    -- a row that is not new
     pub walk-old : k < count → (row k .number ≡ next → ⊥) → Walk leaves row count first new o₀ at o to next (k + 1)
     walk-old h e =
         let split : rest row count k ≡ row k ∷ rest row count (k + 1) = rest-first row count k h in
@@ -115,6 +122,7 @@ module _ (leaves : Leaves) (row : ℕ → Row) (count first new : ℕ) (o₀ : B
           few = omega (arith, walk .few);
         }
 
+    -- a row that is new
     pub walk-new : (o′ : Bytes) (to′ : ℕ) → k < count → row k .number ≡ next → Word (length o₀) → length o′ ≡ length o
         → Prints o to (symbolLine (kindOf leaves) (next - first) (row k .name) ++ 10 ∷ []) o′ to′ → Walk leaves row count first new o₀ at o′ to′ (next + 1) (k + 1)
     walk-new o′ to′ h e small same p =
@@ -131,6 +139,7 @@ module _ (leaves : Leaves) (row : ℕ → Row) (count first new : ℕ) (o₀ : B
           few = omega (arith, walk .few);
         })
 
+    -- after the loop
     pub walk-end : count ≤ k → PrintsNew leaves first new (rowsFrom row 0 count) o₀ at o (record { at = to; next = next })
     walk-end h =
         let e : count - k ≡ 0 = omega arith in

@@ -38,9 +38,11 @@ abbrev from : Places → ℕ → Places
 from p start = record { names = p .names + start; origins = p .origins; numbers = p .numbers }
 
 module _ (leaves : Leaves) (n : AagCounts) (p : Places) (start count : ℕ) (a : start ≡ nameStart leaves n) (c : count ≡ nameCount leaves n) (t : Bytes) (work : List ℕ) (first next : ℕ) where
+  -- the names may be printed from their start on
   pub witness-can : CanPrintWitness t n work leaves p first next → CanPrintNames t work (from p start) count first next
   witness-can k = rw (a, c) (k .can)
 
+  -- and what is printed are the rows of the witness
   pub witness-prints : (w : ℕ) (o : Bytes) (at : ℕ) (o′ : Bytes) (r : Printed) → PrintsNew leaves first next (rowsFrom (rowAt t work leaves w (from p start)) 0 count) o at o′ r
       → PrintsNew leaves first next (rowsIn t n work leaves w p) o at o′ r
   witness-prints w o at o′ r k = rw (← a, ← c) k

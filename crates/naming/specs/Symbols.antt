@@ -118,6 +118,7 @@ pub record SymbolWords (leaf : Leaves) (m : Sections) (ws : List Sections) (buff
   pub numbers-are : part work fromNumbers (fromNumbers + totalOf (leafCountOf leaf) ws) ≡ map (numbered first (firstsOf leaf m ws)) (entriesOf leaf m 0 ws)
   pub small : first < 1073741824
 
+-- there are a model and witnesses whose words stand so
 pub record CanPrintSymbols (leaf : Leaves) (buffer : Bytes) (pairs work : List ℕ) (fromOrigins fromNumbers first : ℕ) : Type 0 where
   pub m : Sections
   pub ws : List Sections
