@@ -1,2 +1,4 @@
 -- Laws of the composer.
 pub mod CallLaws
+pub mod ChainLaws
+pub mod TopLaws
