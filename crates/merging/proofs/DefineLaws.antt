@@ -1,0 +1,233 @@
+-- Laws of the fifth pass: the latches are defined, or 18 applies.
+use Prim.Native.Nat.{ℕ, zero, suc, _+_, _-_, _*_, _≤_, _<_}
+use mathlib.Core.Bool.{Bool, true, false, cond}
+use mathlib.Core.List.{List, [], _∷_, map}
+use mathlib.Core.Path.{_≡_, refl, sym, ap, ap₂, subst, _∙_}
+use native.Mathlib.Omega.{arith}
+use lib.ListN.{length, getD, take, drop}
+use lib.Seq.{getD-drop}
+use Rattle.lists.specs.Answer.{unless}
+use Rattle.lists.specs.Parts.{part, put}
+use Rattle.lists.specs.Tests.{Each}
+use Rattle.lists.specs.Words.{pairsOf, wordsOf}
+use Rattle.lists.proofs.FirstLaws.{appearing-length}
+use Rattle.lists.proofs.PartLaws.{part-length, put-take, put-drop-end}
+use Rattle.lists.proofs.TestLaws.{each-so}
+use Rattle.lists.proofs.WordLaws.{words-length}
+use Rattle.aiger.specs.Gates.{variable}
+use Rattle.witness.specs.Sections.{Sections}
+use Rattle.witness_words.specs.Loaded.{latchWords}
+use Rattle.composition.specs.Numbering.{sameEntry, latchEntries, inputFirsts, latchFirsts}
+use Rattle.composition.specs.Sharing.{translate}
+use Rattle.composition.specs.Composing.{Defined, definedFrom, allDefined, agree, whole, composedLatches}
+use Rattle.composition.proofs.KeepLaws.{composed-latches-length}
+use Rattle.joint.specs.declared.Literals.the-variants as literals
+use Rattle.joint.specs.Joint.{totalOf, inputCount, latchCount, joint, listOf}
+use Rattle.joint.specs.Numbers.{definedPairs}
+use Rattle.joint.proofs.AmountLaws.{joint-latches-length, latch-entries-length}
+use Rattle.joint.proofs.GateLaws.{jointShared}
+use Rattle.joint.proofs.VarsLaws.{joint-defined}
+use Rattle.linking.specs.declared.DefinedLatches.{DefinedLatches}
+use Rattle.linking.specs.declared.DefinedLatches.the-variants as answer
+use Rattle.linking.specs.Latches.{InTurn, metIn, latchFrom, definedAt, definitionsFrom, latchVariables, Definable, Defines}
+use Rattle.linking.proofs.CallLaws.{entries-in-turn, entries-met, composed-words}
+use Rattle.linking.proofs.KeptLaws.{take-kept}
+use Rattle.marking.proofs.CallLaws.{each-word}
+use Rattle.gathering.specs.declared.Totals.{Totals}
+use Rattle.laying.specs.declared.Places.{Places}
+use Rattle.laying.specs.Laid.{Has, variableTotal, Regions}
+use Rattle.laying.proofs.HasLaws.{has-put}
+use Rattle.merging.specs.declared.Merging.{Merging}
+use Rattle.merging.specs.declared.Merging.the-variants as merging
+use Rattle.merging.specs.Merged.{Plan, Some, Goes, latchNumbers, definitionWords}
+use Rattle.merging.specs.Stages.{GatesShared, LatchesDefined}
+use Rattle.merging.proofs.WordLaws.{part-has, has-at, clean-behind}
+use Rattle.merging.proofs.BaseLaws.{base-kept, Step, step-some, step-goes}
+use Rattle.merging.proofs.LeafLaws.{latches-long}
+use Rattle.merging.proofs.JointLaws.{Joint, vars-low, vars-are, literals-in, literals-translated, shared-kept}
+
+-- latches by their words, where their composed variables are `own`
+pairs-defined : (vars : List ℕ) (x : ℕ) (own words : List ℕ) → length words ≡ 2 * length own → ((k : ℕ) → k < length own → getD vars (x + k) 0 ≡ getD own k 0)
+    → definedFrom vars x (pairsOf latchFrom words) ≡ definedPairs own (map (translate vars) words)
+pairs-defined vars x [] [] n e = refl
+pairs-defined vars x [] (u ∷ words) n e = absurd (omega arith)
+pairs-defined vars x (y ∷ own) [] n e = absurd (omega arith)
+pairs-defined vars x (y ∷ own) (u ∷ []) n e = absurd (omega arith)
+pairs-defined vars x (y ∷ own) (u ∷ v ∷ words) n e =
+    let z : x + 0 ≡ x = omega arith in
+    ap₂ {C = List Defined} (λ w ds. record { variable = w; next = translate vars u; reset = translate vars v } ∷ ds)
+    (ap (λ (k : ℕ). getD vars k 0) (sym z) ∙ e 0 (omega arith))
+    (pairs-defined vars (suc x) own words (omega arith)
+    (λ k h.
+    let s : suc x + k ≡ x + suc k = omega arith in
+    ap (λ (j : ℕ). getD vars j 0) s ∙ e (suc k) (omega arith)))
+
+-- what the answer says of the test
+differs-false : (b : Bool) (n : ℕ) → answer.Differs ≡ cond b (answer.Agreed n) answer.Differs → b ≡ false
+differs-false true n e = absurd (let z : _≡_ {A = ℕ} 0 1 = cc in omega arith)
+differs-false false n e = refl
+
+agreed-true : (b : Bool) (n q : ℕ) → answer.Agreed q ≡ cond b (answer.Agreed n) answer.Differs → b ≡ true
+agreed-true true n q e = refl
+agreed-true false n q e = absurd (let z : _≡_ {A = ℕ} 0 1 = cc in omega arith)
+
+-- how many words the definitions need
+pub definitions-long : (m : Sections) (ws : List Sections) → length (definitionWords m ws) ≤ 2 * totalOf latchCount ws
+definitions-long m ws =
+    let i : ℕ = suc (length (inputFirsts m ws)) in
+    omega (
+      arith,
+      words-length latchWords 2 (λ q. refl) (composedLatches i (latchFirsts m ws) (allDefined (whole m ws))),
+      composed-latches-length i (latchFirsts m ws) (allDefined (whole m ws)),
+      appearing-length sameEntry [] (latchEntries m 0 ws),
+      latch-entries-length m 0 ws,
+    )
+
+module _ (t : Totals) (at : Places) (first next g : ℕ) (work : List ℕ) where
+  -- where the composed variables of the latches stand
+  abbrev own : ℕ
+  own = at .vars + 1 + t .inputs
+
+  -- what is asked for
+  abbrev Can : Type 0
+  Can = Definable (at .latches) (t .latches) (at .vars) own (at .definitions) first work
+
+  -- the definitions of all latches
+  abbrev ds : List Defined
+  ds = definedAt (at .latches) (t .latches) (at .vars) own work
+
+  module _ (m : Sections) (ws : List Sections) (k : GatesShared t at first next g work m ws) where
+    abbrev plan : Plan t at m ws
+    plan = k .base .plan
+
+    abbrev places : Regions m ws at
+    places = plan .regions
+
+    counted : 2 * t .latches ≡ length (joint (listOf literals.Latches) ws)
+    counted = omega (arith, plan .latches, joint-latches-length ws)
+
+    own-has : Has work own (latchNumbers m ws)
+    own-has = rw (plan .inputs) (k .shared .leaves .latches)
+
+    own-are : latchVariables own (t .latches) work ≡ latchNumbers m ws
+    own-are = part-has work own (latchNumbers m ws) own-has (t .latches) (plan .latches ∙ sym (latches-long m ws))
+
+    room : at .definitions + 2 * totalOf latchCount ws ≤ at .end
+    room = omega (arith, places .bads, places .limits, places .end)
+
+    -- the words of the latches end before the definitions
+    ahead : at .latches + 2 * t .latches ≤ at .vars
+    ahead =
+        omega (arith, plan .latches, places .operands, places .safety, places .constraints, places .inputOrigins, places .latchOrigins, places .table, places .vars)
+
+    -- each names a joint variable
+    named : (i : ℕ) → i < 2 * t .latches → Joint ws (getD work (at .latches + i) 0)
+    named =
+        each-word (Joint ws) work (at .latches) (2 * t .latches) (omega (arith, ahead, k .base .fits, room, places .gates, places .definitions))
+        (literals-in t at work m ws (k .base) (k .shared) literals.Latches (at .latches) (2 * t .latches) (k .base .stands .latches) counted)
+
+    can : Can
+    can =
+        record {
+          size = suc (variableTotal ws);
+          before = omega (arith, ahead, places .gates, places .definitions);
+          after = omega arith;
+          among = omega (arith, plan .inputs, plan .latches);
+          behind = omega (arith, places .gates, places .definitions);
+          room = omega (arith, plan .latches, room, k .base .fits);
+          small =
+              subst (Each (λ x. x < 1073741824)) (sym (vars-are t at work m ws (k .base) (k .shared)))
+              (each-so (λ x. x ≤ variableTotal ws) (λ x. x < 1073741824) (λ x h. omega (arith, plan .few)) (jointShared m ws .vars)
+              (vars-low t at work m ws (k .base) (k .shared)));
+          known = λ j h.
+              let s : at .latches + 2 * j + 1 ≡ at .latches + (2 * j + 1) = omega arith in
+              let left = named (2 * j) (omega arith) in
+              let right : Joint ws (getD work (at .latches + 2 * j + 1) 0) = rw s (named (2 * j + 1) (omega arith)) in
+              (omega (arith, left), omega (arith, right));
+          turns =
+              subst (InTurn first 0) (sym own-are)
+              (subst (λ (n : ℕ). InTurn n 0 (latchNumbers m ws)) (sym (k .first)) (entries-in-turn (suc (length (inputFirsts m ws))) (latchEntries m 0 ws)));
+        }
+
+    met : metIn first 0 (latchVariables own (t .latches) work) ≡ length (latchFirsts m ws)
+    met = ap₂ (λ (n : ℕ) (l : List ℕ). metIn n 0 l) (k .first) own-are ∙ entries-met (suc (length (inputFirsts m ws))) (latchEntries m 0 ws)
+
+    -- the definitions are those of the witnesses
+    defs : ds ≡ allDefined (whole m ws)
+    defs =
+        let words : List ℕ = part work (at .latches) (at .latches + 2 * t .latches) in
+        let x : ℕ = own - at .vars in
+        let e : at .vars + x ≡ own = omega arith in
+        let long : length words ≡ 2 * length (latchNumbers m ws) =
+        omega (arith, part-length work (at .latches) (at .latches + 2 * t .latches) (omega (arith, ahead, k .base .fits, room, places .gates, places .definitions)), latches-long m ws, plan .latches) in
+        pairs-defined (drop (at .vars) work) x (latchNumbers m ws) words long
+        (λ j h.
+        let s : at .vars + (x + j) ≡ own + j = omega (arith, e) in
+        getD-drop (at .vars) work (x + j) 0 ∙ ap (λ (i : ℕ). getD work i 0) s ∙ has-at work own (latchNumbers m ws) own-has j h)
+        ∙ ap (definedPairs (latchNumbers m ws))
+        (literals-translated t at work m ws (k .base) (k .shared) literals.Latches (at .latches) (2 * t .latches) (k .base .stands .latches) counted)
+        ∙ sym (joint-defined m ws (plan .range))
+
+    stored : definitionsFrom first (metIn first 0 (latchVariables own (t .latches) work)) ds ≡ definitionWords m ws
+    stored =
+        ap₂ (λ (n c : ℕ). definitionsFrom n c ds) (k .first) met
+        ∙ ap (λ (l : List Defined). definitionsFrom (suc (length (inputFirsts m ws))) (length (latchFirsts m ws)) l) defs
+        ∙ composed-words (allDefined (whole m ws)) (suc (length (inputFirsts m ws))) (latchFirsts m ws)
+
+  pub latches-can : Some (GatesShared t at first next g work) → Can
+  latches-can s = can (s .m) (s .ws) (s .holds)
+
+  module _ (work' : List ℕ) (r : DefinedLatches) (post : Defines (at .latches) (t .latches) (at .vars) own (at .definitions) first work work' r) where
+    -- 18
+    pub latches-differ : r ≡ answer.Differs → (work'' : List ℕ) → Goes (GatesShared t at first next g work) at work work'' (merging.Refused 18)
+    latches-differ e work'' =
+        record {
+          goes = λ m ws k rest.
+              let f = sym (ap agree (defs m ws k)) ∙ differs-false (agree ds) (metIn first 0 (latchVariables own (t .latches) work)) (sym e ∙ post .returns) in
+              rw (k .fits, f) refl;
+        }
+
+    module _ (same : length work' ≡ length work) (q : ℕ) (e : r ≡ answer.Agreed q) where
+      -- 18 does not apply
+      agreed : agree ds ≡ true
+      agreed = agreed-true (agree ds) (metIn first 0 (latchVariables own (t .latches) work)) q (sym e ∙ post .returns)
+
+      module _ (m : Sections) (ws : List Sections) (k : GatesShared t at first next g work m ws) where
+        is : work' ≡ put work (at .definitions) (definitionWords m ws)
+        is = post .stored agreed ∙ ap (put work (at .definitions)) (stored m ws k)
+
+        fits : at .definitions + length (definitionWords m ws) ≤ length work
+        fits = omega (arith, definitions-long m ws, room m ws k, k .base .fits)
+
+        ahead-kept : take (at .definitions) work' ≡ take (at .definitions) work
+        ahead-kept = ap (take (at .definitions)) is ∙ put-take work (at .definitions) (definitionWords m ws) (omega (arith, fits)) (at .definitions) (omega arith)
+
+        front : take (at .table) work' ≡ take (at .table) work
+        front = take-kept work' work (at .definitions) ahead-kept (at .table) (omega (arith, places m ws k .vars, places m ws k .gates, places m ws k .definitions))
+
+        defined : LatchesDefined t at first next g work' m ws
+        defined =
+            record {
+              base = base-kept t at work work' m ws front same (k .base);
+              first = k .first;
+              next = k .next;
+              count = k .count;
+              fits = k .fits;
+              agrees = sym (ap agree (defs m ws k)) ∙ agreed;
+              shared = shared-kept at work work' m ws (places m ws k) ahead-kept same (k .shared);
+              definitions = subst (λ (w : List ℕ). Has w (at .definitions) (definitionWords m ws)) (sym is) (has-put work (at .definitions) (definitionWords m ws) fits);
+              behind =
+                  clean-behind work (at .definitions) (at .end) (k .behind) work' (at .bads) (at .bads)
+                  (ap (drop (at .bads)) is
+                  ∙ put-drop-end work (at .definitions) (definitionWords m ws) (omega (arith, fits)) (at .bads) (omega (arith, definitions-long m ws, places m ws k .bads)))
+                  (omega arith) (omega (arith, places m ws k .bads)) (omega (arith, places m ws k .limits, places m ws k .end));
+            }
+
+      step : Step (GatesShared t at first next g work) (LatchesDefined t at first next g work') at work work'
+      step = record { next = defined; kept = front }
+
+      pub latches-next : Some (GatesShared t at first next g work) → Some (LatchesDefined t at first next g work')
+      latches-next = step-some (GatesShared t at first next g work) (LatchesDefined t at first next g work') at work work' step
+
+      pub latches-goes : (work'' : List ℕ) (o : Merging) → Goes (LatchesDefined t at first next g work') at work' work'' o → Goes (GatesShared t at first next g work) at work work'' o
+      latches-goes = step-goes (GatesShared t at first next g work) (LatchesDefined t at first next g work') at work work' step

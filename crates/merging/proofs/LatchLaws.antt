@@ -1,0 +1,144 @@
+-- Laws of the third pass: the latches are numbered.
+use Prim.Native.Nat.{ℕ, suc, _+_, _≤_, _<_}
+use mathlib.Core.List.{List, [], _∷_, _++_}
+use mathlib.Core.Path.{_≡_, refl, sym, ap, _∙_}
+use native.Mathlib.Omega.{arith}
+use lib.ListN.{length, take}
+use Rattle.lists.specs.Firsts.{appearing}
+use Rattle.lists.specs.Parts.{part, zeros}
+use Rattle.lists.proofs.FirstLaws.{appearing-length}
+use Rattle.witness_text.specs.declared.AagCounts.{AagCounts}
+use Rattle.witness.specs.Sections.{Sections}
+use Rattle.composition.specs.Numbering.{sameEntry, inputEntries, inputFirsts}
+use Rattle.joint.specs.declared.Leaves.the-variants as leaf
+use Rattle.joint.specs.Joint.{totalOf, inputCount, latchCount, origins}
+use Rattle.joint.specs.Numbers.{Numbers, numberAll}
+use Rattle.joint.proofs.AmountLaws.{latch-origins-length, leaf-count-most}
+use Rattle.joint.proofs.NumberLaws.{latch-numbers, latch-next}
+use Rattle.linking.proofs.KeptLaws.{take-kept}
+use Rattle.marking.specs.Marked.{CanNumber, Numbered, numbersIn}
+use Rattle.marking.proofs.CallLaws.{numbers-stored, numbered-before, numbered-between, numbered-behind}
+use Rattle.gathering.specs.declared.Totals.{Totals}
+use Rattle.laying.specs.declared.Places.{Places}
+use Rattle.laying.specs.Laid.{Has, Regions}
+use Rattle.merging.specs.declared.Merging.{Merging}
+use Rattle.merging.specs.Merged.{Plan, Some, Goes, inputNumbers, latchNumbers}
+use Rattle.merging.specs.Stages.{InputsNumbered, LeavesNumbered, Leaves}
+use Rattle.merging.proofs.WordLaws.{has-part, has-join, clean-part, clean-behind}
+use Rattle.merging.proofs.BaseLaws.{base-kept, Step, step-some, step-goes}
+use Rattle.merging.proofs.LeafLaws.{inputs-long, latches-long, leaves-known, leaves-numbers}
+
+module _ (mc : AagCounts) (t : Totals) (at : Places) (first : ℕ) (work : List ℕ) where
+  -- what is asked for
+  abbrev Can : Type 0
+  Can = CanNumber (at .«latch_origins») (t .latches) (at .table + mc .inputs) (mc .latches) (mc .inputs) (at .vars + 1 + t .inputs) first work
+
+  module _ (m : Sections) (ws : List Sections) (k : InputsNumbered mc t at first work m ws) where
+    abbrev plan : Plan t at m ws
+    plan = k .base .plan
+
+    abbrev places : Regions m ws at
+    places = plan .regions
+
+    -- there is an origin word for each latch
+    counted : t .latches ≡ length (origins leaf.Latches m ws)
+    counted = plan .latches ∙ sym (latch-origins-length m ws)
+
+    -- the words up to the end of the numbers
+    room : at .vars + 1 + totalOf inputCount ws + totalOf latchCount ws ≤ at .end
+    room = omega (arith, places .gates, places .definitions, places .bads, places .limits, places .end)
+
+    can : Can
+    can =
+        record {
+          first = omega (arith, plan .latches, places .table);
+          second = omega (arith, k .model .inputs, k .model .latches, places .vars);
+          third = omega (arith, plan .inputs, plan .latches, room, k .base .fits);
+          few = omega (arith, plan .latches, plan .few, k .next, leaf-count-most m ws);
+          known =
+              leaves-known leaf.Latches m ws work (at .«latch_origins») (t .latches) (mc .inputs) (mc .latches)
+              (k .base .stands .latchOrigins) counted (k .model .inputs) (k .model .latches);
+        }
+
+    -- the table is empty
+    empty : part work (at .table + mc .inputs) (at .table + mc .inputs + mc .latches) ≡ zeros (mc .latches)
+    empty =
+        clean-part work (at .table + length (m .inputs)) (at .vars + 1) (k .between) (at .table + mc .inputs) (mc .latches)
+        (omega (arith, k .model .inputs)) (omega (arith, k .model .inputs, k .model .latches, places .vars))
+
+    -- the numbers that are given
+    given : numbersIn (at .«latch_origins») (t .latches) (at .table + mc .inputs) (mc .latches) (mc .inputs) first work
+        ≡ numberAll (length (m .inputs)) (suc (length (inputFirsts m ws))) (origins leaf.Latches m ws) (zeros (length (m .latches)))
+    given =
+        leaves-numbers leaf.Latches m ws work (at .«latch_origins») (t .latches) (mc .inputs) (mc .latches) (k .base .stands .latchOrigins) counted (k .model .inputs) (k .model .latches)
+        (at .table + mc .inputs) first empty
+        ∙ ap (λ (n : ℕ). numberAll (length (m .inputs)) n (origins leaf.Latches m ws) (zeros (length (m .latches)))) (k .next)
+
+  pub latches-can : Some (InputsNumbered mc t at first work) → Can
+  latches-can s = can (s .m) (s .ws) (s .holds)
+
+  -- the place of the numbers
+  pub latches-own : Some (InputsNumbered mc t at first work) → at .vars + 1 + t .inputs ≤ length work
+  latches-own s = omega (arith, can (s .m) (s .ws) (s .holds) .third)
+
+  module _ (work' : List ℕ) (next : ℕ) (same : length work' ≡ length work) (post : Numbered (at .«latch_origins») (t .latches) (at .table + mc .inputs) (mc .latches) (mc .inputs) (at .vars + 1 + t .inputs) first work work' next) where
+    module _ (m : Sections) (ws : List Sections) (k : InputsNumbered mc t at first work m ws) where
+      front : take (at .table) work' ≡ take (at .table) work
+      front =
+          take-kept work' work (at .table + mc .inputs)
+          (numbered-before (at .«latch_origins») (t .latches) (at .table + mc .inputs) (mc .latches) (mc .inputs) (at .vars + 1 + t .inputs) first work work' next (can m ws k) post)
+          (at .table) (omega arith)
+
+      -- what stands between the table and the numbers
+      between : (a e : ℕ) → at .vars ≤ a → e ≤ at .vars + 1 + t .inputs → part work' a e ≡ part work a e
+      between a e h i =
+          numbered-between (at .«latch_origins») (t .latches) (at .table + mc .inputs) (mc .latches) (mc .inputs) (at .vars + 1 + t .inputs) first work work' next (can m ws k) post
+          a e (omega (arith, k .model .inputs, k .model .latches, places m ws k .vars)) i
+
+      size : at .vars + 1 + t .inputs + t .latches ≤ length work'
+      size = omega (arith, same, can m ws k .third)
+
+      -- the constant
+      constant : Has work' (at .vars) (0 ∷ [])
+      constant =
+          has-part work' (at .vars) 1 (0 ∷ []) refl (omega (arith, size))
+          (between (at .vars) (at .vars + 1) (omega arith) (omega arith)
+          ∙ clean-part work (at .table + length (m .inputs)) (at .vars + 1) (k .between) (at .vars) 1 (omega (arith, places m ws k .vars)) (omega arith))
+
+      inputs : Has work' (at .vars + 1) (inputNumbers m ws)
+      inputs =
+          has-part work' (at .vars + 1) (length (inputNumbers m ws)) (inputNumbers m ws) refl (omega (arith, size, inputs-long m ws, plan m ws k .inputs))
+          (between (at .vars + 1) (at .vars + 1 + length (inputNumbers m ws)) (omega arith) (omega (arith, inputs-long m ws, plan m ws k .inputs)) ∙ k .inputs .is)
+
+      latches : Has work' (at .vars + 1 + t .inputs) (latchNumbers m ws)
+      latches =
+          has-part work' (at .vars + 1 + t .inputs) (t .latches) (latchNumbers m ws) (plan m ws k .latches ∙ sym (latches-long m ws)) size
+          (numbers-stored (at .«latch_origins») (t .latches) (at .table + mc .inputs) (mc .latches) (mc .inputs) (at .vars + 1 + t .inputs) first work work' next (can m ws k) post
+          ∙ ap (λ (x : Numbers). x .numbers) (given m ws k)
+          ∙ latch-numbers m ws)
+
+      numbered : LeavesNumbered t at first next work' m ws
+      numbered =
+          record {
+            base = base-kept t at work work' m ws front same (k .base);
+            first = k .next;
+            next = post .returns ∙ ap (λ (x : Numbers). x .next) (given m ws k) ∙ latch-next m ws;
+            leaves = record { inputs = inputs; latches = rw (← plan m ws k .inputs) latches };
+            vars =
+                has-join work' (at .vars) (0 ∷ []) constant (at .vars + 1) (inputNumbers m ws ++ latchNumbers m ws) refl
+                (has-join work' (at .vars + 1) (inputNumbers m ws) inputs (at .vars + 1 + t .inputs) (latchNumbers m ws) (omega (arith, inputs-long m ws, plan m ws k .inputs)) latches);
+            behind =
+                clean-behind work (at .vars + 1 + totalOf inputCount ws) (at .end) (k .behind) work' (at .vars + 1 + t .inputs + t .latches)
+                (at .vars + 1 + totalOf inputCount ws + totalOf latchCount ws)
+                (numbered-behind (at .«latch_origins») (t .latches) (at .table + mc .inputs) (mc .latches) (mc .inputs) (at .vars + 1 + t .inputs) first work work' next (can m ws k) post)
+                (omega (arith, plan m ws k .inputs, plan m ws k .latches)) (omega arith) (room m ws k);
+          }
+
+    step : Step (InputsNumbered mc t at first work) (LeavesNumbered t at first next work') at work work'
+    step = record { next = numbered; kept = front }
+
+    pub latches-next : Some (InputsNumbered mc t at first work) → Some (LeavesNumbered t at first next work')
+    latches-next = step-some (InputsNumbered mc t at first work) (LeavesNumbered t at first next work') at work work' step
+
+    pub latches-goes : (work'' : List ℕ) (r : Merging) → Goes (LeavesNumbered t at first next work') at work' work'' r → Goes (InputsNumbered mc t at first work) at work work'' r
+    latches-goes = step-goes (InputsNumbered mc t at first work) (LeavesNumbered t at first next work') at work work' step

@@ -1,0 +1,3 @@
+-- The witnesses, laid out in the work words, merged into the composition.
+pub mod Merged
+pub mod Stages

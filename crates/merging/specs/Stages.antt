@@ -1,0 +1,81 @@
+-- For the contracts of the composer's inner functions: what stands in the work words after each pass.
+use Prim.Native.Nat.{ℕ, suc, _+_, _-_, _*_}
+use mathlib.Core.Bool.{true}
+use mathlib.Core.List.{List, map}
+use mathlib.Core.Path.{_≡_}
+use lib.ListN.{length}
+use Rattle.lists.specs.Parts.{part, zeros}
+use Rattle.witness_text.specs.declared.AagCounts.{AagCounts}
+use Rattle.witness.specs.Sections.{Sections}
+use Rattle.composition.specs.Numbering.{inputFirsts, leafCount}
+use Rattle.composition.specs.Composing.{composedGates, whole, gatesFit, allDefined, agree}
+use Rattle.joint.specs.Joint.{totalOf, inputCount, latchCount, gateCount}
+use Rattle.joint.specs.Numbers.{leafVars}
+use Rattle.joint.proofs.GateLaws.{jointShared}
+use Rattle.sharing.specs.Table.{Held}
+use Rattle.linking.specs.Linked.{keyOf}
+use Rattle.gathering.specs.declared.Totals.{Totals}
+use Rattle.laying.specs.declared.Places.{Places}
+use Rattle.laying.specs.Laid.{Has}
+use Rattle.merging.specs.Merged.{Base, Model, inputNumbers, latchNumbers, definitionWords}
+
+-- the words from one place up to another are 0
+pub record Clean (work : List ℕ) (a e : ℕ) : Type 0 where
+  pub is : part work a e ≡ zeros (e - a)
+
+-- all regions that are written are cleared
+pub record Cleared (mc : AagCounts) (t : Totals) (at : Places) (work : List ℕ) (m : Sections) (ws : List Sections) : Type 0 where
+  pub model : Model mc m
+  pub base : Base t at work m ws
+  pub clean : Clean work (at .table) (at .end)
+
+-- the inputs have their numbers, and the next number is n
+pub record InputsNumbered (mc : AagCounts) (t : Totals) (at : Places) (n : ℕ) (work : List ℕ) (m : Sections) (ws : List Sections) : Type 0 where
+  pub model : Model mc m
+  pub base : Base t at work m ws
+  pub next : n ≡ suc (length (inputFirsts m ws))
+  pub inputs : Has work (at .vars + 1) (inputNumbers m ws)
+  pub between : Clean work (at .table + length (m .inputs)) (at .vars + 1)
+  pub behind : Clean work (at .vars + 1 + totalOf inputCount ws) (at .end)
+
+-- the numbers of inputs and latches stand in their places
+pub record Leaves (at : Places) (work : List ℕ) (m : Sections) (ws : List Sections) : Type 0 where
+  pub inputs : Has work (at .vars + 1) (inputNumbers m ws)
+  pub latches : Has work (at .vars + 1 + totalOf inputCount ws) (latchNumbers m ws)
+
+-- the latches, too, and the next number is k; the first latch has the number n
+pub record LeavesNumbered (t : Totals) (at : Places) (n k : ℕ) (work : List ℕ) (m : Sections) (ws : List Sections) : Type 0 where
+  pub base : Base t at work m ws
+  pub first : n ≡ suc (length (inputFirsts m ws))
+  pub next : k ≡ suc (leafCount m ws)
+  pub leaves : Leaves at work m ws
+  pub vars : Has work (at .vars) (leafVars m ws)
+  pub behind : Clean work (at .vars + 1 + totalOf inputCount ws + totalOf latchCount ws) (at .end)
+
+-- what stands once gates are shared: all composed variables, and the composed gates by their keys
+pub record Shared (at : Places) (work : List ℕ) (m : Sections) (ws : List Sections) : Type 0 where
+  pub leaves : Leaves at work m ws
+  pub vars : Has work (at .vars) (jointShared m ws .vars)
+  pub keys : Held (totalOf gateCount ws + 1) (map keyOf (composedGates m ws)) (part work (at .gates) (at .gates + (4 * totalOf gateCount ws + 1)))
+
+-- so many gates are shared, and 17 does not apply
+pub record GatesShared (t : Totals) (at : Places) (n k g : ℕ) (work : List ℕ) (m : Sections) (ws : List Sections) : Type 0 where
+  pub base : Base t at work m ws
+  pub first : n ≡ suc (length (inputFirsts m ws))
+  pub next : k ≡ suc (leafCount m ws)
+  pub count : g ≡ length (composedGates m ws)
+  pub fits : gatesFit (leafCount m ws) (composedGates m ws) ≡ true
+  pub shared : Shared at work m ws
+  pub behind : Clean work (at .definitions) (at .end)
+
+-- the latches are defined, and 18 does not apply
+pub record LatchesDefined (t : Totals) (at : Places) (n k g : ℕ) (work : List ℕ) (m : Sections) (ws : List Sections) : Type 0 where
+  pub base : Base t at work m ws
+  pub first : n ≡ suc (length (inputFirsts m ws))
+  pub next : k ≡ suc (leafCount m ws)
+  pub count : g ≡ length (composedGates m ws)
+  pub fits : gatesFit (leafCount m ws) (composedGates m ws) ≡ true
+  pub agrees : agree (allDefined (whole m ws)) ≡ true
+  pub shared : Shared at work m ws
+  pub definitions : Has work (at .definitions) (definitionWords m ws)
+  pub behind : Clean work (at .bads) (at .end)
