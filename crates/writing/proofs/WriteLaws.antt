@@ -1,0 +1,181 @@
+-- Laws of printing the composition part by part.
+use Prim.Native.Nat.{ℕ, suc, _+_, _-_, _*_, _/_, _^_, _≤_, _<_}
+use mathlib.Core.List.{List, [], _∷_, _++_, map}
+use mathlib.Core.Path.{_≡_, refl, sym, ap, _∙_, subst}
+use native.Mathlib.Numerals.{add-one}
+use native.Mathlib.Omega.{arith}
+use lib.ListN.{length, length-map}
+use Rattle.lists.specs.Parts.{Bytes, part}
+use Rattle.lists.specs.Tests.{Each}
+use Rattle.lists.specs.Words.{wordsOf}
+use Rattle.lists.proofs.PartLaws.{part-length}
+use Rattle.lists.proofs.TestLaws.{each-so}
+use Rattle.lists.proofs.WordLaws.{words-length}
+use Rattle.decimal.specs.Printed.{textOf}
+use Rattle.printing.specs.Prints.{Prints}
+use Rattle.printing.specs.Elements.{elements}
+use Rattle.printing.specs.Lines as lines
+use Rattle.printing.proofs.PrintsLaws.{Word, prints-then}
+use Rattle.witness.specs.Sections.{Sections}
+use Rattle.witness_words.specs.Loaded.{latchWords}
+use Rattle.composition.specs.Numbering.{inputFirsts, latchFirsts, leafCount}
+use Rattle.composition.specs.Sharing.{Operands, gatesFrom}
+use Rattle.composition.specs.Composing.{safety, literalsOf, whole, composedGates}
+use Rattle.composition.specs.Printing.{gateLines, symbolLines}
+use Rattle.composition.proofs.KeepLaws.{composed-latches-length}
+use Rattle.joint.specs.declared.Leaves.the-variants as leaf
+use Rattle.joint.specs.Joint.{totalOf, inputCount, latchCount, gateCount, nothingBefore}
+use Rattle.gathering.specs.declared.Totals.{Totals}
+use Rattle.gathering.specs.Gathered.{wordTotal, leafCountOf}
+use Rattle.laying.specs.declared.Places.{Places}
+use Rattle.laying.specs.Laid.{Has}
+use Rattle.merging.specs.declared.Merged.{Merged}
+use Rattle.linking.specs.Linked.{keyOf}
+use Rattle.sharing.specs.Table.{Held}
+use Rattle.merging.specs.Merged.{SmallOperands, definitionWords}
+use Rattle.naming.specs.Symbols.{SymbolWords, CanPrintSymbols, PrintsSymbols}
+use Rattle.naming.proofs.EntryLaws.{origins-total, entries-total}
+use Rattle.composed_text.specs.declared.Counts.{Counts}
+use Rattle.composed_text.specs.GateText.{Narrow, GateKeys, CanPrintGates, PrintsGates}
+use Rattle.composed_text.specs.Header.{headerOf}
+use Rattle.composed_text.specs.Text.{closingText, latchesOf, composedCounts, entryNames}
+use Rattle.writing.specs.Written.{Printable, PrintableSome, PrintsText, fromLatchNames, fromInputNames, fromGates, fromConstraints, fromBads, fromLatches, fromInputs, fromHeader}
+
+-- a list that stands, by its length
+has-part : (work : List ℕ) (a n : ℕ) (xs : List ℕ) → length xs ≡ n → Has work a xs → part work a (a + n) ≡ xs
+has-part work a n xs e h = subst (λ (j : ℕ). part work a (a + j) ≡ xs) e (h .is)
+
+has-room : (work : List ℕ) (a n : ℕ) (xs : List ℕ) → length xs ≡ n → Has work a xs → a + n ≤ length work
+has-room work a n xs e h = subst (λ (j : ℕ). a + j ≤ length work) e (h .room)
+
+module _ (buffer : Bytes) (pairs work : List ℕ) (at : Places) (c : Merged) (t : Totals) where
+  -- a part, and then the rest
+  module _ (part' rest : Sections → List Sections → Bytes) (o o' o'' : Bytes) (from r r' : ℕ) (small : Word (length o)) (same : length o' ≡ length o) where
+    pub then-printed : ((m : Sections) (ws : List Sections) → Printable buffer pairs work at c t m ws → Prints o from (part' m ws) o' r) → PrintsText rest buffer pairs work at c t o' r o'' r'
+        → PrintsText (λ m ws. part' m ws ++ rest m ws) buffer pairs work at c t o from o'' r'
+    then-printed p q = record { each = λ m ws k. prints-then o from (part' m ws) o' r (rest m ws) o'' r' small same (p m ws k) (q .each m ws k) }
+
+  -- ---- symbols
+
+  input-words : (m : Sections) (ws : List Sections) → Printable buffer pairs work at c t m ws → SymbolWords leaf.Inputs m ws buffer pairs work (at .«input_origins») (at .vars + 1) 1
+  input-words m ws k =
+      let o = origins-total leaf.Inputs m 0 nothingBefore ws in
+      let e = length-map _ _ ∙ entries-total leaf.Inputs m 0 ws in
+      record {
+        readable = k .readable;
+        blocks = k .listed .blocks;
+        room = omega (arith, k .regions .latches, k .listed .latches .room);
+        originsFit = has-room work (at .«input_origins») (totalOf (leafCountOf leaf.Inputs) ws) _ o (k .listed .inputOrigins);
+        numbersFit = has-room work (at .vars + 1) (totalOf (leafCountOf leaf.Inputs) ws) _ e (k .result .inputs);
+        origins-are = has-part work (at .«input_origins») (totalOf (leafCountOf leaf.Inputs) ws) _ o (k .listed .inputOrigins);
+        numbers-are = has-part work (at .vars + 1) (totalOf (leafCountOf leaf.Inputs) ws) _ e (k .result .inputs);
+        small = omega arith;
+      }
+
+  pub input-symbols : PrintableSome buffer pairs work at c t → CanPrintSymbols leaf.Inputs buffer pairs work (at .«input_origins») (at .vars + 1) 1
+  input-symbols k = record { m = k .m; ws = k .ws; holds = input-words (k .m) (k .ws) (k .holds) }
+
+  latch-words : (m : Sections) (ws : List Sections) → Printable buffer pairs work at c t m ws → SymbolWords leaf.Latches m ws buffer pairs work (at .«latch_origins») (at .vars + 1 + t .inputs) (c .inputs + 1)
+  latch-words m ws k =
+      let o = origins-total leaf.Latches m 0 nothingBefore ws in
+      let e = length-map _ _ ∙ entries-total leaf.Latches m 0 ws in
+      let i : suc (length (inputFirsts m ws)) ≡ c .inputs + 1 = omega (arith, k .result .counted .inputs) in
+      let a : at .vars + 1 + totalOf inputCount ws ≡ at .vars + 1 + t .inputs = omega (arith, k .inputs) in
+      subst (λ (j : ℕ). SymbolWords leaf.Latches m ws buffer pairs work (at .«latch_origins») (at .vars + 1 + t .inputs) j) i
+      (subst (λ (j : ℕ). SymbolWords leaf.Latches m ws buffer pairs work (at .«latch_origins») j (suc (length (inputFirsts m ws)))) a
+      (record {
+        readable = k .readable;
+        blocks = k .listed .blocks;
+        room = omega (arith, k .regions .latches, k .listed .latches .room);
+        originsFit = has-room work (at .«latch_origins») (totalOf (leafCountOf leaf.Latches) ws) _ o (k .listed .latchOrigins);
+        numbersFit = has-room work (at .vars + 1 + totalOf inputCount ws) (totalOf (leafCountOf leaf.Latches) ws) _ e (k .result .latches);
+        origins-are = has-part work (at .«latch_origins») (totalOf (leafCountOf leaf.Latches) ws) _ o (k .listed .latchOrigins);
+        numbers-are = has-part work (at .vars + 1 + totalOf inputCount ws) (totalOf (leafCountOf leaf.Latches) ws) _ e (k .result .latches);
+        small = omega (arith, k .few);
+      }))
+
+  pub latch-symbols : PrintableSome buffer pairs work at c t → CanPrintSymbols leaf.Latches buffer pairs work (at .«latch_origins») (at .vars + 1 + t .inputs) (c .inputs + 1)
+  latch-symbols k = record { m = k .m; ws = k .ws; holds = latch-words (k .m) (k .ws) (k .holds) }
+
+  module _ (o o' o'' : Bytes) (from r r' : ℕ) (small : Word (length o)) (same : length o' ≡ length o) where
+    pub latch-names-printed : PrintsSymbols leaf.Latches buffer pairs work (at .«latch_origins») (at .vars + 1 + t .inputs) (c .inputs + 1) o from o' r → Prints o' r closingText o'' r'
+        → PrintsText fromLatchNames buffer pairs work at c t o from o'' r'
+    latch-names-printed p q =
+        then-printed (λ m ws. textOf (symbolLines 108 0 (entryNames (latchFirsts m ws)))) (λ m ws. closingText) o o' o'' from r r' small same (λ m ws k. p m ws (latch-words m ws k)) (record { each = λ m ws k. q })
+
+    pub input-names-printed : PrintsSymbols leaf.Inputs buffer pairs work (at .«input_origins») (at .vars + 1) 1 o from o' r → PrintsText fromLatchNames buffer pairs work at c t o' r o'' r'
+        → PrintsText fromInputNames buffer pairs work at c t o from o'' r'
+    input-names-printed p q =
+        then-printed (λ m ws. textOf (symbolLines 105 0 (entryNames (inputFirsts m ws)))) fromLatchNames o o' o'' from r r' small same (λ m ws k. p m ws (input-words m ws k)) q
+
+  -- ---- gates
+
+  gate-keys : (m : Sections) (ws : List Sections) → Printable buffer pairs work at c t m ws → GateKeys (composedGates m ws) (c .inputs + c .latches + 1) (part work (at .gates) (at .definitions)) (t .gates + 1) (c .gates)
+  gate-keys m ws k =
+      let n = k .result .counted in
+      record {
+        held =
+          subst (λ (j : ℕ). Held (t .gates + 1) (map keyOf (composedGates m ws)) (part work (at .gates) j)) (sym (k .regions .definitions))
+          (subst (λ (j : ℕ). Held (j + 1) (map keyOf (composedGates m ws)) (part work (at .gates) (at .gates + (4 * totalOf gateCount ws + 1)))) (sym (k .gates)) (k .result .keys));
+        counted = sym (n .gates);
+        narrow = each-so SmallOperands Narrow (λ g s. s .left) (composedGates m ws) (k .result .small);
+        small = omega (arith, k .few, n .inputs, n .latches, n .gates);
+      }
+
+  pub gates-can : PrintableSome buffer pairs work at c t → CanPrintGates (c .inputs + c .latches + 1) (part work (at .gates) (at .definitions)) (t .gates + 1) (c .gates)
+  gates-can k = record { gs = composedGates (k .m) (k .ws); keys = gate-keys (k .m) (k .ws) (k .holds) }
+
+  module _ (o o' o'' : Bytes) (from r r' : ℕ) (small : Word (length o)) (same : length o' ≡ length o) where
+    pub gates-printed : PrintsGates (c .inputs + c .latches + 1) (part work (at .gates) (at .definitions)) (t .gates + 1) (c .gates) o from o' r → PrintsText fromInputNames buffer pairs work at c t o' r o'' r'
+        → PrintsText fromGates buffer pairs work at c t o from o'' r'
+    gates-printed p q =
+        then-printed (λ m ws. textOf (gateLines (gatesFrom (suc (leafCount m ws)) (composedGates m ws)))) fromInputNames o o' o'' from r r' small same
+        (λ m ws k.
+          let n = k .result .counted in
+          let e : c .inputs + c .latches + 1 ≡ suc (leafCount m ws) = omega (arith, n .inputs, n .latches) in
+          subst (λ (j : ℕ). Prints o from (textOf (gateLines (gatesFrom j (composedGates m ws)))) o' r) e (p (composedGates m ws) (gate-keys m ws k)))
+        q
+
+    -- ---- sets
+
+    pub constraints-printed : Prints o from (textOf (lines.literalLines (elements (part work (at .limits) (at .end))))) o' r → PrintsText fromGates buffer pairs work at c t o' r o'' r'
+        → PrintsText fromConstraints buffer pairs work at c t o from o'' r'
+    constraints-printed p q =
+        then-printed (λ m ws. textOf (lines.literalLines (literalsOf (λ s. s .constraints) (whole m ws)))) fromGates o o' o'' from r r' small same
+        (λ m ws k.
+          let e : elements (part work (at .limits) (at .end)) ≡ literalsOf (λ s. s .constraints) (whole m ws) = ap (λ (j : ℕ). elements (part work (at .limits) j)) (k .regions .end) ∙ k .result .limits in
+          subst (λ (xs : List ℕ). Prints o from (textOf (lines.literalLines xs)) o' r) e p)
+        q
+
+    pub bads-printed : Prints o from (textOf (lines.literalLines (elements (part work (at .bads) (at .limits))))) o' r → PrintsText fromConstraints buffer pairs work at c t o' r o'' r'
+        → PrintsText fromBads buffer pairs work at c t o from o'' r'
+    bads-printed p q =
+        then-printed (λ m ws. textOf (lines.literalLines (literalsOf safety (whole m ws)))) fromConstraints o o' o'' from r r' small same
+        (λ m ws k.
+          let e : elements (part work (at .bads) (at .limits)) ≡ literalsOf safety (whole m ws) = ap (λ (j : ℕ). elements (part work (at .bads) j)) (k .regions .limits) ∙ k .result .bads in
+          subst (λ (xs : List ℕ). Prints o from (textOf (lines.literalLines xs)) o' r) e p)
+        q
+
+    -- ---- latches, inputs, header
+
+    pub latches-printed : Prints o from (textOf (lines.gateLines (c .inputs + 1) (part work (at .definitions) (at .definitions + 2 * c .latches)))) o' r → PrintsText fromBads buffer pairs work at c t o' r o'' r'
+        → PrintsText fromLatches buffer pairs work at c t o from o'' r'
+    latches-printed p q =
+        then-printed (λ m ws. textOf (lines.gateLines (suc (length (inputFirsts m ws))) (wordsOf latchWords (latchesOf m ws)))) fromBads o o' o'' from r r' small same
+        (λ m ws k.
+          let n = k .result .counted in
+          let long : length (definitionWords m ws) ≡ 2 * c .latches = latch-length m ws ∙ ap (λ (j : ℕ). 2 * j) (sym (n .latches)) in
+          let e : part work (at .definitions) (at .definitions + 2 * c .latches) ≡ definitionWords m ws = has-part work (at .definitions) (2 * c .latches) (definitionWords m ws) long (k .result .definitions) in
+          let f : c .inputs + 1 ≡ suc (length (inputFirsts m ws)) = omega (arith, n .inputs) in
+          subst (λ (j : ℕ). Prints o from (textOf (lines.gateLines j (definitionWords m ws))) o' r) f (subst (λ (xs : List ℕ). Prints o from (textOf (lines.gateLines (c .inputs + 1) xs)) o' r) e p))
+        q
+      where
+        latch-length : (m : Sections) (ws : List Sections) → length (definitionWords m ws) ≡ 2 * length (latchFirsts m ws)
+        latch-length m ws = words-length latchWords 2 (λ x. refl) (latchesOf m ws) ∙ ap (λ (j : ℕ). 2 * j) (composed-latches-length _ _ _)
+
+    pub inputs-printed : Prints o from (textOf (lines.literalLines (lines.literalsFrom 1 (c .inputs)))) o' r → PrintsText fromLatches buffer pairs work at c t o' r o'' r'
+        → PrintsText fromInputs buffer pairs work at c t o from o'' r'
+    inputs-printed p q =
+        then-printed (λ m ws. textOf (lines.literalLines (lines.literalsFrom 1 (length (inputFirsts m ws))))) fromLatches o o' o'' from r r' small same
+        (λ m ws k. subst (λ (j : ℕ). Prints o from (textOf (lines.literalLines (lines.literalsFrom 1 j))) o' r) (k .result .counted .inputs) p)
+        q
