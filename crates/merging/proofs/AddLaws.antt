@@ -3,7 +3,7 @@ use Prim.Native.Nat.{ℕ, suc, _+_, _-_, _*_, _/_, _%_, _≤_, _<_}
 use mathlib.Core.List.{List, [], _∷_}
 use mathlib.Core.Path.{_≡_, sym, ap, _∙_}
 use native.Mathlib.Omega.{arith}
-use lib.ListN.{length, getD, take, drop}
+use lib.ListN.{length, getD, take}
 use lib.Seq.{getD-drop}
 use Rattle.lists.specs.Firsts.{setOf}
 use Rattle.lists.specs.Parts.{part, zeros}
@@ -13,7 +13,7 @@ use Rattle.aiger.specs.Gates.{variable}
 use Rattle.printing.specs.Elements.{elements}
 use Rattle.witness.specs.Sections.{Sections}
 use Rattle.composition.specs.Numbering.{leafCount}
-use Rattle.composition.specs.Sharing.{translate, Operands}
+use Rattle.composition.specs.Sharing.{Operands}
 use Rattle.composition.specs.Composing.{composedGates, whole, safety, literalsOf}
 use Rattle.composition.proofs.MeaningLaws.{composed-order}
 use Rattle.composition.proofs.ShareLaws.{OperandsFrom}
@@ -26,7 +26,6 @@ use Rattle.joint.proofs.VarsLaws.{joint-safety, joint-constraints}
 use Rattle.linking.proofs.KeptLaws.{take-kept, part-kept}
 use Rattle.marking.specs.Marked.{Addable, CanAdd, Added, literalsAt}
 use Rattle.marking.proofs.CallLaws.{each-word}
-use Rattle.gathering.specs.declared.Totals.{Totals}
 use Rattle.laying.specs.declared.Places.{Places}
 use Rattle.laying.specs.Laid.{Has, variableTotal, Regions}
 use Rattle.laying.proofs.HasLaws.{has-same}
@@ -44,13 +43,13 @@ use Rattle.merging.proofs.JointLaws.{Joint, var-low, literals-in, liter
 bit-there : (v l total bits : ℕ) → v ≤ total → bits ≡ total / 32 + 1 → 2 * v + l % 2 < 64 * bits
 bit-there v l total bits h e = omega arith
 
-module _ (t : Totals) (at : Places) (work : List ℕ) (m : Sections) (ws : List Sections) (b : Base t at work m ws) (s : Shared at work m ws) where
+module _ (at : Places) (work : List ℕ) (m : Sections) (ws : List Sections) (b : Base at work m ws) (s : Shared at work m ws) where
   -- a joint literal can be added to a set behind the composed variables
   addable : (place : ℕ) → at .gates ≤ place → (l : ℕ) → Joint ws l → Addable (at .vars) place (at .bits) work l
   addable place h l j =
       let r : Regions m ws at = b .plan .regions in
       let inside : variable l < suc (variableTotal ws) = omega arith in
-      let low : getD work (at .vars + variable l) 0 ≤ variableTotal ws = var-low t at work m ws b s (variable l) inside in
+      let low : getD work (at .vars + variable l) 0 ≤ variableTotal ws = var-low at work m ws b s (variable l) inside in
       record {
         within = omega (arith, inside, h, r .gates);
         small = omega (arith, low, b .plan .few);
@@ -70,7 +69,7 @@ module _ (t : Totals) (at : Places) (work : List ℕ) (m : Sections) (ws : List 
           literals =
               each-word (Addable (at .vars) place (at .bits) work) work from count (omega (arith, h .room, n))
               (each-so (Joint ws) (Addable (at .vars) place (at .bits) work) (addable place behind) (part work from (from + count))
-              (literals-in t at work m ws b s kind from count h n));
+              (literals-in at work m ws b s kind from count h n));
         }
 
 -- ---- operands
@@ -81,18 +80,18 @@ operands-small n [] h o = tt
 operands-small n (g ∷ gs) h o = (record { left = omega (arith, o .0 .0); right = omega (arith, o .0 .1) }, operands-small (suc n) gs (omega arith) (o .1))
 
 -- so are those of the composed gates
-composed-small : (t : Totals) (at : Places) (work : List ℕ) (m : Sections) (ws : List Sections) → Base t at work m ws → Each SmallOperands (composedGates m ws)
-composed-small t at work m ws b =
+composed-small : (at : Places) (work : List ℕ) (m : Sections) (ws : List Sections) → Base at work m ws → Each SmallOperands (composedGates m ws)
+composed-small at work m ws b =
     operands-small (suc (leafCount m ws)) (composedGates m ws) (omega (arith, leaf-count-most m ws, composed-gates-most m ws (b .plan .range), b .plan .few)) (composed-order m ws)
 
 -- ---- the two lists
 
-module _ (t : Totals) (at : Places) (first next g : ℕ) (work : List ℕ) where
+module _ (at : Places) (first next g : ℕ) (work : List ℕ) where
   -- what is asked for the bads
   abbrev CanBads : Type 0
   CanBads = CanAdd (at .safety) (at .constraints - at .safety) (at .vars) (at .bads) (at .bits) work
 
-  module _ (m : Sections) (ws : List Sections) (k : LatchesDefined t at first next g work m ws) where
+  module _ (m : Sections) (ws : List Sections) (k : LatchesDefined at first next g work m ws) where
     abbrev places : Regions m ws at
     places = k .base .plan .regions
 
@@ -104,13 +103,13 @@ module _ (t : Totals) (at : Places) (first next g : ℕ) (work : List ℕ) where
 
     bads-room : CanBads
     bads-room =
-        can-add t at work m ws (k .base) (k .shared) literals.Safety (at .safety) (at .constraints - at .safety) (at .bads) (k .base .stands .safety) safety-count
+        can-add at work m ws (k .base) (k .shared) literals.Safety (at .safety) (at .constraints - at .safety) (at .bads) (k .base .stands .safety) safety-count
         (omega (arith, places .constraints, places .inputOrigins, places .latchOrigins, places .table, places .vars))
         (omega (arith, places .definitions, places .bads))
         (omega (arith, places .limits, places .end, k .base .fits))
         (clean-part work (at .bads) (at .end) (k .behind) (at .bads) (at .bits) (omega arith) (omega (arith, places .limits, places .end)))
 
-  pub bads-can : Some (LatchesDefined t at first next g work) → CanBads
+  pub bads-can : Some (LatchesDefined at first next g work) → CanBads
   bads-can s = bads-room (s .m) (s .ws) (s .holds)
 
   module _ (work' : List ℕ) (bads : ℕ) (same : length work' ≡ length work) (added : Added (at .safety) (at .constraints - at .safety) (at .vars) (at .bads) (at .bits) work work' bads) where
@@ -118,15 +117,15 @@ module _ (t : Totals) (at : Places) (first next g : ℕ) (work : List ℕ) where
     abbrev CanLimits : Type 0
     CanLimits = CanAdd (at .constraints) (at .«input_origins» - at .constraints) (at .vars) (at .limits) (at .bits) work'
 
-    module _ (m : Sections) (ws : List Sections) (k : LatchesDefined t at first next g work m ws) where
+    module _ (m : Sections) (ws : List Sections) (k : LatchesDefined at first next g work m ws) where
       table-ahead : at .table ≤ at .definitions
       table-ahead = omega (arith, places m ws k .vars, places m ws k .gates, places m ws k .definitions)
 
       definitions-ahead : at .definitions ≤ at .bads
       definitions-ahead = omega (arith, places m ws k .bads)
 
-      base' : Base t at work' m ws
-      base' = base-kept t at work work' m ws (take-kept work' work (at .bads) (added .before) (at .table) (omega (arith, table-ahead, definitions-ahead))) same (k .base)
+      base' : Base at work' m ws
+      base' = base-kept at work work' m ws (take-kept work' work (at .bads) (added .before) (at .table) (omega (arith, table-ahead, definitions-ahead))) same (k .base)
 
       shared' : Shared at work' m ws
       shared' = shared-kept at work work' m ws (places m ws k) (take-kept work' work (at .bads) (added .before) (at .definitions) definitions-ahead) same (k .shared)
@@ -138,7 +137,7 @@ module _ (t : Totals) (at : Places) (first next g : ℕ) (work : List ℕ) where
 
       limits-room : CanLimits
       limits-room =
-          can-add t at work' m ws base' shared' literals.Constraints (at .constraints) (at .«input_origins» - at .constraints) (at .limits) (base' .stands .constraints) (constraint-count m ws k)
+          can-add at work' m ws base' shared' literals.Constraints (at .constraints) (at .«input_origins» - at .constraints) (at .limits) (base' .stands .constraints) (constraint-count m ws k)
           (omega (arith, places m ws k .inputOrigins, places m ws k .latchOrigins, places m ws k .table, places m ws k .vars))
           (omega (arith, places m ws k .definitions, places m ws k .bads, places m ws k .limits))
           (omega (arith, places m ws k .end, base' .fits))
@@ -148,21 +147,21 @@ module _ (t : Totals) (at : Places) (first next g : ℕ) (work : List ℕ) where
       bads-are : setOf (literalsAt (at .safety) (at .constraints - at .safety) (at .vars) work) ≡ literalsOf safety (whole m ws)
       bads-are =
           ap setOf
-          (literals-translated t at work m ws (k .base) (k .shared) literals.Safety (at .safety) (at .constraints - at .safety) (k .base .stands .safety) (safety-count m ws k))
+          (literals-translated at work m ws (k .base) (k .shared) literals.Safety (at .safety) (at .constraints - at .safety) (k .base .stands .safety) (safety-count m ws k))
           ∙ sym (joint-safety m ws (k .base .plan .range))
 
       -- the composed constraints
       limits-are : setOf (literalsAt (at .constraints) (at .«input_origins» - at .constraints) (at .vars) work') ≡ literalsOf (λ s. s .constraints) (whole m ws)
       limits-are =
           ap setOf
-          (literals-translated t at work' m ws base' shared' literals.Constraints (at .constraints) (at .«input_origins» - at .constraints) (base' .stands .constraints) (constraint-count m ws k))
+          (literals-translated at work' m ws base' shared' literals.Constraints (at .constraints) (at .«input_origins» - at .constraints) (base' .stands .constraints) (constraint-count m ws k))
           ∙ sym (joint-constraints m ws (k .base .plan .range))
 
-    pub limits-can : Some (LatchesDefined t at first next g work) → CanLimits
+    pub limits-can : Some (LatchesDefined at first next g work) → CanLimits
     limits-can s = limits-room (s .m) (s .ws) (s .holds)
 
     module _ (work'' : List ℕ) (limits : ℕ) (same' : length work'' ≡ length work') (added' : Added (at .constraints) (at .«input_origins» - at .constraints) (at .vars) (at .limits) (at .bits) work' work'' limits) where
-      module _ (m : Sections) (ws : List Sections) (k : LatchesDefined t at first next g work m ws) where
+      module _ (m : Sections) (ws : List Sections) (k : LatchesDefined at first next g work m ws) where
         bads-ahead : at .bads ≤ at .limits
         bads-ahead = omega (arith, places m ws k .limits)
 
@@ -196,7 +195,7 @@ module _ (t : Totals) (at : Places) (first next g : ℕ) (work : List ℕ) where
               inputs = shared .leaves .inputs;
               latches = shared .leaves .latches;
               keys = shared .keys;
-              small = composed-small t at work m ws (k .base);
+              small = composed-small at work m ws (k .base);
               definitions = has-same work work'' (at .bads) (at .definitions) (definitionWords m ws) kept long definitions-end (k .definitions);
               bads =
                   ap elements (part-kept work'' work' (at .limits) (added' .before) (at .bads) (at .bads + at .bits) (omega (arith, places m ws k .limits)))
@@ -205,7 +204,7 @@ module _ (t : Totals) (at : Places) (first next g : ℕ) (work : List ℕ) where
               limits = added' .is ∙ limits-are m ws k;
             }
 
-      pub literals-done : Goes (LatchesDefined t at first next g work) at work work'' (merging.Done (record { inputs = first - 1; latches = next - first; gates = g; bads = bads; constraints = limits }))
+      pub literals-done : Goes (LatchesDefined at first next g work) at work work'' (merging.Done (record { inputs = first - 1; latches = next - first; gates = g; bads = bads; constraints = limits }))
       literals-done =
           record {
             goes = λ m ws k.

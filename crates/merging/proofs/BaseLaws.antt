@@ -1,5 +1,5 @@
 -- Laws of what stays in the work words from pass to pass, and of handing on what comes out.
-use Prim.Native.Nat.{ℕ, _+_, _*_, _≤_}
+use Prim.Native.Nat.{ℕ, _+_, _≤_}
 use mathlib.Core.List.{List}
 use mathlib.Core.Path.{_≡_, _∙_}
 use native.Mathlib.Omega.{arith}
@@ -10,7 +10,6 @@ use Rattle.joint.specs.declared.Literals.the-variants as literals
 use Rattle.joint.specs.declared.Leaves.the-variants as leaf
 use Rattle.joint.specs.Joint.{totalOf, joint, listOf, origins}
 use Rattle.joint.proofs.AmountLaws.{joint-length, joint-operands-length, joint-latches-length, input-origins-length, latch-origins-length}
-use Rattle.gathering.specs.declared.Totals.{Totals}
 use Rattle.gathering.specs.Gathered.{literalCount}
 use Rattle.laying.specs.declared.Places.{Places}
 use Rattle.laying.specs.Laid.{Has, Regions}
@@ -44,9 +43,9 @@ module _ (at : Places) (work work' : List ℕ) (m : Sections) (ws : List Section
       }
 
 -- all of it stays
-pub base-kept : (t : Totals) (at : Places) (work work' : List ℕ) (m : Sections) (ws : List Sections) → take (at .table) work' ≡ take (at .table) work → length work' ≡ length work
-    → Base t at work m ws → Base t at work' m ws
-base-kept t at work work' m ws e n b =
+pub base-kept : (at : Places) (work work' : List ℕ) (m : Sections) (ws : List Sections) → take (at .table) work' ≡ take (at .table) work → length work' ≡ length work
+    → Base at work m ws → Base at work' m ws
+base-kept at work work' m ws e n b =
     record { plan = b .plan; fits = omega (arith, b .fits); stands = stands-kept at work work' m ws (b .plan .regions) e n (b .stands) }
 
 -- what comes out of words that are the same in front of the table

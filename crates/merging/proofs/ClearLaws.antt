@@ -1,5 +1,5 @@
 -- Laws of the first pass: the regions that will be written are cleared.
-use Prim.Native.Nat.{ℕ, _+_, _-_, _≤_}
+use Prim.Native.Nat.{ℕ, _-_, _≤_}
 use mathlib.Core.List.{List}
 use mathlib.Core.Path.{_≡_, ap, _∙_}
 use native.Mathlib.Omega.{arith}
@@ -14,7 +14,7 @@ use Rattle.gathering.specs.declared.Totals.{Totals}
 use Rattle.laying.specs.declared.Places.{Places}
 use Rattle.laying.specs.Laid.{Regions}
 use Rattle.merging.specs.declared.Merging.{Merging}
-use Rattle.merging.specs.Merged.{Mergeable, Base, Some, Goes}
+use Rattle.merging.specs.Merged.{Mergeable, Some, Goes}
 use Rattle.merging.specs.Stages.{Cleared}
 use Rattle.merging.proofs.BaseLaws.{base-kept, Step, step-some, step-goes}
 
@@ -41,7 +41,8 @@ module _ (mc : AagCounts) (t : Totals) (at : Places) (work : List ℕ) where
       cleared =
           record {
             model = k .model;
-            base = base-kept t at work work' m ws front same (k .base);
+            totals = k .totals;
+            base = base-kept at work work' m ws front same (k .base);
             clean = record { is = ap (λ (w : List ℕ). part w (at .table) (at .end)) is ∙ cleared-part work (at .table) (at .end) order (k .base .fits) };
           }
 

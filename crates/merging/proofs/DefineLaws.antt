@@ -1,20 +1,18 @@
 -- Laws of the fifth pass: the latches are defined, or 18 applies.
-use Prim.Native.Nat.{ℕ, zero, suc, _+_, _-_, _*_, _≤_, _<_}
+use Prim.Native.Nat.{ℕ, suc, _+_, _-_, _*_, _≤_, _<_}
 use mathlib.Core.Bool.{Bool, true, false, cond}
 use mathlib.Core.List.{List, [], _∷_, map}
 use mathlib.Core.Path.{_≡_, refl, sym, ap, ap₂, subst, _∙_}
 use native.Mathlib.Omega.{arith}
 use lib.ListN.{length, getD, take, drop}
 use lib.Seq.{getD-drop}
-use Rattle.lists.specs.Answer.{unless}
 use Rattle.lists.specs.Parts.{part, put}
 use Rattle.lists.specs.Tests.{Each}
-use Rattle.lists.specs.Words.{pairsOf, wordsOf}
+use Rattle.lists.specs.Words.{pairsOf}
 use Rattle.lists.proofs.FirstLaws.{appearing-length}
 use Rattle.lists.proofs.PartLaws.{part-length, put-take, put-drop-end}
 use Rattle.lists.proofs.TestLaws.{each-so}
 use Rattle.lists.proofs.WordLaws.{words-length}
-use Rattle.aiger.specs.Gates.{variable}
 use Rattle.witness.specs.Sections.{Sections}
 use Rattle.witness_words.specs.Loaded.{latchWords}
 use Rattle.composition.specs.Numbering.{sameEntry, latchEntries, inputFirsts, latchFirsts}
@@ -22,7 +20,7 @@ use Rattle.composition.specs.Sharing.{translate}
 use Rattle.composition.specs.Composing.{Defined, definedFrom, allDefined, agree, whole, composedLatches}
 use Rattle.composition.proofs.KeepLaws.{composed-latches-length}
 use Rattle.joint.specs.declared.Literals.the-variants as literals
-use Rattle.joint.specs.Joint.{totalOf, inputCount, latchCount, joint, listOf}
+use Rattle.joint.specs.Joint.{totalOf, latchCount, joint, listOf}
 use Rattle.joint.specs.Numbers.{definedPairs}
 use Rattle.joint.proofs.AmountLaws.{joint-latches-length, latch-entries-length}
 use Rattle.joint.proofs.GateLaws.{jointShared}
@@ -97,20 +95,20 @@ module _ (t : Totals) (at : Places) (first next g : ℕ) (work : List ℕ) where
   ds = definedAt (at .latches) (t .latches) (at .vars) own work
 
   module _ (m : Sections) (ws : List Sections) (k : GatesShared t at first next g work m ws) where
-    abbrev plan : Plan t at m ws
+    abbrev plan : Plan at m ws
     plan = k .base .plan
 
     abbrev places : Regions m ws at
     places = plan .regions
 
     counted : 2 * t .latches ≡ length (joint (listOf literals.Latches) ws)
-    counted = omega (arith, plan .latches, joint-latches-length ws)
+    counted = omega (arith, k .totals .latches, joint-latches-length ws)
 
     own-has : Has work own (latchNumbers m ws)
-    own-has = rw (plan .inputs) (k .shared .leaves .latches)
+    own-has = rw (k .totals .inputs) (k .shared .leaves .latches)
 
     own-are : latchVariables own (t .latches) work ≡ latchNumbers m ws
-    own-are = part-has work own (latchNumbers m ws) own-has (t .latches) (plan .latches ∙ sym (latches-long m ws))
+    own-are = part-has work own (latchNumbers m ws) own-has (t .latches) (k .totals .latches ∙ sym (latches-long m ws))
 
     room : at .definitions + 2 * totalOf latchCount ws ≤ at .end
     room = omega (arith, places .bads, places .limits, places .end)
@@ -118,13 +116,13 @@ module _ (t : Totals) (at : Places) (first next g : ℕ) (work : List ℕ) where
     -- the words of the latches end before the definitions
     ahead : at .latches + 2 * t .latches ≤ at .vars
     ahead =
-        omega (arith, plan .latches, places .operands, places .safety, places .constraints, places .inputOrigins, places .latchOrigins, places .table, places .vars)
+        omega (arith, k .totals .latches, places .operands, places .safety, places .constraints, places .inputOrigins, places .latchOrigins, places .table, places .vars)
 
     -- each names a joint variable
     named : (i : ℕ) → i < 2 * t .latches → Joint ws (getD work (at .latches + i) 0)
     named =
         each-word (Joint ws) work (at .latches) (2 * t .latches) (omega (arith, ahead, k .base .fits, room, places .gates, places .definitions))
-        (literals-in t at work m ws (k .base) (k .shared) literals.Latches (at .latches) (2 * t .latches) (k .base .stands .latches) counted)
+        (literals-in at work m ws (k .base) (k .shared) literals.Latches (at .latches) (2 * t .latches) (k .base .stands .latches) counted)
 
     can : Can
     can =
@@ -132,13 +130,13 @@ module _ (t : Totals) (at : Places) (first next g : ℕ) (work : List ℕ) where
           size = suc (variableTotal ws);
           before = omega (arith, ahead, places .gates, places .definitions);
           after = omega arith;
-          among = omega (arith, plan .inputs, plan .latches);
+          among = omega (arith, k .totals .inputs, k .totals .latches);
           behind = omega (arith, places .gates, places .definitions);
-          room = omega (arith, plan .latches, room, k .base .fits);
+          room = omega (arith, k .totals .latches, room, k .base .fits);
           small =
-              subst (Each (λ x. x < 1073741824)) (sym (vars-are t at work m ws (k .base) (k .shared)))
+              subst (Each (λ x. x < 1073741824)) (sym (vars-are at work m ws (k .base) (k .shared)))
               (each-so (λ x. x ≤ variableTotal ws) (λ x. x < 1073741824) (λ x h. omega (arith, plan .few)) (jointShared m ws .vars)
-              (vars-low t at work m ws (k .base) (k .shared)));
+              (vars-low at work m ws (k .base) (k .shared)));
           known = λ j h.
               let s : at .latches + 2 * j + 1 ≡ at .latches + (2 * j + 1) = omega arith in
               let left = named (2 * j) (omega arith) in
@@ -159,13 +157,13 @@ module _ (t : Totals) (at : Places) (first next g : ℕ) (work : List ℕ) where
         let x : ℕ = own - at .vars in
         let e : at .vars + x ≡ own = omega arith in
         let long : length words ≡ 2 * length (latchNumbers m ws) =
-        omega (arith, part-length work (at .latches) (at .latches + 2 * t .latches) (omega (arith, ahead, k .base .fits, room, places .gates, places .definitions)), latches-long m ws, plan .latches) in
+        omega (arith, part-length work (at .latches) (at .latches + 2 * t .latches) (omega (arith, ahead, k .base .fits, room, places .gates, places .definitions)), latches-long m ws, k .totals .latches) in
         pairs-defined (drop (at .vars) work) x (latchNumbers m ws) words long
         (λ j h.
         let s : at .vars + (x + j) ≡ own + j = omega (arith, e) in
         getD-drop (at .vars) work (x + j) 0 ∙ ap (λ (i : ℕ). getD work i 0) s ∙ has-at work own (latchNumbers m ws) own-has j h)
         ∙ ap (definedPairs (latchNumbers m ws))
-        (literals-translated t at work m ws (k .base) (k .shared) literals.Latches (at .latches) (2 * t .latches) (k .base .stands .latches) counted)
+        (literals-translated at work m ws (k .base) (k .shared) literals.Latches (at .latches) (2 * t .latches) (k .base .stands .latches) counted)
         ∙ sym (joint-defined m ws (plan .range))
 
     stored : definitionsFrom first (metIn first 0 (latchVariables own (t .latches) work)) ds ≡ definitionWords m ws
@@ -205,10 +203,10 @@ module _ (t : Totals) (at : Places) (first next g : ℕ) (work : List ℕ) where
         front : take (at .table) work' ≡ take (at .table) work
         front = take-kept work' work (at .definitions) ahead-kept (at .table) (omega (arith, places m ws k .vars, places m ws k .gates, places m ws k .definitions))
 
-        defined : LatchesDefined t at first next g work' m ws
+        defined : LatchesDefined at first next g work' m ws
         defined =
             record {
-              base = base-kept t at work work' m ws front same (k .base);
+              base = base-kept at work work' m ws front same (k .base);
               first = k .first;
               next = k .next;
               count = k .count;
@@ -223,11 +221,11 @@ module _ (t : Totals) (at : Places) (first next g : ℕ) (work : List ℕ) where
                   (omega arith) (omega (arith, places m ws k .bads)) (omega (arith, places m ws k .limits, places m ws k .end));
             }
 
-      step : Step (GatesShared t at first next g work) (LatchesDefined t at first next g work') at work work'
+      step : Step (GatesShared t at first next g work) (LatchesDefined at first next g work') at work work'
       step = record { next = defined; kept = front }
 
-      pub latches-next : Some (GatesShared t at first next g work) → Some (LatchesDefined t at first next g work')
-      latches-next = step-some (GatesShared t at first next g work) (LatchesDefined t at first next g work') at work work' step
+      pub latches-next : Some (GatesShared t at first next g work) → Some (LatchesDefined at first next g work')
+      latches-next = step-some (GatesShared t at first next g work) (LatchesDefined at first next g work') at work work' step
 
-      pub latches-goes : (work'' : List ℕ) (o : Merging) → Goes (LatchesDefined t at first next g work') at work' work'' o → Goes (GatesShared t at first next g work) at work work'' o
-      latches-goes = step-goes (GatesShared t at first next g work) (LatchesDefined t at first next g work') at work work' step
+      pub latches-goes : (work'' : List ℕ) (o : Merging) → Goes (LatchesDefined at first next g work') at work' work'' o → Goes (GatesShared t at first next g work) at work work'' o
+      latches-goes = step-goes (GatesShared t at first next g work) (LatchesDefined at first next g work') at work work' step

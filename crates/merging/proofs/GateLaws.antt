@@ -5,7 +5,6 @@ use mathlib.Core.List.{List, [], map}
 use mathlib.Core.Path.{_≡_, refl, sym, ap, ap₂, subst, _∙_}
 use native.Mathlib.Omega.{arith}
 use lib.ListN.{length, getD, take}
-use Rattle.lists.specs.Answer.{unless}
 use Rattle.lists.specs.Parts.{part}
 use Rattle.lists.specs.Tests.{Each}
 use Rattle.lists.specs.Words.{pairsOf}
@@ -57,7 +56,7 @@ module _ (t : Totals) (at : Places) (first next : ℕ) (work : List ℕ) where
   Can = Sharable (at .operands) (t .gates) (at .vars) known (at .gates) (next - 1) work
 
   module _ (m : Sections) (ws : List Sections) (k : LeavesNumbered t at first next work m ws) where
-    abbrev plan : Plan t at m ws
+    abbrev plan : Plan at m ws
     plan = k .base .plan
 
     abbrev places : Regions m ws at
@@ -67,11 +66,11 @@ module _ (t : Totals) (at : Places) (first next : ℕ) (work : List ℕ) where
     leaves-are = omega (arith, k .next)
 
     vars-are : part work (at .vars) (at .vars + known) ≡ leafVars m ws
-    vars-are = part-has work (at .vars) (leafVars m ws) (k .vars) known (omega (arith, plan .inputs, plan .latches, leaf-vars-length m ws))
+    vars-are = part-has work (at .vars) (leafVars m ws) (k .vars) known (omega (arith, k .totals .inputs, k .totals .latches, leaf-vars-length m ws))
 
     operands-are : part work (at .operands) (at .operands + 2 * t .gates) ≡ joint (listOf literals.Operands) ws
     operands-are =
-        part-has work (at .operands) (joint (listOf literals.Operands) ws) (k .base .stands .operands) (2 * t .gates) (omega (arith, plan .gates, joint-operands-length ws))
+        part-has work (at .operands) (joint (listOf literals.Operands) ws) (k .base .stands .operands) (2 * t .gates) (omega (arith, k .totals .gates, joint-operands-length ws))
 
     -- the operands of a gate stand before it
     earlier : (i : ℕ) → i < t .gates → (variable (getD work (at .operands + 2 * i) 0) < known + i) × (variable (getD work (at .operands + 2 * i + 1) 0) < known + i)
@@ -79,11 +78,11 @@ module _ (t : Totals) (at : Places) (first next : ℕ) (work : List ℕ) where
         let ops : List ℕ = joint (listOf literals.Operands) ws in
         let size = joint-operands-length ws in
         let s : at .operands + 2 * i + 1 ≡ at .operands + (2 * i + 1) = omega arith in
-        let left : getD work (at .operands + 2 * i) 0 ≡ getD ops (2 * i) 0 = has-at work (at .operands) ops (k .base .stands .operands) (2 * i) (omega (arith, size, plan .gates)) in
+        let left : getD work (at .operands + 2 * i) 0 ≡ getD ops (2 * i) 0 = has-at work (at .operands) ops (k .base .stands .operands) (2 * i) (omega (arith, size, k .totals .gates)) in
         let right : getD work (at .operands + 2 * i + 1) 0 ≡ getD ops (2 * i + 1) 0 =
-        ap (λ (j : ℕ). getD work j 0) s ∙ has-at work (at .operands) ops (k .base .stands .operands) (2 * i + 1) (omega (arith, size, plan .gates)) in
-        let e = joint-earlier ws (plan .range) i (omega (arith, plan .gates)) in
-        (omega (arith, left, e .0, plan .inputs, plan .latches), omega (arith, right, e .1, plan .inputs, plan .latches))
+        ap (λ (j : ℕ). getD work j 0) s ∙ has-at work (at .operands) ops (k .base .stands .operands) (2 * i + 1) (omega (arith, size, k .totals .gates)) in
+        let e = joint-earlier ws (plan .range) i (omega (arith, k .totals .gates)) in
+        (omega (arith, left, e .0, k .totals .inputs, k .totals .latches), omega (arith, right, e .1, k .totals .inputs, k .totals .latches))
 
     -- the words up to the end of the table
     room : at .gates + (4 * totalOf gateCount ws + 1) ≤ at .end
@@ -93,13 +92,13 @@ module _ (t : Totals) (at : Places) (first next : ℕ) (work : List ℕ) where
     can =
         record {
           first =
-              omega (arith, plan .gates, places .safety, places .constraints, places .inputOrigins, places .latchOrigins, places .table, places .vars);
-          second = omega (arith, plan .inputs, plan .latches, plan .gates, places .gates);
-          third = omega (arith, plan .gates, room, k .base .fits);
-          few = omega (arith, leaves-are, leaf-count-most m ws, plan .gates, plan .few);
+              omega (arith, k .totals .gates, places .safety, places .constraints, places .inputOrigins, places .latchOrigins, places .table, places .vars);
+          second = omega (arith, k .totals .inputs, k .totals .latches, k .totals .gates, places .gates);
+          third = omega (arith, k .totals .gates, room, k .base .fits);
+          few = omega (arith, leaves-are, leaf-count-most m ws, k .totals .gates, plan .few);
           empty =
               clean-part work (at .vars + 1 + totalOf inputCount ws + totalOf latchCount ws) (at .end) (k .behind) (at .gates) (4 * t .gates + 1)
-              (omega (arith, places .gates)) (omega (arith, plan .gates, room));
+              (omega (arith, places .gates)) (omega (arith, k .totals .gates, room));
           small =
               subst (Each (λ x. x < 1073741824)) (sym vars-are)
               (each-so (λ x. x ≤ leafCount m ws) (λ x. x < 1073741824) (λ x h. omega (arith, leaf-count-most m ws, plan .few)) (leafVars m ws) (leaf-vars-most m ws));
@@ -124,7 +123,7 @@ module _ (t : Totals) (at : Places) (first next : ℕ) (work : List ℕ) where
 
   -- the number of joint variables is small
   pub gates-known : Some (LeavesNumbered t at first next work) → known ≤ 128000001
-  gates-known s = let p = s .holds .base .plan in omega (arith, p .inputs, p .latches, p .few)
+  gates-known s = omega (arith, s .holds .totals .inputs, s .holds .totals .latches, s .holds .base .plan .few)
 
   module _ (work' : List ℕ) (r : SharedGates) (post : Shares (at .operands) (t .gates) (at .vars) known (at .gates) (next - 1) work work' r) where
     -- 17
@@ -157,25 +156,24 @@ module _ (t : Totals) (at : Places) (first next : ℕ) (work : List ℕ) where
 
         keys : Held (totalOf gateCount ws + 1) (map keyOf (composedGates m ws)) (part work' (at .gates) (at .gates + (4 * totalOf gateCount ws + 1)))
         keys =
-            subst (λ (x : ℕ). Held (x + 1) (map keyOf (composedGates m ws)) (part work' (at .gates) (at .gates + (4 * x + 1)))) (plan m ws k .gates)
+            subst (λ (x : ℕ). Held (x + 1) (map keyOf (composedGates m ws)) (part work' (at .gates) (at .gates + (4 * x + 1)))) (k .totals .gates)
             (subst (λ (gs : List Operands). Held (t .gates + 1) (map keyOf gs) (part work' (at .gates) (tableEnd (at .gates) (t .gates)))) (joint-gates m ws (plan m ws k .range))
             (linked .keys))
 
         shared : stage.Shared at work' m ws
         shared =
-            let p = plan m ws k in
             let s : at .vars + (known + t .gates) ≡ at .vars + known + t .gates = omega arith in
             record {
               leaves =
                   record {
                     inputs =
-                        has-same work work' (at .vars + known) (at .vars + 1) (inputNumbers m ws) (linked .before) same (omega (arith, inputs-long m ws, p .inputs)) (k .leaves .inputs);
+                        has-same work work' (at .vars + known) (at .vars + 1) (inputNumbers m ws) (linked .before) same (omega (arith, inputs-long m ws, k .totals .inputs)) (k .leaves .inputs);
                     latches =
                         has-same work work' (at .vars + known) (at .vars + 1 + totalOf inputCount ws) (latchNumbers m ws) (linked .before) same
-                        (omega (arith, latches-long m ws, p .inputs, p .latches)) (k .leaves .latches);
+                        (omega (arith, latches-long m ws, k .totals .inputs, k .totals .latches)) (k .leaves .latches);
                   };
               vars =
-                  has-part work' (at .vars) (known + t .gates) (jointShared m ws .vars) (omega (arith, joint-vars-length m ws, p .inputs, p .latches, p .gates)) vars-end
+                  has-part work' (at .vars) (known + t .gates) (jointShared m ws .vars) (omega (arith, joint-vars-length m ws, k .totals .inputs, k .totals .latches, k .totals .gates)) vars-end
                   (ap (part work' (at .vars)) s ∙ linked .variables);
               keys = keys;
             }
@@ -183,7 +181,8 @@ module _ (t : Totals) (at : Places) (first next : ℕ) (work : List ℕ) where
         gates-shared : GatesShared t at first next g work' m ws
         gates-shared =
             record {
-              base = base-kept t at work work' m ws front same (k .base);
+              totals = k .totals;
+              base = base-kept at work work' m ws front same (k .base);
               first = k .first;
               next = k .next;
               count = answered .1 ∙ ap length (gates-are m ws k);
@@ -191,7 +190,7 @@ module _ (t : Totals) (at : Places) (first next : ℕ) (work : List ℕ) where
               shared = shared;
               behind =
                   clean-behind work (at .vars + 1 + totalOf inputCount ws + totalOf latchCount ws) (at .end) (k .behind) work' (tableEnd (at .gates) (t .gates)) (at .definitions) (linked .behind)
-                  (omega (arith, places m ws k .definitions, plan m ws k .gates)) (omega (arith, places m ws k .definitions, places m ws k .gates))
+                  (omega (arith, places m ws k .definitions, k .totals .gates)) (omega (arith, places m ws k .definitions, places m ws k .gates))
                   (omega (arith, places m ws k .bads, places m ws k .limits, places m ws k .end));
             }
 

@@ -1,5 +1,5 @@
 -- Laws of the second pass: the inputs are numbered.
-use Prim.Native.Nat.{ℕ, suc, _+_, _≤_, _<_}
+use Prim.Native.Nat.{ℕ, _+_, _≤_}
 use mathlib.Core.List.{List}
 use mathlib.Core.Path.{_≡_, refl, sym, ap, _∙_}
 use native.Mathlib.Omega.{arith}
@@ -30,7 +30,7 @@ module _ (mc : AagCounts) (t : Totals) (at : Places) (work : List ℕ) where
   Can = CanNumber (at .«input_origins») (t .inputs) (at .table) (mc .inputs) 0 (at .vars + 1) 1 work
 
   module _ (m : Sections) (ws : List Sections) (k : Cleared mc t at work m ws) where
-    abbrev plan : Plan t at m ws
+    abbrev plan : Plan at m ws
     plan = k .base .plan
 
     abbrev places : Regions m ws at
@@ -38,7 +38,7 @@ module _ (mc : AagCounts) (t : Totals) (at : Places) (work : List ℕ) where
 
     -- there is an origin word for each input
     counted : t .inputs ≡ length (origins leaf.Inputs m ws)
-    counted = plan .inputs ∙ sym (input-origins-length m ws)
+    counted = k .totals .inputs ∙ sym (input-origins-length m ws)
 
     -- the words up to the end of the numbers
     room : at .vars + 1 + totalOf inputCount ws ≤ at .end
@@ -47,10 +47,10 @@ module _ (mc : AagCounts) (t : Totals) (at : Places) (work : List ℕ) where
     can : Can
     can =
         record {
-          first = omega (arith, plan .inputs, places .latchOrigins, places .table);
+          first = omega (arith, k .totals .inputs, places .latchOrigins, places .table);
           second = omega (arith, k .model .inputs, places .vars);
-          third = omega (arith, plan .inputs, room, k .base .fits);
-          few = omega (arith, plan .inputs, plan .few);
+          third = omega (arith, k .totals .inputs, room, k .base .fits);
+          few = omega (arith, k .totals .inputs, plan .few);
           known = leaves-known leaf.Inputs m ws work (at .«input_origins») (t .inputs) 0 (mc .inputs) (k .base .stands .inputOrigins) counted refl (k .model .inputs);
         }
 
@@ -82,10 +82,11 @@ module _ (mc : AagCounts) (t : Totals) (at : Places) (work : List ℕ) where
       numbered =
           record {
             model = k .model;
-            base = base-kept t at work work' m ws front same (k .base);
+            totals = k .totals;
+            base = base-kept at work work' m ws front same (k .base);
             next = post .returns ∙ ap (λ (x : Numbers). x .next) (given m ws k) ∙ input-next m ws;
             inputs =
-                has-part work' (at .vars + 1) (t .inputs) (inputNumbers m ws) (plan m ws k .inputs ∙ sym (inputs-long m ws)) (omega (arith, same, can m ws k .third)) stored;
+                has-part work' (at .vars + 1) (t .inputs) (inputNumbers m ws) (k .totals .inputs ∙ sym (inputs-long m ws)) (omega (arith, same, can m ws k .third)) stored;
             between =
                 clean-kept work (at .table) (at .end) (k .clean) work' (at .table + length (m .inputs)) (at .vars + 1)
                 (omega arith) (omega (arith, places m ws k .vars)) (omega (arith, room m ws k))
@@ -94,7 +95,7 @@ module _ (mc : AagCounts) (t : Totals) (at : Places) (work : List ℕ) where
             behind =
                 clean-behind work (at .table) (at .end) (k .clean) work' (at .vars + 1 + t .inputs) (at .vars + 1 + totalOf inputCount ws)
                 (numbered-behind (at .«input_origins») (t .inputs) (at .table) (mc .inputs) 0 (at .vars + 1) 1 work work' n (can m ws k) post)
-                (omega (arith, plan m ws k .inputs)) (omega (arith, places m ws k .vars)) (room m ws k);
+                (omega (arith, k .totals .inputs)) (omega (arith, places m ws k .vars)) (room m ws k);
           }
 
     step : Step (Cleared mc t at work) (InputsNumbered mc t at n work') at work work'

@@ -19,7 +19,6 @@ use Rattle.joint.proofs.GateLaws.{jointShared, joint-vars-most, joint-vars-leng
 use Rattle.linking.proofs.KeptLaws.{part-kept}
 use Rattle.marking.specs.Marked.{literalsAt}
 use Rattle.marking.proofs.CallLaws.{literals-part}
-use Rattle.gathering.specs.declared.Totals.{Totals}
 use Rattle.laying.specs.declared.Places.{Places}
 use Rattle.laying.specs.Laid.{Has, variableTotal, Regions}
 use Rattle.laying.proofs.HasLaws.{has-same}
@@ -32,7 +31,7 @@ use Rattle.merging.proofs.LeafLaws.{inputs-long, latches-long}
 abbrev pub Joint : List Sections → ℕ → Type 0
 Joint ws l = l ≤ 2 * variableTotal ws + 1
 
-module _ (t : Totals) (at : Places) (work : List ℕ) (m : Sections) (ws : List Sections) (b : Base t at work m ws) (s : Shared at work m ws) where
+module _ (at : Places) (work : List ℕ) (m : Sections) (ws : List Sections) (b : Base at work m ws) (s : Shared at work m ws) where
   -- no composed variable is larger than the number of joint ones
   most : leafCount m ws + length (composedGates m ws) ≤ variableTotal ws
   most = omega (arith, leaf-count-most m ws, composed-gates-most m ws (b .plan .range))

@@ -1,15 +1,13 @@
 -- Laws of the third pass: the latches are numbered.
-use Prim.Native.Nat.{ℕ, suc, _+_, _≤_, _<_}
+use Prim.Native.Nat.{ℕ, suc, _+_, _≤_}
 use mathlib.Core.List.{List, [], _∷_, _++_}
 use mathlib.Core.Path.{_≡_, refl, sym, ap, _∙_}
 use native.Mathlib.Omega.{arith}
 use lib.ListN.{length, take}
-use Rattle.lists.specs.Firsts.{appearing}
 use Rattle.lists.specs.Parts.{part, zeros}
-use Rattle.lists.proofs.FirstLaws.{appearing-length}
 use Rattle.witness_text.specs.declared.AagCounts.{AagCounts}
 use Rattle.witness.specs.Sections.{Sections}
-use Rattle.composition.specs.Numbering.{sameEntry, inputEntries, inputFirsts}
+use Rattle.composition.specs.Numbering.{inputFirsts}
 use Rattle.joint.specs.declared.Leaves.the-variants as leaf
 use Rattle.joint.specs.Joint.{totalOf, inputCount, latchCount, origins}
 use Rattle.joint.specs.Numbers.{Numbers, numberAll}
@@ -23,7 +21,7 @@ use Rattle.laying.specs.declared.Places.{Places}
 use Rattle.laying.specs.Laid.{Has, Regions}
 use Rattle.merging.specs.declared.Merging.{Merging}
 use Rattle.merging.specs.Merged.{Plan, Some, Goes, inputNumbers, latchNumbers}
-use Rattle.merging.specs.Stages.{InputsNumbered, LeavesNumbered, Leaves}
+use Rattle.merging.specs.Stages.{InputsNumbered, LeavesNumbered}
 use Rattle.merging.proofs.WordLaws.{has-part, has-join, clean-part, clean-behind}
 use Rattle.merging.proofs.BaseLaws.{base-kept, Step, step-some, step-goes}
 use Rattle.merging.proofs.LeafLaws.{inputs-long, latches-long, leaves-known, leaves-numbers}
@@ -34,7 +32,7 @@ module _ (mc : AagCounts) (t : Totals) (at : Places) (first : ℕ) (work : List 
   Can = CanNumber (at .«latch_origins») (t .latches) (at .table + mc .inputs) (mc .latches) (mc .inputs) (at .vars + 1 + t .inputs) first work
 
   module _ (m : Sections) (ws : List Sections) (k : InputsNumbered mc t at first work m ws) where
-    abbrev plan : Plan t at m ws
+    abbrev plan : Plan at m ws
     plan = k .base .plan
 
     abbrev places : Regions m ws at
@@ -42,7 +40,7 @@ module _ (mc : AagCounts) (t : Totals) (at : Places) (first : ℕ) (work : List 
 
     -- there is an origin word for each latch
     counted : t .latches ≡ length (origins leaf.Latches m ws)
-    counted = plan .latches ∙ sym (latch-origins-length m ws)
+    counted = k .totals .latches ∙ sym (latch-origins-length m ws)
 
     -- the words up to the end of the numbers
     room : at .vars + 1 + totalOf inputCount ws + totalOf latchCount ws ≤ at .end
@@ -51,10 +49,10 @@ module _ (mc : AagCounts) (t : Totals) (at : Places) (first : ℕ) (work : List 
     can : Can
     can =
         record {
-          first = omega (arith, plan .latches, places .table);
+          first = omega (arith, k .totals .latches, places .table);
           second = omega (arith, k .model .inputs, k .model .latches, places .vars);
-          third = omega (arith, plan .inputs, plan .latches, room, k .base .fits);
-          few = omega (arith, plan .latches, plan .few, k .next, leaf-count-most m ws);
+          third = omega (arith, k .totals .inputs, k .totals .latches, room, k .base .fits);
+          few = omega (arith, k .totals .latches, plan .few, k .next, leaf-count-most m ws);
           known =
               leaves-known leaf.Latches m ws work (at .«latch_origins») (t .latches) (mc .inputs) (mc .latches)
               (k .base .stands .latchOrigins) counted (k .model .inputs) (k .model .latches);
@@ -107,12 +105,12 @@ module _ (mc : AagCounts) (t : Totals) (at : Places) (first : ℕ) (work : List 
 
       inputs : Has work' (at .vars + 1) (inputNumbers m ws)
       inputs =
-          has-part work' (at .vars + 1) (length (inputNumbers m ws)) (inputNumbers m ws) refl (omega (arith, size, inputs-long m ws, plan m ws k .inputs))
-          (between (at .vars + 1) (at .vars + 1 + length (inputNumbers m ws)) (omega arith) (omega (arith, inputs-long m ws, plan m ws k .inputs)) ∙ k .inputs .is)
+          has-part work' (at .vars + 1) (length (inputNumbers m ws)) (inputNumbers m ws) refl (omega (arith, size, inputs-long m ws, k .totals .inputs))
+          (between (at .vars + 1) (at .vars + 1 + length (inputNumbers m ws)) (omega arith) (omega (arith, inputs-long m ws, k .totals .inputs)) ∙ k .inputs .is)
 
       latches : Has work' (at .vars + 1 + t .inputs) (latchNumbers m ws)
       latches =
-          has-part work' (at .vars + 1 + t .inputs) (t .latches) (latchNumbers m ws) (plan m ws k .latches ∙ sym (latches-long m ws)) size
+          has-part work' (at .vars + 1 + t .inputs) (t .latches) (latchNumbers m ws) (k .totals .latches ∙ sym (latches-long m ws)) size
           (numbers-stored (at .«latch_origins») (t .latches) (at .table + mc .inputs) (mc .latches) (mc .inputs) (at .vars + 1 + t .inputs) first work work' next (can m ws k) post
           ∙ ap (λ (x : Numbers). x .numbers) (given m ws k)
           ∙ latch-numbers m ws)
@@ -120,18 +118,19 @@ module _ (mc : AagCounts) (t : Totals) (at : Places) (first : ℕ) (work : List 
       numbered : LeavesNumbered t at first next work' m ws
       numbered =
           record {
-            base = base-kept t at work work' m ws front same (k .base);
+            totals = k .totals;
+            base = base-kept at work work' m ws front same (k .base);
             first = k .next;
             next = post .returns ∙ ap (λ (x : Numbers). x .next) (given m ws k) ∙ latch-next m ws;
-            leaves = record { inputs = inputs; latches = rw (← plan m ws k .inputs) latches };
+            leaves = record { inputs = inputs; latches = rw (← k .totals .inputs) latches };
             vars =
                 has-join work' (at .vars) (0 ∷ []) constant (at .vars + 1) (inputNumbers m ws ++ latchNumbers m ws) refl
-                (has-join work' (at .vars + 1) (inputNumbers m ws) inputs (at .vars + 1 + t .inputs) (latchNumbers m ws) (omega (arith, inputs-long m ws, plan m ws k .inputs)) latches);
+                (has-join work' (at .vars + 1) (inputNumbers m ws) inputs (at .vars + 1 + t .inputs) (latchNumbers m ws) (omega (arith, inputs-long m ws, k .totals .inputs)) latches);
             behind =
                 clean-behind work (at .vars + 1 + totalOf inputCount ws) (at .end) (k .behind) work' (at .vars + 1 + t .inputs + t .latches)
                 (at .vars + 1 + totalOf inputCount ws + totalOf latchCount ws)
                 (numbered-behind (at .«latch_origins») (t .latches) (at .table + mc .inputs) (mc .latches) (mc .inputs) (at .vars + 1 + t .inputs) first work work' next (can m ws k) post)
-                (omega (arith, plan m ws k .inputs, plan m ws k .latches)) (omega arith) (room m ws k);
+                (omega (arith, k .totals .inputs, k .totals .latches)) (omega arith) (room m ws k);
           }
 
     step : Step (InputsNumbered mc t at first work) (LeavesNumbered t at first next work') at work work'

@@ -9,3 +9,4 @@ pub mod GateLaws
 pub mod JointLaws
 pub mod DefineLaws
 pub mod AddLaws
+pub mod CallLaws

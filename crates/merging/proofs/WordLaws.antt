@@ -1,6 +1,6 @@
 -- Laws of lists that stand in the work words, and of words that are 0.
 use Prim.Native.Nat.{ℕ, zero, suc, _+_, _-_, _≤_, _<_}
-use mathlib.Core.List.{List, [], _++_}
+use mathlib.Core.List.{List, _++_}
 use mathlib.Core.Path.{_≡_, refl, sym, ap, ap₂, _∙_}
 use native.Mathlib.Omega.{arith}
 use lib.ListN.{length, getD, take, drop, length-append}
@@ -8,7 +8,6 @@ use lib.Seq.{drop-drop}
 use Rattle.lists.specs.Parts.{part, zeros}
 use Rattle.lists.proofs.PartLaws.{part-at, part-of-part, part-join}
 use Rattle.lists.proofs.ZeroLaws.{zeros-take}
-use Rattle.linking.proofs.KeptLaws.{part-kept}
 use Rattle.laying.specs.Laid.{Has}
 use Rattle.merging.specs.Stages.{Clean}
 

@@ -30,12 +30,15 @@ use Rattle.merging.specs.declared.Merging.the-variants as merging
 
 -- ---- before
 
--- the regions and totals of witnesses in range that are not too many
-pub record Plan (t : Totals) (at : Places) (m : Sections) (ws : List Sections) : Type 0 where
-  pub regions : Regions m ws at
+-- the totals are those of the witnesses
+pub record Summed (t : Totals) (ws : List Sections) : Type 0 where
   pub inputs : t .inputs ≡ totalOf inputCount ws
   pub latches : t .latches ≡ totalOf latchCount ws
   pub gates : t .gates ≡ totalOf gateCount ws
+
+-- the regions of witnesses in range that are not too many
+pub record Plan (at : Places) (m : Sections) (ws : List Sections) : Type 0 where
+  pub regions : Regions m ws at
   pub range : Each InRange ws
   pub few : variableTotal ws ≤ 128000000
 
@@ -49,8 +52,8 @@ pub record Stands (at : Places) (work : List ℕ) (m : Sections) (ws : List Sect
   pub latchOrigins : Has work (at .«latch_origins») (origins leaf.Latches m ws)
 
 -- all that stays as it is
-pub record Base (t : Totals) (at : Places) (work : List ℕ) (m : Sections) (ws : List Sections) : Type 0 where
-  pub plan : Plan t at m ws
+pub record Base (at : Places) (work : List ℕ) (m : Sections) (ws : List Sections) : Type 0 where
+  pub plan : Plan at m ws
   pub fits : at .end ≤ length work
   pub stands : Stands at work m ws
 
@@ -62,7 +65,8 @@ pub record Model (mc : AagCounts) (m : Sections) : Type 0 where
 -- the model and the witnesses that can be merged
 pub record Mergeable (mc : AagCounts) (t : Totals) (at : Places) (work : List ℕ) (m : Sections) (ws : List Sections) : Type 0 where
   pub model : Model mc m
-  pub base : Base t at work m ws
+  pub totals : Summed t ws
+  pub base : Base at work m ws
 
 -- ---- after
 

@@ -17,7 +17,7 @@ use Rattle.linking.specs.Linked.{keyOf}
 use Rattle.gathering.specs.declared.Totals.{Totals}
 use Rattle.laying.specs.declared.Places.{Places}
 use Rattle.laying.specs.Laid.{Has}
-use Rattle.merging.specs.Merged.{Base, Model, inputNumbers, latchNumbers, definitionWords}
+use Rattle.merging.specs.Merged.{Summed, Base, Model, inputNumbers, latchNumbers, definitionWords}
 
 -- the words from one place up to another are 0
 pub record Clean (work : List ℕ) (a e : ℕ) : Type 0 where
@@ -26,13 +26,15 @@ pub record Clean (work : List ℕ) (a e : ℕ) : Type 0 where
 -- all regions that are written are cleared
 pub record Cleared (mc : AagCounts) (t : Totals) (at : Places) (work : List ℕ) (m : Sections) (ws : List Sections) : Type 0 where
   pub model : Model mc m
-  pub base : Base t at work m ws
+  pub totals : Summed t ws
+  pub base : Base at work m ws
   pub clean : Clean work (at .table) (at .end)
 
 -- the inputs have their numbers, and the next number is n
 pub record InputsNumbered (mc : AagCounts) (t : Totals) (at : Places) (n : ℕ) (work : List ℕ) (m : Sections) (ws : List Sections) : Type 0 where
   pub model : Model mc m
-  pub base : Base t at work m ws
+  pub totals : Summed t ws
+  pub base : Base at work m ws
   pub next : n ≡ suc (length (inputFirsts m ws))
   pub inputs : Has work (at .vars + 1) (inputNumbers m ws)
   pub between : Clean work (at .table + length (m .inputs)) (at .vars + 1)
@@ -45,7 +47,8 @@ pub record Leaves (at : Places) (work : List ℕ) (m : Sections) (ws : List Sect
 
 -- the latches, too, and the next number is k; the first latch has the number n
 pub record LeavesNumbered (t : Totals) (at : Places) (n k : ℕ) (work : List ℕ) (m : Sections) (ws : List Sections) : Type 0 where
-  pub base : Base t at work m ws
+  pub totals : Summed t ws
+  pub base : Base at work m ws
   pub first : n ≡ suc (length (inputFirsts m ws))
   pub next : k ≡ suc (leafCount m ws)
   pub leaves : Leaves at work m ws
@@ -60,7 +63,8 @@ pub record Shared (at : Places) (work : List ℕ) (m : Sections) (ws : List Sect
 
 -- so many gates are shared, and 17 does not apply
 pub record GatesShared (t : Totals) (at : Places) (n k g : ℕ) (work : List ℕ) (m : Sections) (ws : List Sections) : Type 0 where
-  pub base : Base t at work m ws
+  pub totals : Summed t ws
+  pub base : Base at work m ws
   pub first : n ≡ suc (length (inputFirsts m ws))
   pub next : k ≡ suc (leafCount m ws)
   pub count : g ≡ length (composedGates m ws)
@@ -69,8 +73,8 @@ pub record GatesShared (t : Totals) (at : Places) (n k g : ℕ) (work : List ℕ
   pub behind : Clean work (at .definitions) (at .end)
 
 -- the latches are defined, and 18 does not apply
-pub record LatchesDefined (t : Totals) (at : Places) (n k g : ℕ) (work : List ℕ) (m : Sections) (ws : List Sections) : Type 0 where
-  pub base : Base t at work m ws
+pub record LatchesDefined (at : Places) (n k g : ℕ) (work : List ℕ) (m : Sections) (ws : List Sections) : Type 0 where
+  pub base : Base at work m ws
   pub first : n ≡ suc (length (inputFirsts m ws))
   pub next : k ≡ suc (leafCount m ws)
   pub count : g ≡ length (composedGates m ws)

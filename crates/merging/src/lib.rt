@@ -23,16 +23,9 @@ pub enum Merging {
 }
 
 // Collects the bads and the constraints. The inputs are numbered from 1 up to `first`, the latches from there up to `next`.
-fn merge_literals(
-    work: &mut [u64],
-    at: Places,
-    t: Totals,
-    first: usize,
-    next: usize,
-    gates: usize,
-) -> Merging
-    requires { ⌜ Some (LatchesDefined t at first next gates (now work)) ⌝ }
-    ensures { λ r. ⌜ Goes (LatchesDefined t at first next gates (now (work .entry))) at (now (work .entry)) (now (work .exit)) r ⌝ }
+fn merge_literals(work: &mut [u64], at: Places, first: usize, next: usize, gates: usize) -> Merging
+    requires { ⌜ Some (LatchesDefined at first next gates (now work)) ⌝ }
+    ensures { λ r. ⌜ Goes (LatchesDefined at first next gates (now (work .entry))) at (now (work .entry)) (now (work .exit)) r ⌝ }
 {
     let bads = marking::add_literals(
         work,
@@ -50,9 +43,11 @@ fn merge_literals(
         at.limits,
         at.bits,
     );
+    let inputs = first - 1;
+    let latches = next - first;
     Merging::Done(Merged {
-        inputs: first - 1,
-        latches: next - first,
+        inputs: inputs,
+        latches: latches,
         gates: gates,
         bads: bads,
         constraints: constraints,
@@ -82,7 +77,7 @@ fn merge_definitions(
         first,
     ) {
         DefinedLatches::Differs => Merging::Refused(18),
-        DefinedLatches::Agreed(_) => merge_literals(work, at, t, first, next, gates),
+        DefinedLatches::Agreed(_) => merge_literals(work, at, first, next, gates),
     }
 }
 

@@ -2,48 +2,34 @@ use borrow.Author.Needs.{needs}
 use Rattle.merging.proofs.DefineLaws.{latches-can, latches-differ, latches-next, latches-goes}
 use Rattle.merging.proofs.merge_definitions.Statement.{statement}
 use Rattle.merging.proofs.merge_definitions.Tie as tie
-use Rattle.merging.proofs.merge_definitions.Reads as reads
-use Rattle.merging.proofs.merge_definitions.Lts as lts
-use Rattle.linking.proofs.define_latches.Reads as define-latches-reads
-use Rattle.merging.proofs.merge_literals.Reads as merge-literals-reads
 
--- src/lib.rt:75:15
 add-own : tie.Need-add-own
 add-own c = search needs
 
--- src/lib.rt:75:15
 add-own-2 : tie.Need-add-own-2
 add-own-2 c = search needs
 
--- src/lib.rt:76:11
 define-latches-requires : tie.Need-define-latches-requires
 define-latches-requires c κs = search latches-can
 
--- src/lib.rt:77:36
 enum-told : tie.Need-enum-told
 enum-told c = search needs
 
--- src/lib.rt:78:53
 enum-told-2 : tie.Need-enum-told-2
 enum-told-2 c = search needs
 
--- src/lib.rt:78:38
 merge-literals-requires : tie.Need-merge-literals-requires
 merge-literals-requires c κs = search latches-next
 
--- src/lib.rt:64:1
 same-length : tie.Need-same-length
 same-length c = search needs
 
--- src/lib.rt:64:1
 returns : tie.Need-returns
 returns c = search latches-differ
 
--- src/lib.rt:64:1
 same-length-2 : tie.Need-same-length-2
 same-length-2 c = search needs
 
--- src/lib.rt:64:1
 returns-2 : tie.Need-returns-2
 returns-2 c = search latches-goes
 

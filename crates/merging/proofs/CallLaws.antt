@@ -1,0 +1,123 @@
+-- For callers: what is laid out can be merged, what was read stays, and what comes out is said of the composition.
+use Prim.Native.Nat.{ℕ, _+_, _≤_}
+use mathlib.Core.Bool.{true}
+use mathlib.Core.List.{List, [], _∷_}
+use mathlib.Core.Path.{_≡_, refl, ap}
+use native.Mathlib.Omega.{arith}
+use lib.ListN.{length, take}
+use Rattle.lists.specs.Answer.{got, refused, unless}
+use Rattle.lists.specs.Parts.{Bytes, part}
+use Rattle.lists.specs.Tests.{all, Each}
+use Rattle.lists.proofs.TestLaws.{each-so}
+use Rattle.lists.proofs.WordLaws.{pairs-count}
+use Rattle.witness_text.specs.declared.AagCounts.{AagCounts}
+use Rattle.witness.specs.Sections.{Sections, variables}
+use Rattle.composition.specs.Composing.{mapsRight, isSome, safety, composed, compose}
+use Rattle.composition.specs.Calling.{textsIn}
+use Rattle.composition.proofs.DemandLaws.{all-read}
+use Rattle.composition.proofs.NameLaws.{Granted}
+use Rattle.composition.proofs.RangeLaws.{InRange}
+use Rattle.joint.specs.Joint.{totalOf}
+use Rattle.linking.proofs.KeptLaws.{take-kept}
+use Rattle.gathering.specs.declared.Totals.{Totals}
+use Rattle.gathering.specs.Gathered.{wordTotal, Readable}
+use Rattle.gathering.proofs.BlockLaws.{blocks-same}
+use Rattle.gathering.proofs.TurnLaws.{total-small}
+use Rattle.laying.specs.declared.Places.{Places}
+use Rattle.laying.specs.Laid.{variableTotal, Fitting, Regions, Listed, Ready}
+use Rattle.merging.specs.declared.Merged.{Merged}
+use Rattle.merging.specs.Merged.{Stands, Mergeable, Some, Done, Refuses}
+use Rattle.merging.proofs.BaseLaws.{stands-kept}
+
+-- the lists that are merged are among those laid out
+listed-stands : (buffer : Bytes) (pairs : List ℕ) (m : Sections) (ws : List Sections) (at : Places) (work : List ℕ) → Listed buffer pairs m ws at work → Stands at work m ws
+listed-stands buffer pairs m ws at work l =
+    record {
+      latches = l .latches;
+      operands = l .operands;
+      safety = l .safety;
+      constraints = l .constraints;
+      inputOrigins = l .inputOrigins;
+      latchOrigins = l .latchOrigins;
+    }
+
+-- ---- before
+
+-- the variables of all witnesses together
+total-variables : (ws : List Sections) → totalOf variables ws ≡ variableTotal ws
+total-variables [] = refl
+total-variables (s ∷ ss) = omega (arith, total-variables ss)
+
+module _ (buffer : Bytes) (pairs : List ℕ) (ws : List Sections) (r : Readable buffer pairs ws) where
+  -- witnesses that are read are in range
+  pub readable-range : Each InRange ws
+  readable-range = each-so Granted InRange (λ w g. g .range) ws (all-read (textsIn buffer pairs) ws (r .reads) .granted)
+
+  -- and not too many
+  pub readable-few : variableTotal ws ≤ 128000000
+  readable-few =
+      omega (
+        arith,
+        total-variables ws,
+        total-small (textsIn buffer pairs) ws (r .reads),
+        pairs-count (λ (o n : ℕ). part buffer o (o + n)) pairs,
+        r .pairsHold .few,
+      )
+
+module _ (mc : AagCounts) (t : Totals) (buffer : Bytes) (pairs work₀ work : List ℕ) (m : Sections) (ws : List Sections) (at : Places) (f : Fitting mc t buffer pairs work₀ m ws) (r : Ready buffer pairs m ws at work) where
+  -- what is laid out can be merged
+  pub ready-merge : Mergeable mc t at work m ws
+  ready-merge =
+      record {
+        model = record { inputs = ap (λ (n : AagCounts). n .inputs) (f .model); latches = ap (λ (n : AagCounts). n .latches) (f .model) };
+        totals = record { inputs = f .inputs; latches = f .latches; gates = f .gates };
+        base =
+            record {
+              plan = record { regions = r .regions; range = readable-range buffer pairs ws (f .readable); few = readable-few buffer pairs ws (f .readable) };
+              fits = r .fits;
+              stands = listed-stands buffer pairs m ws at work (r .listed);
+            };
+      }
+
+  -- as `merge` asks for
+  pub ready-can : Some (Mergeable mc t at work)
+  ready-can = record { m = m; ws = ws; holds = ready-merge }
+
+-- ---- after
+
+-- the words of the texts stand in front of the table
+words-ahead : (m : Sections) (ws : List Sections) (at : Places) → Regions m ws at → wordTotal ws ≤ at .table
+words-ahead m ws at r = omega (arith, r .latches, r .operands, r .safety, r .constraints, r .inputOrigins, r .latchOrigins, r .table)
+
+-- what was laid out stays
+pub ready-kept : (buffer : Bytes) (pairs : List ℕ) (m : Sections) (ws : List Sections) (at : Places) (work work' : List ℕ) → take (at .table) work' ≡ take (at .table) work
+    → length work' ≡ length work → Ready buffer pairs m ws at work → Ready buffer pairs m ws at work'
+ready-kept buffer pairs m ws at work work' e n r =
+    let s : Stands at work' m ws = stands-kept at work work' m ws (r .regions) e n (listed-stands buffer pairs m ws at work (r .listed)) in
+    record {
+      regions = r .regions;
+      listed =
+          record {
+            blocks =
+                blocks-same (textsIn buffer pairs) ws work work' (take-kept work' work (at .table) e (wordTotal ws) (words-ahead m ws at (r .regions))) (r .listed .blocks);
+            latches = s .latches;
+            operands = s .operands;
+            safety = s .safety;
+            constraints = s .constraints;
+            inputOrigins = s .inputOrigins;
+            latchOrigins = s .latchOrigins;
+          };
+      fits = omega (arith, r .fits, n);
+    }
+
+module _ (m : Sections) (ws : List Sections) (right : all (mapsRight m) ws ≡ true) where
+  -- 17 or 18 is what the composer answers, where 16 does not apply
+  pub refused-composes : (k : ℕ) → Refuses m ws k → compose m ws ≡ refused k
+  unfolding compose
+  refused-composes k h = rw right (h (unless 19 (all (λ s. isSome (safety s)) ws) (got (composed m ws))))
+
+  -- and where neither applies only 19 is left
+  pub done-composes : (at : Places) (work work' : List ℕ) (c : Merged) → Done m ws at work work' c
+      → compose m ws ≡ unless 19 (all (λ s. isSome (safety s)) ws) (got (composed m ws))
+  unfolding compose
+  done-composes at work work' c d = rw (right, d .fits, d .agrees) refl
