@@ -92,15 +92,19 @@ module _ (at : Places) (first next g : ℕ) (work : List ℕ) where
   CanBads = CanAdd (at .safety) (at .constraints - at .safety) (at .vars) (at .bads) (at .bits) work
 
   module _ (m : Sections) (ws : List Sections) (k : LatchesDefined at first next g work m ws) where
+    -- where everything stands
     abbrev places : Regions m ws at
     places = k .base .plan .regions
 
+    -- how many joint safety literals there are
     safety-count : at .constraints - at .safety ≡ length (joint (listOf literals.Safety) ws)
     safety-count = omega (arith, places .constraints, literals-long literals.Safety ws)
 
+    -- how many joint constraints there are
     constraint-count : at .«input_origins» - at .constraints ≡ length (joint (listOf literals.Constraints) ws)
     constraint-count = omega (arith, places .inputOrigins, literals-long literals.Constraints ws)
 
+    -- it holds of the stage
     bads-room : CanBads
     bads-room =
         can-add at work m ws (k .base) (k .shared) literals.Safety (at .safety) (at .constraints - at .safety) (at .bads) (k .base .stands .safety) safety-count
@@ -109,6 +113,7 @@ module _ (at : Places) (first next g : ℕ) (work : List ℕ) where
         (omega (arith, places .limits, places .end, k .base .fits))
         (clean-part work (at .bads) (at .end) (k .behind) (at .bads) (at .bits) (omega arith) (omega (arith, places .limits, places .end)))
 
+  -- as the code asks for it
   pub bads-can : Some (LatchesDefined at first next g work) → CanBads
   bads-can s = bads-room (s .m) (s .ws) (s .holds)
 
@@ -118,23 +123,29 @@ module _ (at : Places) (first next g : ℕ) (work : List ℕ) where
     CanLimits = CanAdd (at .constraints) (at .«input_origins» - at .constraints) (at .vars) (at .limits) (at .bits) work'
 
     module _ (m : Sections) (ws : List Sections) (k : LatchesDefined at first next g work m ws) where
+      -- the definitions stand behind the table
       table-ahead : at .table ≤ at .definitions
       table-ahead = omega (arith, places m ws k .vars, places m ws k .gates, places m ws k .definitions)
 
+      -- the bads stand behind the definitions
       definitions-ahead : at .definitions ≤ at .bads
       definitions-ahead = omega (arith, places m ws k .bads)
 
+      -- what stays after the bads
       base' : Base at work' m ws
       base' = base-kept at work work' m ws (take-kept work' work (at .bads) (added .before) (at .table) (omega (arith, table-ahead, definitions-ahead))) same (k .base)
 
+      -- so do variables and gates
       shared' : Shared at work' m ws
       shared' = shared-kept at work work' m ws (places m ws k) (take-kept work' work (at .bads) (added .before) (at .definitions) definitions-ahead) same (k .shared)
 
+      -- so does the empty set of constraints
       clean' : Clean work' (at .limits) (at .end)
       clean' =
           clean-behind work (at .bads) (at .end) (k .behind) work' (at .bads + at .bits) (at .limits) (added .behind)
           (omega (arith, places m ws k .limits)) (omega (arith, places m ws k .limits)) (omega (arith, places m ws k .end))
 
+      -- it holds of the stage
       limits-room : CanLimits
       limits-room =
           can-add at work' m ws base' shared' literals.Constraints (at .constraints) (at .«input_origins» - at .constraints) (at .limits) (base' .stands .constraints) (constraint-count m ws k)
@@ -157,11 +168,13 @@ module _ (at : Places) (first next g : ℕ) (work : List ℕ) where
           (literals-translated at work' m ws base' shared' literals.Constraints (at .constraints) (at .«input_origins» - at .constraints) (base' .stands .constraints) (constraint-count m ws k))
           ∙ sym (joint-constraints m ws (k .base .plan .range))
 
+    -- as the code asks for it
     pub limits-can : Some (LatchesDefined at first next g work) → CanLimits
     limits-can s = limits-room (s .m) (s .ws) (s .holds)
 
     module _ (work'' : List ℕ) (limits : ℕ) (same' : length work'' ≡ length work') (added' : Added (at .constraints) (at .«input_origins» - at .constraints) (at .vars) (at .limits) (at .bits) work' work'' limits) where
       module _ (m : Sections) (ws : List Sections) (k : LatchesDefined at first next g work m ws) where
+        -- the constraints stand behind the bads
         bads-ahead : at .bads ≤ at .limits
         bads-ahead = omega (arith, places m ws k .limits)
 
@@ -169,12 +182,15 @@ module _ (at : Places) (first next g : ℕ) (work : List ℕ) where
         kept : take (at .bads) work'' ≡ take (at .bads) work
         kept = take-kept work'' work' (at .limits) (added' .before) (at .bads) bads-ahead ∙ added .before
 
+        -- no word more or less
         long : length work'' ≡ length work
         long = same' ∙ same
 
+        -- variables and gates in the end
         shared : Shared at work'' m ws
         shared = shared-kept at work work'' m ws (places m ws k) (take-kept work'' work (at .bads) kept (at .definitions) (definitions-ahead m ws k)) long (k .shared)
 
+        -- the counts in the end
         counted : Counted m ws (record { inputs = first - 1; latches = next - first; gates = g; bads = bads; constraints = limits })
         counted =
             record {
@@ -185,9 +201,11 @@ module _ (at : Places) (first next g : ℕ) (work : List ℕ) where
               constraints = added' .returns ∙ ap length (limits-are m ws k);
             }
 
+        -- the definitions end before the bads
         definitions-end : at .definitions + length (definitionWords m ws) ≤ at .bads
         definitions-end = omega (arith, definitions-long m ws, places m ws k .bads)
 
+        -- all that stands in the end
         result : Result m ws at (record { inputs = first - 1; latches = next - first; gates = g; bads = bads; constraints = limits }) work''
         result =
             record {
@@ -204,6 +222,7 @@ module _ (at : Places) (first next g : ℕ) (work : List ℕ) where
               limits = added' .is ∙ limits-are m ws k;
             }
 
+      -- what comes out: 17 and 18 do not apply
       pub literals-done : Goes (LatchesDefined at first next g work) at work work'' (merging.Done (record { inputs = first - 1; latches = next - first; gates = g; bads = bads; constraints = limits }))
       literals-done =
           record {

@@ -24,9 +24,11 @@ literals-long kind ws = joint-length (listOf kind) ws
 
 -- the lists stay where nothing in front of the table is written
 module _ (at : Places) (work work' : List ℕ) (m : Sections) (ws : List Sections) (r : Regions m ws at) (e : take (at .table) work' ≡ take (at .table) work) (n : length work' ≡ length work) where
+  -- any list in front of the table
   keeps : (a : ℕ) (xs : List ℕ) → a + length xs ≤ at .table → Has work a xs → Has work' a xs
   keeps a xs h k = has-same work work' (at .table) a xs e n h k
 
+  -- all of them
   pub stands-kept : Stands at work m ws → Stands at work' m ws
   stands-kept s =
       record {
@@ -60,8 +62,10 @@ pub record Step (Stage Next : Sections → List Sections → Type 0) (at : Place
   pub kept : (m : Sections) (ws : List Sections) → Stage m ws → take (at .table) work' ≡ take (at .table) work
 
 module _ (Stage Next : Sections → List Sections → Type 0) (at : Places) (work work' : List ℕ) (p : Step Stage Next at work work') where
+  -- the next stage holds of some model and witnesses
   pub step-some : Some Stage → Some Next
   step-some s = record { m = s .m; ws = s .ws; holds = p .next (s .m) (s .ws) (s .holds) }
 
+  -- what comes out of the next stage comes out of this one
   pub step-goes : (work'' : List ℕ) (r : Merging) → Goes Next at work' work'' r → Goes Stage at work work'' r
   step-goes work'' r g = record { goes = λ m ws k. outcome-back m ws at work work' work'' r (p .kept m ws k) (g .goes m ws (p .next m ws k)) }

@@ -23,20 +23,25 @@ pub table-first : (at : Places) (m : Sections) (ws : List Sections) → Regions 
 table-first at m ws r = omega (arith, r .vars, r .gates, r .definitions, r .bads, r .limits, r .end)
 
 module _ (mc : AagCounts) (t : Totals) (at : Places) (work : List ℕ) where
+  -- as the code asks for it
   pub clear-can : Some (Mergeable mc t at work) → (at .table ≤ at .end) × (at .end ≤ length work)
   clear-can s = (table-first at (s .m) (s .ws) (s .holds .base .plan .regions), s .holds .base .fits)
 
   module _ (work' : List ℕ) (is : work' ≡ put work (at .table) (zeros (at .end - at .table))) where
     module _ (m : Sections) (ws : List Sections) (k : Mergeable mc t at work m ws) where
+      -- the regions have their order
       order : at .table ≤ at .end
       order = table-first at m ws (k .base .plan .regions)
 
+      -- no word more or less
       same : length work' ≡ length work
       same = ap length is ∙ put-length work (at .table) (zeros (at .end - at .table)) (omega (arith, zeros-length (at .end - at .table), order, k .base .fits))
 
+      -- nothing in front of the table is written
       front : take (at .table) work' ≡ take (at .table) work
       front = ap (take (at .table)) is ∙ put-take work (at .table) (zeros (at .end - at .table)) (omega (arith, order, k .base .fits)) (at .table) (omega arith)
 
+      -- the next stage
       cleared : Cleared mc t at work' m ws
       cleared =
           record {
@@ -46,11 +51,14 @@ module _ (mc : AagCounts) (t : Totals) (at : Places) (work : List ℕ) where
             clean = record { is = ap (λ (w : List ℕ). part w (at .table) (at .end)) is ∙ cleared-part work (at .table) (at .end) order (k .base .fits) };
           }
 
+    -- the pass as a step
     step : Step (Mergeable mc t at work) (Cleared mc t at work') at work work'
     step = record { next = cleared; kept = front }
 
+    -- the next stage holds
     pub clear-next : Some (Mergeable mc t at work) → Some (Cleared mc t at work')
     clear-next = step-some (Mergeable mc t at work) (Cleared mc t at work') at work work' step
 
+    -- what comes out of it
     pub clear-goes : (work'' : List ℕ) (r : Merging) → Goes (Cleared mc t at work') at work' work'' r → Goes (Mergeable mc t at work) at work work'' r
     clear-goes = step-goes (Mergeable mc t at work) (Cleared mc t at work') at work work' step

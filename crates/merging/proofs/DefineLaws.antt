@@ -65,6 +65,7 @@ differs-false : (b : Bool) (n : ℕ) → answer.Differs ≡ cond b (answer.Agree
 differs-false true n e = absurd (let z : _≡_ {A = ℕ} 0 1 = cc in omega arith)
 differs-false false n e = refl
 
+-- and where there is a count
 agreed-true : (b : Bool) (n q : ℕ) → answer.Agreed q ≡ cond b (answer.Agreed n) answer.Differs → b ≡ true
 agreed-true true n q e = refl
 agreed-true false n q e = absurd (let z : _≡_ {A = ℕ} 0 1 = cc in omega arith)
@@ -95,21 +96,27 @@ module _ (t : Totals) (at : Places) (first next g : ℕ) (work : List ℕ) where
   ds = definedAt (at .latches) (t .latches) (at .vars) own work
 
   module _ (m : Sections) (ws : List Sections) (k : GatesShared t at first next g work m ws) where
+    -- what does not change
     abbrev plan : Plan at m ws
     plan = k .base .plan
 
+    -- where everything stands
     abbrev places : Regions m ws at
     places = plan .regions
 
+    -- how many joint latch words there are
     counted : 2 * t .latches ≡ length (joint (listOf literals.Latches) ws)
     counted = omega (arith, k .totals .latches, joint-latches-length ws)
 
+    -- the numbers of the latches stand in their place
     own-has : Has work own (latchNumbers m ws)
     own-has = rw (k .totals .inputs) (k .shared .leaves .latches)
 
+    -- they are the words that are read
     own-are : latchVariables own (t .latches) work ≡ latchNumbers m ws
     own-are = part-has work own (latchNumbers m ws) own-has (t .latches) (k .totals .latches ∙ sym (latches-long m ws))
 
+    -- the words up to the end of the definitions
     room : at .definitions + 2 * totalOf latchCount ws ≤ at .end
     room = omega (arith, places .bads, places .limits, places .end)
 
@@ -124,6 +131,7 @@ module _ (t : Totals) (at : Places) (first next g : ℕ) (work : List ℕ) where
         each-word (Joint ws) work (at .latches) (2 * t .latches) (omega (arith, ahead, k .base .fits, room, places .gates, places .definitions))
         (literals-in at work m ws (k .base) (k .shared) literals.Latches (at .latches) (2 * t .latches) (k .base .stands .latches) counted)
 
+    -- it holds of the stage
     can : Can
     can =
         record {
@@ -147,6 +155,7 @@ module _ (t : Totals) (at : Places) (first next g : ℕ) (work : List ℕ) where
               (subst (λ (n : ℕ). InTurn n 0 (latchNumbers m ws)) (sym (k .first)) (entries-in-turn (suc (length (inputFirsts m ws))) (latchEntries m 0 ws)));
         }
 
+    -- as many latches are met as the composition has
     met : metIn first 0 (latchVariables own (t .latches) work) ≡ length (latchFirsts m ws)
     met = ap₂ (λ (n : ℕ) (l : List ℕ). metIn n 0 l) (k .first) own-are ∙ entries-met (suc (length (inputFirsts m ws))) (latchEntries m 0 ws)
 
@@ -166,19 +175,21 @@ module _ (t : Totals) (at : Places) (first next g : ℕ) (work : List ℕ) where
         (literals-translated at work m ws (k .base) (k .shared) literals.Latches (at .latches) (2 * t .latches) (k .base .stands .latches) counted)
         ∙ sym (joint-defined m ws (plan .range))
 
+    -- what is stored are the words of the composed latches
     stored : definitionsFrom first (metIn first 0 (latchVariables own (t .latches) work)) ds ≡ definitionWords m ws
     stored =
         ap₂ (λ (n c : ℕ). definitionsFrom n c ds) (k .first) met
         ∙ ap (λ (l : List Defined). definitionsFrom (suc (length (inputFirsts m ws))) (length (latchFirsts m ws)) l) defs
         ∙ composed-words (allDefined (whole m ws)) (suc (length (inputFirsts m ws))) (latchFirsts m ws)
 
-  pub latches-can : Some (GatesShared t at first next g work) → Can
-  latches-can s = can (s .m) (s .ws) (s .holds)
+  -- as the code asks for it
+  pub definitions-can : Some (GatesShared t at first next g work) → Can
+  definitions-can s = can (s .m) (s .ws) (s .holds)
 
   module _ (work' : List ℕ) (r : DefinedLatches) (post : Defines (at .latches) (t .latches) (at .vars) own (at .definitions) first work work' r) where
     -- 18
-    pub latches-differ : r ≡ answer.Differs → (work'' : List ℕ) → Goes (GatesShared t at first next g work) at work work'' (merging.Refused 18)
-    latches-differ e work'' =
+    pub definitions-differ : r ≡ answer.Differs → (work'' : List ℕ) → Goes (GatesShared t at first next g work) at work work'' (merging.Refused 18)
+    definitions-differ e work'' =
         record {
           goes = λ m ws k rest.
               let f = sym (ap agree (defs m ws k)) ∙ differs-false (agree ds) (metIn first 0 (latchVariables own (t .latches) work)) (sym e ∙ post .returns) in
@@ -191,18 +202,23 @@ module _ (t : Totals) (at : Places) (first next g : ℕ) (work : List ℕ) where
       agreed = agreed-true (agree ds) (metIn first 0 (latchVariables own (t .latches) work)) q (sym e ∙ post .returns)
 
       module _ (m : Sections) (ws : List Sections) (k : GatesShared t at first next g work m ws) where
+        -- the words after the definitions are stored
         is : work' ≡ put work (at .definitions) (definitionWords m ws)
         is = post .stored agreed ∙ ap (put work (at .definitions)) (stored m ws k)
 
+        -- there is room for them
         fits : at .definitions + length (definitionWords m ws) ≤ length work
         fits = omega (arith, definitions-long m ws, room m ws k, k .base .fits)
 
+        -- nothing in front of the definitions is written
         ahead-kept : take (at .definitions) work' ≡ take (at .definitions) work
         ahead-kept = ap (take (at .definitions)) is ∙ put-take work (at .definitions) (definitionWords m ws) (omega (arith, fits)) (at .definitions) (omega arith)
 
+        -- nothing in front of the table is written
         front : take (at .table) work' ≡ take (at .table) work
         front = take-kept work' work (at .definitions) ahead-kept (at .table) (omega (arith, places m ws k .vars, places m ws k .gates, places m ws k .definitions))
 
+        -- the next stage
         defined : LatchesDefined at first next g work' m ws
         defined =
             record {
@@ -221,11 +237,14 @@ module _ (t : Totals) (at : Places) (first next g : ℕ) (work : List ℕ) where
                   (omega arith) (omega (arith, places m ws k .bads)) (omega (arith, places m ws k .limits, places m ws k .end));
             }
 
+      -- the pass as a step
       step : Step (GatesShared t at first next g work) (LatchesDefined at first next g work') at work work'
       step = record { next = defined; kept = front }
 
-      pub latches-next : Some (GatesShared t at first next g work) → Some (LatchesDefined at first next g work')
-      latches-next = step-some (GatesShared t at first next g work) (LatchesDefined at first next g work') at work work' step
+      -- the next stage holds
+      pub definitions-next : Some (GatesShared t at first next g work) → Some (LatchesDefined at first next g work')
+      definitions-next = step-some (GatesShared t at first next g work) (LatchesDefined at first next g work') at work work' step
 
-      pub latches-goes : (work'' : List ℕ) (o : Merging) → Goes (LatchesDefined at first next g work') at work' work'' o → Goes (GatesShared t at first next g work) at work work'' o
-      latches-goes = step-goes (GatesShared t at first next g work) (LatchesDefined at first next g work') at work work' step
+      -- what comes out of it
+      pub definitions-goes : (work'' : List ℕ) (o : Merging) → Goes (LatchesDefined at first next g work') at work' work'' o → Goes (GatesShared t at first next g work) at work work'' o
+      definitions-goes = step-goes (GatesShared t at first next g work) (LatchesDefined at first next g work') at work work' step

@@ -42,6 +42,7 @@ many-false : (b : Bool) (n : ℕ) → answer.TooMany ≡ cond b (answer.All n) a
 many-false true n e = absurd (let z : _≡_ {A = ℕ} 0 1 = cc in omega arith)
 many-false false n e = refl
 
+-- and how many gates there are
 all-true : (b : Bool) (n g : ℕ) → answer.All g ≡ cond b (answer.All n) answer.TooMany → (b ≡ true) × (g ≡ n)
 all-true true n g e = let h : g ≡ n = cc in (refl, h)
 all-true false n g e = absurd (let z : _≡_ {A = ℕ} 0 1 = cc in omega arith)
@@ -56,18 +57,23 @@ module _ (t : Totals) (at : Places) (first next : ℕ) (work : List ℕ) where
   Can = Sharable (at .operands) (t .gates) (at .vars) known (at .gates) (next - 1) work
 
   module _ (m : Sections) (ws : List Sections) (k : LeavesNumbered t at first next work m ws) where
+    -- what does not change
     abbrev plan : Plan at m ws
     plan = k .base .plan
 
+    -- where everything stands
     abbrev places : Regions m ws at
     places = plan .regions
 
+    -- the inputs and latches of the composition
     leaves-are : next - 1 ≡ leafCount m ws
     leaves-are = omega (arith, k .next)
 
+    -- their composed variables
     vars-are : part work (at .vars) (at .vars + known) ≡ leafVars m ws
     vars-are = part-has work (at .vars) (leafVars m ws) (k .vars) known (omega (arith, k .totals .inputs, k .totals .latches, leaf-vars-length m ws))
 
+    -- the joint operands
     operands-are : part work (at .operands) (at .operands + 2 * t .gates) ≡ joint (listOf literals.Operands) ws
     operands-are =
         part-has work (at .operands) (joint (listOf literals.Operands) ws) (k .base .stands .operands) (2 * t .gates) (omega (arith, k .totals .gates, joint-operands-length ws))
@@ -88,6 +94,7 @@ module _ (t : Totals) (at : Places) (first next : ℕ) (work : List ℕ) where
     room : at .gates + (4 * totalOf gateCount ws + 1) ≤ at .end
     room = omega (arith, places .definitions, places .bads, places .limits, places .end)
 
+    -- it holds of the stage
     can : Can
     can =
         record {
@@ -111,6 +118,7 @@ module _ (t : Totals) (at : Places) (first next : ℕ) (work : List ℕ) where
         ap (λ (n : ℕ). shareGates (suc n) (pairsOf (gateFrom 0) (part work (at .operands) (at .operands + 2 * t .gates))) (record { vars = part work (at .vars) (at .vars + known); gates = [] })) leaves-are
         ∙ ap₂ (λ (os vs : List ℕ). shareGates (suc (leafCount m ws)) (pairsOf (gateFrom 0) os) (record { vars = vs; gates = [] })) operands-are vars-are
 
+    -- its gates are the composed ones
     gates-are : sharedIn (at .operands) (t .gates) (at .vars) known (next - 1) work .gates ≡ composedGates m ws
     gates-are = ap (λ (s : Shared). s .gates) given ∙ joint-gates m ws (plan .range)
 
@@ -118,6 +126,7 @@ module _ (t : Totals) (at : Places) (first next : ℕ) (work : List ℕ) where
     test-is : gatesFit (next - 1) (sharedIn (at .operands) (t .gates) (at .vars) known (next - 1) work .gates) ≡ gatesFit (leafCount m ws) (composedGates m ws)
     test-is = ap₂ (λ (n : ℕ) (gs : List Operands). gatesFit n gs) leaves-are gates-are
 
+  -- as the code asks for it
   pub gates-can : Some (LeavesNumbered t at first next work) → Can
   gates-can s = can (s .m) (s .ws) (s .holds)
 
@@ -145,21 +154,26 @@ module _ (t : Totals) (at : Places) (first next : ℕ) (work : List ℕ) where
           (length (sharedIn (at .operands) (t .gates) (at .vars) known (next - 1) work .gates)) g (sym e ∙ post .returns)
 
       module _ (m : Sections) (ws : List Sections) (k : LeavesNumbered t at first next work m ws) where
+        -- the words after the joint circuit is shared
         linked : Linked (t .gates) (at .vars) known (at .gates) work (jointShared m ws) work'
         linked = subst (λ (s : Shared). Linked (t .gates) (at .vars) known (at .gates) work s work') (given m ws k) (post .words (answered .0))
 
+        -- nothing in front of the table is written
         front : take (at .table) work' ≡ take (at .table) work
         front = take-kept work' work (at .vars + known) (linked .before) (at .table) (omega (arith, places m ws k .vars))
 
+        -- there is room for all composed variables
         vars-end : at .vars + (known + t .gates) ≤ length work'
         vars-end = omega (arith, same, can m ws k .second, can m ws k .third)
 
+        -- the table has the keys of the composed gates
         keys : Held (totalOf gateCount ws + 1) (map keyOf (composedGates m ws)) (part work' (at .gates) (at .gates + (4 * totalOf gateCount ws + 1)))
         keys =
             subst (λ (x : ℕ). Held (x + 1) (map keyOf (composedGates m ws)) (part work' (at .gates) (at .gates + (4 * x + 1)))) (k .totals .gates)
             (subst (λ (gs : List Operands). Held (t .gates + 1) (map keyOf gs) (part work' (at .gates) (tableEnd (at .gates) (t .gates)))) (joint-gates m ws (plan m ws k .range))
             (linked .keys))
 
+        -- all composed variables and gates
         shared : stage.Shared at work' m ws
         shared =
             let s : at .vars + (known + t .gates) ≡ at .vars + known + t .gates = omega arith in
@@ -178,6 +192,7 @@ module _ (t : Totals) (at : Places) (first next : ℕ) (work : List ℕ) where
               keys = keys;
             }
 
+        -- the next stage
         gates-shared : GatesShared t at first next g work' m ws
         gates-shared =
             record {
@@ -194,11 +209,14 @@ module _ (t : Totals) (at : Places) (first next : ℕ) (work : List ℕ) where
                   (omega (arith, places m ws k .bads, places m ws k .limits, places m ws k .end));
             }
 
+      -- the pass as a step
       step : Step (LeavesNumbered t at first next work) (GatesShared t at first next g work') at work work'
       step = record { next = gates-shared; kept = front }
 
+      -- the next stage holds
       pub gates-next : Some (LeavesNumbered t at first next work) → Some (GatesShared t at first next g work')
       gates-next = step-some (LeavesNumbered t at first next work) (GatesShared t at first next g work') at work work' step
 
+      -- what comes out of it
       pub gates-goes : (work'' : List ℕ) (o : Merging) → Goes (GatesShared t at first next g work') at work' work'' o → Goes (LeavesNumbered t at first next work) at work work'' o
       gates-goes = step-goes (LeavesNumbered t at first next work) (GatesShared t at first next g work') at work work' step

@@ -30,9 +30,11 @@ module _ (mc : AagCounts) (t : Totals) (at : Places) (work : List ℕ) where
   Can = CanNumber (at .«input_origins») (t .inputs) (at .table) (mc .inputs) 0 (at .vars + 1) 1 work
 
   module _ (m : Sections) (ws : List Sections) (k : Cleared mc t at work m ws) where
+    -- what does not change
     abbrev plan : Plan at m ws
     plan = k .base .plan
 
+    -- where everything stands
     abbrev places : Regions m ws at
     places = plan .regions
 
@@ -44,6 +46,7 @@ module _ (mc : AagCounts) (t : Totals) (at : Places) (work : List ℕ) where
     room : at .vars + 1 + totalOf inputCount ws ≤ at .end
     room = omega (arith, places .gates, places .definitions, places .bads, places .limits, places .end)
 
+    -- it holds of the stage
     can : Can
     can =
         record {
@@ -60,6 +63,7 @@ module _ (mc : AagCounts) (t : Totals) (at : Places) (work : List ℕ) where
         leaves-numbers leaf.Inputs m ws work (at .«input_origins») (t .inputs) 0 (mc .inputs) (k .base .stands .inputOrigins) counted refl (k .model .inputs) (at .table) 1
         (clean-part work (at .table) (at .end) (k .clean) (at .table) (mc .inputs) (omega arith) (omega (arith, k .model .inputs, places .vars, room)))
 
+  -- as the code asks for it
   pub inputs-can : Some (Cleared mc t at work) → Can
   inputs-can s = can (s .m) (s .ws) (s .holds)
 
@@ -69,15 +73,18 @@ module _ (mc : AagCounts) (t : Totals) (at : Places) (work : List ℕ) where
 
   module _ (work' : List ℕ) (n : ℕ) (same : length work' ≡ length work) (post : Numbered (at .«input_origins») (t .inputs) (at .table) (mc .inputs) 0 (at .vars + 1) 1 work work' n) where
     module _ (m : Sections) (ws : List Sections) (k : Cleared mc t at work m ws) where
+      -- nothing in front of the table is written
       front : take (at .table) work' ≡ take (at .table) work
       front = numbered-before (at .«input_origins») (t .inputs) (at .table) (mc .inputs) 0 (at .vars + 1) 1 work work' n (can m ws k) post
 
+      -- the numbers stand in their place
       stored : part work' (at .vars + 1) (at .vars + 1 + t .inputs) ≡ inputNumbers m ws
       stored =
           numbers-stored (at .«input_origins») (t .inputs) (at .table) (mc .inputs) 0 (at .vars + 1) 1 work work' n (can m ws k) post
           ∙ ap (λ (x : Numbers). x .numbers) (given m ws k)
           ∙ input-numbers m ws
 
+      -- the next stage
       numbered : InputsNumbered mc t at n work' m ws
       numbered =
           record {
@@ -98,11 +105,14 @@ module _ (mc : AagCounts) (t : Totals) (at : Places) (work : List ℕ) where
                 (omega (arith, k .totals .inputs)) (omega (arith, places m ws k .vars)) (room m ws k);
           }
 
+    -- the pass as a step
     step : Step (Cleared mc t at work) (InputsNumbered mc t at n work') at work work'
     step = record { next = numbered; kept = front }
 
+    -- the next stage holds
     pub inputs-next : Some (Cleared mc t at work) → Some (InputsNumbered mc t at n work')
     inputs-next = step-some (Cleared mc t at work) (InputsNumbered mc t at n work') at work work' step
 
+    -- what comes out of it
     pub inputs-goes : (work'' : List ℕ) (r : Merging) → Goes (InputsNumbered mc t at n work') at work' work'' r → Goes (Cleared mc t at work) at work work'' r
     inputs-goes = step-goes (Cleared mc t at work) (InputsNumbered mc t at n work') at work work' step

@@ -36,6 +36,7 @@ module _ (at : Places) (work : List ℕ) (m : Sections) (ws : List Sections) (b 
   most : leafCount m ws + length (composedGates m ws) ≤ variableTotal ws
   most = omega (arith, leaf-count-most m ws, composed-gates-most m ws (b .plan .range))
 
+  -- none of those in the list
   pub vars-low : Each (λ x. x ≤ variableTotal ws) (jointShared m ws .vars)
   vars-low =
       each-so (λ x. x ≤ leafCount m ws + length (composedGates m ws)) (λ x. x ≤ variableTotal ws) (λ x h. omega (arith, most)) (jointShared m ws .vars)
@@ -45,6 +46,7 @@ module _ (at : Places) (work : List ℕ) (m : Sections) (ws : List Sections) (b 
   pub vars-are : part work (at .vars) (at .vars + suc (variableTotal ws)) ≡ jointShared m ws .vars
   vars-are = part-has work (at .vars) (jointShared m ws .vars) (s .vars) (suc (variableTotal ws)) (sym (joint-vars-length m ws))
 
+  -- none of those in the words
   pub var-low : (x : ℕ) → x < suc (variableTotal ws) → getD work (at .vars + x) 0 ≤ variableTotal ws
   var-low x h =
       let inside : x < length (jointShared m ws .vars) = omega (arith, joint-vars-length m ws) in

@@ -32,9 +32,11 @@ module _ (mc : AagCounts) (t : Totals) (at : Places) (first : ℕ) (work : List 
   Can = CanNumber (at .«latch_origins») (t .latches) (at .table + mc .inputs) (mc .latches) (mc .inputs) (at .vars + 1 + t .inputs) first work
 
   module _ (m : Sections) (ws : List Sections) (k : InputsNumbered mc t at first work m ws) where
+    -- what does not change
     abbrev plan : Plan at m ws
     plan = k .base .plan
 
+    -- where everything stands
     abbrev places : Regions m ws at
     places = plan .regions
 
@@ -46,6 +48,7 @@ module _ (mc : AagCounts) (t : Totals) (at : Places) (first : ℕ) (work : List 
     room : at .vars + 1 + totalOf inputCount ws + totalOf latchCount ws ≤ at .end
     room = omega (arith, places .gates, places .definitions, places .bads, places .limits, places .end)
 
+    -- it holds of the stage
     can : Can
     can =
         record {
@@ -72,6 +75,7 @@ module _ (mc : AagCounts) (t : Totals) (at : Places) (first : ℕ) (work : List 
         (at .table + mc .inputs) first empty
         ∙ ap (λ (n : ℕ). numberAll (length (m .inputs)) n (origins leaf.Latches m ws) (zeros (length (m .latches)))) (k .next)
 
+  -- as the code asks for it
   pub latches-can : Some (InputsNumbered mc t at first work) → Can
   latches-can s = can (s .m) (s .ws) (s .holds)
 
@@ -81,6 +85,7 @@ module _ (mc : AagCounts) (t : Totals) (at : Places) (first : ℕ) (work : List 
 
   module _ (work' : List ℕ) (next : ℕ) (same : length work' ≡ length work) (post : Numbered (at .«latch_origins») (t .latches) (at .table + mc .inputs) (mc .latches) (mc .inputs) (at .vars + 1 + t .inputs) first work work' next) where
     module _ (m : Sections) (ws : List Sections) (k : InputsNumbered mc t at first work m ws) where
+      -- nothing in front of the table is written
       front : take (at .table) work' ≡ take (at .table) work
       front =
           take-kept work' work (at .table + mc .inputs)
@@ -93,6 +98,7 @@ module _ (mc : AagCounts) (t : Totals) (at : Places) (first : ℕ) (work : List 
           numbered-between (at .«latch_origins») (t .latches) (at .table + mc .inputs) (mc .latches) (mc .inputs) (at .vars + 1 + t .inputs) first work work' next (can m ws k) post
           a e (omega (arith, k .model .inputs, k .model .latches, places m ws k .vars)) i
 
+      -- there is room for the numbers
       size : at .vars + 1 + t .inputs + t .latches ≤ length work'
       size = omega (arith, same, can m ws k .third)
 
@@ -103,11 +109,13 @@ module _ (mc : AagCounts) (t : Totals) (at : Places) (first : ℕ) (work : List 
           (between (at .vars) (at .vars + 1) (omega arith) (omega arith)
           ∙ clean-part work (at .table + length (m .inputs)) (at .vars + 1) (k .between) (at .vars) 1 (omega (arith, places m ws k .vars)) (omega arith))
 
+      -- the numbers of inputs stay
       inputs : Has work' (at .vars + 1) (inputNumbers m ws)
       inputs =
           has-part work' (at .vars + 1) (length (inputNumbers m ws)) (inputNumbers m ws) refl (omega (arith, size, inputs-long m ws, k .totals .inputs))
           (between (at .vars + 1) (at .vars + 1 + length (inputNumbers m ws)) (omega arith) (omega (arith, inputs-long m ws, k .totals .inputs)) ∙ k .inputs .is)
 
+      -- the numbers of latches stand in their place
       latches : Has work' (at .vars + 1 + t .inputs) (latchNumbers m ws)
       latches =
           has-part work' (at .vars + 1 + t .inputs) (t .latches) (latchNumbers m ws) (k .totals .latches ∙ sym (latches-long m ws)) size
@@ -115,6 +123,7 @@ module _ (mc : AagCounts) (t : Totals) (at : Places) (first : ℕ) (work : List 
           ∙ ap (λ (x : Numbers). x .numbers) (given m ws k)
           ∙ latch-numbers m ws)
 
+      -- the next stage
       numbered : LeavesNumbered t at first next work' m ws
       numbered =
           record {
@@ -133,11 +142,14 @@ module _ (mc : AagCounts) (t : Totals) (at : Places) (first : ℕ) (work : List 
                 (omega (arith, k .totals .inputs, k .totals .latches)) (omega arith) (room m ws k);
           }
 
+    -- the pass as a step
     step : Step (InputsNumbered mc t at first work) (LeavesNumbered t at first next work') at work work'
     step = record { next = numbered; kept = front }
 
+    -- the next stage holds
     pub latches-next : Some (InputsNumbered mc t at first work) → Some (LeavesNumbered t at first next work')
     latches-next = step-some (InputsNumbered mc t at first work) (LeavesNumbered t at first next work') at work work' step
 
+    -- what comes out of it
     pub latches-goes : (work'' : List ℕ) (r : Merging) → Goes (LeavesNumbered t at first next work') at work' work'' r → Goes (InputsNumbered mc t at first work) at work work'' r
     latches-goes = step-goes (InputsNumbered mc t at first work) (LeavesNumbered t at first next work') at work work' step

@@ -27,6 +27,7 @@ use Rattle.merging.proofs.WordLaws.{part-has}
 pub inputs-long : (m : Sections) (ws : List Sections) → length (inputNumbers m ws) ≡ totalOf inputCount ws
 inputs-long m ws = length-map (inputEntries m 0 ws) (numbered 1 (inputFirsts m ws)) ∙ input-entries-length m 0 ws
 
+-- the same for latches
 pub latches-long : (m : Sections) (ws : List Sections) → length (latchNumbers m ws) ≡ totalOf latchCount ws
 latches-long m ws = length-map (latchEntries m 0 ws) (numbered (suc (length (inputFirsts m ws))) (latchFirsts m ws)) ∙ latch-entries-length m 0 ws
 

@@ -39,11 +39,13 @@ module _ (work : List ℕ) (a : ℕ) (xs : List ℕ) (h : Has work a xs) where
 
 -- ---- words that are 0
 
+-- zeros, some left out
 zeros-drop : (k n : ℕ) → drop k (zeros n) ≡ zeros (n - k)
 zeros-drop zero n = let e : n - 0 ≡ n = omega arith in rw e refl
 zeros-drop (suc k) zero = let e : 0 - suc k ≡ 0 = omega arith in rw e refl
 zeros-drop (suc k) (suc n) = let e : suc n - suc k ≡ n - k = omega arith in rw e (zeros-drop k n)
 
+-- a part of zeros
 zeros-part : (n a e : ℕ) → e ≤ n → part (zeros n) a e ≡ zeros (e - a)
 zeros-part n a e h = ap (take (e - a)) (zeros-drop a n) ∙ zeros-take (e - a) (n - a) (omega arith)
 

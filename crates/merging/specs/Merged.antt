@@ -70,10 +70,11 @@ pub record Mergeable (mc : AagCounts) (t : Totals) (at : Places) (work : List �
 
 -- ---- after
 
--- the composed variables of all inputs, and of all latches
+-- the composed variables of all inputs
 abbrev pub inputNumbers : Sections → List Sections → List ℕ
 inputNumbers m ws = map (numbered 1 (inputFirsts m ws)) (inputEntries m 0 ws)
 
+-- and of all latches
 abbrev pub latchNumbers : Sections → List Sections → List ℕ
 latchNumbers m ws = map (numbered (suc (length (inputFirsts m ws))) (latchFirsts m ws)) (latchEntries m 0 ws)
 
@@ -117,6 +118,7 @@ abbrev pub Refuses : Sections → List Sections → ℕ → Type 0
 Refuses m ws k =
     (rest : Answer Sections) → unless 17 (gatesFit (leafCount m ws) (composedGates m ws)) (unless 18 (agree (allDefined (whole m ws))) rest) ≡ refused k
 
+-- what comes out
 abbrev pub Outcome : Sections → List Sections → Places → List ℕ → List ℕ → Merging → Type 0
 Outcome m ws at work work' (merging.Done c) = Done m ws at work work' c
 Outcome m ws at work work' (merging.Refused k) = Refuses m ws k

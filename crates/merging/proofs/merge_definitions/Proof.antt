@@ -1,5 +1,5 @@
 use borrow.Author.Needs.{needs}
-use Rattle.merging.proofs.DefineLaws.{latches-can, latches-differ, latches-next, latches-goes}
+use Rattle.merging.proofs.DefineLaws.{definitions-can, definitions-differ, definitions-next, definitions-goes}
 use Rattle.merging.proofs.merge_definitions.Statement.{statement}
 use Rattle.merging.proofs.merge_definitions.Tie as tie
 
@@ -10,7 +10,7 @@ add-own-2 : tie.Need-add-own-2
 add-own-2 c = search needs
 
 define-latches-requires : tie.Need-define-latches-requires
-define-latches-requires c κs = search latches-can
+define-latches-requires c κs = search definitions-can
 
 enum-told : tie.Need-enum-told
 enum-told c = search needs
@@ -19,19 +19,19 @@ enum-told-2 : tie.Need-enum-told-2
 enum-told-2 c = search needs
 
 merge-literals-requires : tie.Need-merge-literals-requires
-merge-literals-requires c κs = search latches-next
+merge-literals-requires c κs = search definitions-next
 
 same-length : tie.Need-same-length
 same-length c = search needs
 
 returns : tie.Need-returns
-returns c = search latches-differ
+returns c = search definitions-differ
 
 same-length-2 : tie.Need-same-length-2
 same-length-2 c = search needs
 
 returns-2 : tie.Need-returns-2
-returns-2 c = search latches-goes
+returns-2 c = search definitions-goes
 
 pub merge-definitions-spec : {M : Type 1} → statement M
 merge-definitions-spec =
