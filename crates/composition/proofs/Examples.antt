@@ -18,19 +18,19 @@ use Rattle.composition.specs.Printing.{printed}
 use Rattle.composition.specs.Calling.{composeTexts, composeCall}
 
 -- `aag 1 0 1 0 0`, `2 2`
-abbrev model : Bytes
+abbrev pub model : Bytes
 model = 97 ∷ 97 ∷ 103 ∷ 32 ∷ 49 ∷ 32 ∷ 48 ∷ 32 ∷ 49 ∷ 32 ∷ 48 ∷ 32 ∷ 48 ∷ 10 ∷ 50 ∷ 32 ∷ 50 ∷ 10 ∷ []
 
 -- `aag 1 0 1 1 0`, `2 2`, `2`
-abbrev first : Bytes
+abbrev pub first : Bytes
 first = 97 ∷ 97 ∷ 103 ∷ 32 ∷ 49 ∷ 32 ∷ 48 ∷ 32 ∷ 49 ∷ 32 ∷ 49 ∷ 32 ∷ 48 ∷ 10 ∷ 50 ∷ 32 ∷ 50 ∷ 10 ∷ 50 ∷ 10 ∷ []
 
 -- "and the same ending in `3`"
-abbrev second : Bytes
+abbrev pub second : Bytes
 second = 97 ∷ 97 ∷ 103 ∷ 32 ∷ 49 ∷ 32 ∷ 48 ∷ 32 ∷ 49 ∷ 32 ∷ 49 ∷ 32 ∷ 48 ∷ 10 ∷ 50 ∷ 32 ∷ 50 ∷ 10 ∷ 51 ∷ 10 ∷ []
 
 -- 01's composing case: the text that it prints
-abbrev together : Bytes
+abbrev pub together : Bytes
 together =
     97 ∷ 97 ∷ 103 ∷ 32 ∷ 49 ∷ 32 ∷ 48 ∷ 32 ∷ 49 ∷ 32 ∷ 48 ∷ 32 ∷ 48 ∷ 32 ∷ 50 ∷ 32 ∷ 48 ∷ 32 ∷ 48 ∷ 32 ∷ 48 ∷ 10
     ∷ 50 ∷ 32 ∷ 50 ∷ 32 ∷ 48 ∷ 10

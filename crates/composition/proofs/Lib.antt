@@ -13,4 +13,7 @@ pub mod PlainLaws
 pub mod BackLaws
 pub mod PrintableLaws
 pub mod DemandLaws
-mod Examples
+pub mod Examples
+pub mod WorkedMappings
+pub mod WorkedCompositions
+pub mod WorkedCalls
