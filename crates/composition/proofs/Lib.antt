@@ -17,3 +17,4 @@ pub mod Examples
 pub mod WorkedMappings
 pub mod WorkedCompositions
 pub mod WorkedCalls
+pub mod WorkedMeanings

@@ -1,10 +1,9 @@
 -- Worked examples of the composer's call (01, item 8 and reasons 1, 2, 15, 20) on texts, and of the text that it prints. Each is computed.
 use Prim.Native.Nat.{ℕ}
-use mathlib.Core.Bool.{Bool, true, false}
 use mathlib.Core.List.{List, [], _∷_, _++_, map}
-use mathlib.Core.Option.{Option, some, none}
+use mathlib.Core.Option.{some, none}
 use mathlib.Core.Path.{_≡_, refl}
-use lib.ListN.{length, replicate}
+use lib.ListN.{replicate}
 use Rattle.lists.specs.Answer.{Answer, got, refused}
 use Rattle.lists.specs.Parts.{Bytes}
 use Rattle.lists.specs.Tests.{every}
@@ -21,9 +20,9 @@ use Rattle.witness.specs.Order.{latchNumbered, gateNumbered, wellNumbered}
 use Rattle.witness.specs.Reading.{readAag}
 use Rattle.composition.specs.Composing.{compose}
 use Rattle.composition.specs.Printing.{printed}
-use Rattle.composition.specs.Calling.{size, sizes, composeSections, composeTexts, composeCall}
+use Rattle.composition.specs.Calling.{sizes, composeSections, composeTexts, composeCall}
 use Rattle.composition.specs.Meaning.{Composition}
-use Rattle.composition.proofs.WorkedMappings.{circuit, latch, to2, to4, x}
+use Rattle.composition.proofs.WorkedMappings.{circuit, latch, to4, x}
 use Rattle.composition.proofs.Examples.{model, first, second, together}
 use Rattle.composition.proofs.DemandLaws.{composition-means}
 
@@ -151,6 +150,10 @@ wrong = 108 ∷ 48 ∷ 32 ∷ 61 ∷ 32 ∷ 57 ∷ 10 ∷ []
 abbrev plainly : Bytes
 plainly = 111 ∷ 48 ∷ 32 ∷ 61 ∷ 32 ∷ 57 ∷ 10 ∷ []
 
+-- `l0 a`, `l0 b`
+abbrev twice : Bytes
+twice = 108 ∷ 48 ∷ 32 ∷ 97 ∷ 10 ∷ 108 ∷ 48 ∷ 32 ∷ 98 ∷ 10 ∷ []
+
 -- the model before the witnesses (4 before 3), witness 0 before witness 1 (11 before 3), and 3 to 11 of witness 1 before 16 of witness 0
 pub in-turn : with-texts (120 ∷ 10 ∷ []) ([] ∷ first ∷ []) ∷ with-texts model (high ∷ [] ∷ []) ∷ with-texts model ((first ++ wrong) ∷ high ∷ []) ∷ []
     ≡ 4 ∷ 11 ∷ 11 ∷ []
@@ -182,9 +185,9 @@ weighed = circuit (none ∷ []) (replicate 2 (latch 0 0 none)) (replicate 8 0) (
 pub sum : sizes (weighed ∷ circuit [] [] [] [] [] [] ∷ weighed ∷ []) ≡ 126
 sum = refl
 
--- T is 5 for 01's texts, the model's latch and unused counts included: one word short is 15, also where 16 or 20 would apply; 20 with 81 bytes
+-- T is 5 for 01's texts, the model's M included: one word short is 15, also where 16 or 20 would apply; 11 and 9 come first, even with no word; 20 with 81 bytes
 pub work : number (composeTexts 1103 82 model (first ∷ second ∷ [])) ∷ number (composeTexts 1103 0 model (first ∷ (second ++ wrong) ∷ []))
-    ∷ number (composeTexts 0 0 model (first ∷ high ∷ [])) ∷ number (composeTexts 1104 81 model (first ∷ second ∷ [])) ∷ []
-    ≡ 15 ∷ 15 ∷ 11 ∷ 20 ∷ []
+    ∷ number (composeTexts 0 0 model (first ∷ high ∷ [])) ∷ number (composeTexts 0 0 model (first ∷ (second ++ twice) ∷ [])) ∷ number (composeTexts 1104 81 model (first ∷ second ∷ [])) ∷ []
+    ≡ 15 ∷ 15 ∷ 11 ∷ 9 ∷ 20 ∷ []
 unfolding composeCall readAag goodText every numberOf counted withoutLiveness symbolsOf symbolOf latchNumbered gateNumbered wellNumbered literal ordered compose printed decimal
 work = refl

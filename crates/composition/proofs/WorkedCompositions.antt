@@ -1,17 +1,18 @@
 -- Worked examples of item 8 of 01: gates, latches, safety and constraints of compositions, and 16 to 19 in their order. Each is computed.
-use mathlib.Core.Bool.{Bool, true, false}
-use mathlib.Core.List.{List, [], _∷_, map}
-use mathlib.Core.Option.{Option, some, none}
+use mathlib.Core.Bool.{true, false}
+use mathlib.Core.List.{List, [], _∷_}
+use mathlib.Core.Option.{none}
 use mathlib.Core.Path.{_≡_, refl}
 use Rattle.lists.specs.Answer.{got, refused}
-use Rattle.lists.specs.Firsts.{setOf}
+use Rattle.lists.specs.Tests.{all}
 use Rattle.text.specs.Numbers.{numberOf}
 use Rattle.aiger.specs.Gates.{gateFrom}
 use Rattle.decimal.specs.Decimal.{decimal}
 use Rattle.witness.specs.Sections.{Sections}
 use Rattle.composition.specs.Sharing.{Operands}
-use Rattle.composition.specs.Composing.{gatesFit, compose}
-use Rattle.composition.proofs.WorkedMappings.{circuit, latch, to2, to4, to6, w0input, w0latch, w1input, w1latch}
+use Rattle.composition.specs.Numbering.{leafCount}
+use Rattle.composition.specs.Composing.{mapsRight, composedGates, whole, gatesFit, allDefined, agree, safety, isSome, composed, compose}
+use Rattle.composition.proofs.WorkedMappings.{circuit, latch, to2, to4, to6, w0input, w0latch, w1latch}
 
 -- a model: inputs 2 and 4, latch 6
 abbrev small : Sections
@@ -159,6 +160,14 @@ pub and-true-disagrees : compose small
 unfolding compose numberOf decimal
 and-true-disagrees = refl
 
+-- next literals that are different gates
+pub gates-disagree : compose small
+    ((circuit (none ∷ none ∷ []) (latch 8 0 none ∷ []) (6 ∷ []) [] [] (gateFrom 8 2 4 ∷ []))
+    ∷ (circuit (none ∷ none ∷ []) (latch 8 0 none ∷ []) (6 ∷ []) [] [] (gateFrom 8 2 5 ∷ [])) ∷ [])
+    ≡ refused 18
+unfolding compose numberOf decimal
+gates-disagree = refl
+
 -- two latches of one witness mapped to one model latch are one where they agree; resets may be any literal
 pub own-two-agree : compose small
     ((circuit (to2 ∷ []) (latch 4 3 to6 ∷ latch 6 3 to6 ∷ []) (6 ∷ []) [] [] [])
@@ -236,3 +245,29 @@ gate = record { left = 0; right = 0 }
 pub fits : gatesFit 2000001 [] ∷ gatesFit 1999999 (gate ∷ []) ∷ gatesFit 2000000 (gate ∷ []) ∷ gatesFit 1999998 (gate ∷ gate ∷ []) ∷ gatesFit 1999999 (gate ∷ gate ∷ []) ∷ []
     ≡ true ∷ true ∷ false ∷ true ∷ false ∷ []
 fits = refl
+
+-- ---- "first one wins", for all sections: 16, 17, 18, 19, each over all witnesses
+
+module _ (m : Sections) (ws : List Sections) where
+  pub sixteen : all (mapsRight m) ws ≡ false → compose m ws ≡ refused 16
+  unfolding compose
+  sixteen a = rw a refl
+
+  module _ (a : all (mapsRight m) ws ≡ true) where
+    pub seventeen : gatesFit (leafCount m ws) (composedGates m ws) ≡ false → compose m ws ≡ refused 17
+    unfolding compose
+    seventeen b = rw a (rw b refl)
+
+    module _ (b : gatesFit (leafCount m ws) (composedGates m ws) ≡ true) where
+      pub eighteen : agree (allDefined (whole m ws)) ≡ false → compose m ws ≡ refused 18
+      unfolding compose
+      eighteen c = rw a (rw b (rw c refl))
+
+      module _ (c : agree (allDefined (whole m ws)) ≡ true) where
+        pub nineteen : all (λ s. isSome (safety s)) ws ≡ false → compose m ws ≡ refused 19
+        unfolding compose
+        nineteen d = rw a (rw b (rw c (rw d refl)))
+
+        pub accepted : all (λ s. isSome (safety s)) ws ≡ true → compose m ws ≡ got (composed m ws)
+        unfolding compose
+        accepted d = rw a (rw b (rw c (rw d refl)))

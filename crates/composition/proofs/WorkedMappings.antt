@@ -1,6 +1,5 @@
 -- Worked examples of item 8 of 01: what inputs and latches map to, their numbers and their names. Each is computed.
 use Prim.Native.Nat.{ℕ}
-use mathlib.Core.Bool.{Bool, true, false}
 use mathlib.Core.List.{List, [], _∷_, map}
 use mathlib.Core.Option.{Option, some, none}
 use mathlib.Core.Path.{_≡_, refl}
