@@ -1,5 +1,5 @@
 -- Worked examples of demand 3 of 01 for compositions: sections that are no composition of the two witnesses of 01's case, so that the meaning refuses them.
-use Prim.Native.Nat.{ℕ}
+use Prim.Native.Nat.{ℕ, _≤_}
 use native.Mathlib.Omega.{arith}
 use mathlib.Core.Bool.{Bool, true, false}
 use mathlib.Core.List.{List, [], _∷_}
@@ -9,7 +9,7 @@ use Rattle.lists.specs.Tests.{any, all}
 use Rattle.aiger.specs.Gates.{Valuation, value}
 use Rattle.witness.specs.Sections.{Sections}
 use Rattle.composition.specs.Numbering.{Placed}
-use Rattle.composition.specs.Meaning.{Solution, Valued, unsafe, Keeps, Means}
+use Rattle.composition.specs.Meaning.{Solution, Valued, unsafe, Keeps, InputsPlaced, Means}
 use Rattle.composition.proofs.WorkedMappings.{circuit, latch, to2}
 
 -- the model, and the witnesses with the outputs 2 and 3
@@ -118,3 +118,16 @@ no-latch means =
     (record { follows = t .0 .follows; same = t .0 .same }, (record { follows = t .1 .0 .follows; same = t .1 .0 .same }, tt)) in
     let h = k .latches .0 .0 .there in
     absurd (omega arith)
+
+-- a witness whose one input has the composed variable x, in a composition of one input and one latch
+abbrev InputAt : ℕ → Type 0
+InputAt x =
+    InputsPlaced (circuit (none ∷ []) (latch 0 0 none ∷ []) [] [] [] [])
+    (record { sections = circuit (none ∷ []) [] [] [] [] []; vars = 0 ∷ x ∷ [] })
+
+-- it is not the constant, and not the latch
+pub not-constant : {X : Type 0} → InputAt 0 → X
+not-constant p = let h : 1 ≤ 0 = p 0 (omega arith) .0 in absurd (omega arith)
+
+pub not-latch : {X : Type 0} → InputAt 2 → X
+not-latch p = let h : 2 ≤ 1 = p 0 (omega arith) .1 in absurd (omega arith)
