@@ -69,8 +69,8 @@ compose-got m ws s e =
 -- the sections that were read, and the text of their composition
 made : (model : Bytes) (ts : List Bytes) (text : Bytes) (m : Sections) (ws : List Sections) (s : Sections) → readAag limited false model ≡ got m → readAll ts ≡ got ws
     → length ts ≤ 64
-    → Composed m ws s → printed s ≡ text → Composition model ts text
-made model ts text m ws s rm rs few c e =
+    → compose m ws ≡ got s → Composed m ws s → printed s ≡ text → Composition model ts text
+made model ts text m ws s rm rs few cs c e =
     let a = all-read ts ws rs in
     let p = composed-printable m ws (a .granted) (rw (a .count) few) (c .fit) in
     let t : text ≡ printed (composed m ws) = sym e ∙ ap printed (sym (c .is)) in
@@ -81,6 +81,8 @@ made model ts text m ws s rm rs few c e =
       modelRead = rm;
       witnessesRead = rs;
       textRead = λ witness. ap (readAag free witness) t ∙ read-printed (composed m ws) p witness;
+      composes = cs ∙ ap got (sym (c .is));
+      textIs = t;
       means = composed-means m ws (each-so Granted InRange (λ w g. g .range) ws (a .granted)) (c .agreed);
     }
 
@@ -94,7 +96,7 @@ texts-mean work room model ts text few e =
     let e16 = unless-got 15 (composeSections room m ws) text (leb (16 * sizes (m ∷ ws) + 1024) work) (b .2) in
     let c = andThen-got (compose m ws) (λ s. unless 20 (leb (length (printed s)) room) (got (printed s))) text e16 in
     let s : Sections = c .0 in
-    made model ts text m ws s (a .1) (b .1) few (compose-got m ws s (c .1))
+    made model ts text m ws s (a .1) (b .1) few (c .1) (compose-got m ws s (c .1))
     (got-same (printed s) text (unless-got 20 (got (printed s)) text (leb (length (printed s)) room) (c .2)))
 
 -- Demand 3 for compositions: the text that an accepted call returns.

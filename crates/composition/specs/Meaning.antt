@@ -1,4 +1,4 @@
--- Demand 3 of 01 for compositions: "an accepted composition has the witnesses' bads, constraints, next and reset values, for all values of its inputs and latches".
+-- Demand 3 for compositions (01, "The words of demand 3"): an accepted composition has the witnesses' bads, constraints, next and reset values, for all values of its inputs and latches.
 use Prim.Native.Nat.{ℕ, suc, _+_, _≤_, _<_}
 use mathlib.Core.Bool.{Bool, false}
 use mathlib.Core.List.{List, [], _∷_, map}
@@ -14,7 +14,8 @@ use Rattle.aiger.specs.Gates.{Valuation, value, Follows}
 use Rattle.witness.specs.Sections.{NamedLatch, Sections, leaves, variables}
 use Rattle.witness.specs.Reading.{readAag}
 use Rattle.composition.specs.Numbering.{Entry, sameEntry, inputEntries, latchEntries, inputFirsts, latchFirsts, numbered, Placed, placed}
-use Rattle.composition.specs.Composing.{safety}
+use Rattle.composition.specs.Composing.{safety, compose}
+use Rattle.composition.specs.Printing.{printed}
 use Rattle.composition.specs.Calling.{readAll}
 
 -- ---- values
@@ -118,4 +119,7 @@ pub record Composition (model : Bytes) (ts : List Bytes) (text : Bytes) : Type 0
   pub witnessesRead : readAll ts ≡ got ws
   -- "A composition is the text returned; its sections are read from it by item 4, with no limit on M or length": as a model or as a witness
   pub textRead : (witness : Bool) → readAag free witness text ≡ got s
+  -- the composition by item 8, as it is printed: its names, and nothing besides
+  pub composes : compose m ws ≡ got s
+  pub textIs : text ≡ printed s
   pub means : Means m ws s

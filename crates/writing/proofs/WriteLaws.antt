@@ -20,7 +20,7 @@ use Rattle.witness.specs.Sections.{Sections}
 use Rattle.witness_words.specs.Loaded.{latchWords}
 use Rattle.composition.specs.Numbering.{inputFirsts, latchFirsts, leafCount}
 use Rattle.composition.specs.Sharing.{Operands, gatesFrom}
-use Rattle.composition.specs.Composing.{safety, literalsOf, whole, composedGates}
+use Rattle.composition.specs.Composing.{safety, literalsOf, whole, allDefined, composedGates}
 use Rattle.composition.specs.Printing.{gateLines, symbolLines}
 use Rattle.composition.proofs.KeepLaws.{composed-latches-length}
 use Rattle.joint.specs.declared.Leaves.the-variants as leaf
@@ -91,7 +91,7 @@ module _ (buffer : Bytes) (pairs work : List ℕ) (at : Places) (c : Merged) (t 
         numbersFit = has-room work (at .vars + 1 + totalOf inputCount ws) (totalOf (leafCountOf leaf.Latches) ws) _ e (k .result .latches);
         origins-are = has-part work (at .«latch_origins») (totalOf (leafCountOf leaf.Latches) ws) _ o (k .listed .latchOrigins);
         numbers-are = has-part work (at .vars + 1 + totalOf inputCount ws) (totalOf (leafCountOf leaf.Latches) ws) _ e (k .result .latches);
-        small = omega (arith, k .few);
+        small = omega (arith, k .few, k .result .counted .inputs);
       }))
 
   pub latch-symbols : PrintableSome buffer pairs work at c t → CanPrintSymbols leaf.Latches buffer pairs work (at .«latch_origins») (at .vars + 1 + t .inputs) (c .inputs + 1)
@@ -171,7 +171,7 @@ module _ (buffer : Bytes) (pairs work : List ℕ) (at : Places) (c : Merged) (t 
         q
       where
         latch-length : (m : Sections) (ws : List Sections) → length (definitionWords m ws) ≡ 2 * length (latchFirsts m ws)
-        latch-length m ws = words-length latchWords 2 (λ x. refl) (latchesOf m ws) ∙ ap (λ (j : ℕ). 2 * j) (composed-latches-length _ _ _)
+        latch-length m ws = words-length latchWords 2 (λ x. refl) (latchesOf m ws) ∙ ap (λ (j : ℕ). 2 * j) (composed-latches-length (suc (length (inputFirsts m ws))) (latchFirsts m ws) (allDefined (whole m ws)))
 
     pub inputs-printed : Prints o from (textOf (lines.literalLines (lines.literalsFrom 1 (c .inputs)))) o' r → PrintsText fromLatches buffer pairs work at c t o' r o'' r'
         → PrintsText fromInputs buffer pairs work at c t o from o'' r'

@@ -32,7 +32,8 @@ pub record Printable (buffer : Bytes) (pairs work : List ℕ) (at : Places) (c :
   pub result : Result m ws at c work
   pub inputs : t .inputs ≡ totalOf inputCount ws
   pub gates : t .gates ≡ totalOf gateCount ws
-  pub few : leafCount m ws + length (composedGates m ws) < 1073741824
+  pub few : leafCount m ws + length (composedGates m ws) ≤ 128000000
+  pub fewBits : at .bits ≤ 128000000
   pub fits : at .end ≤ length work
 
 pub record PrintableSome (buffer : Bytes) (pairs work : List ℕ) (at : Places) (c : Merged) (t : Totals) : Type 0 where
