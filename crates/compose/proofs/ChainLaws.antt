@@ -55,7 +55,13 @@ fitting-same : (mc : AagCounts) (t : Totals) (buffer : Bytes) (pairs work work' 
     → Fitting mc t buffer pairs work m ws → Fitting mc t buffer pairs work' m ws
 fitting-same mc t buffer pairs work work' m ws e f =
     record {
-      readable = f .readable; model = f .model; few = f .few; inputs = f .inputs; latches = f .latches; gates = f .gates; room = omega (arith, f .room);
+      readable = f .readable;
+      model = f .model;
+      few = f .few;
+      inputs = f .inputs;
+      latches = f .latches;
+      gates = f .gates;
+      room = omega (arith, f .room);
     }
 
 wrong-literal : (room : ℕ) (m : Sections) (ws : List Sections) → all (mapsRight m) ws ≡ false → composeSections room m ws ≡ refused 16
@@ -150,9 +156,11 @@ module _ (mc : AagCounts) (buffer : Bytes) (pairs work : List ℕ) (out : Bytes)
 
     pub witnesses-short : t .room ≡ 0 → ComposesWitnesses mc buffer pairs work out out (composed.Refused 15)
     witnesses-short z =
-        record { each = λ m i.
-          refuses out (andThen (readAll (textsIn buffer pairs)) (composeRead (length work) (length out) m)) 15
-          (goes m (refused 15) (rw (enough m i, eq-eqb (t .room) 0 z) refl)) }
+        record {
+          each = λ m i.
+              refuses out (andThen (readAll (textsIn buffer pairs)) (composeRead (length work) (length out) m)) 15
+              (goes m (refused 15) (rw (enough m i, eq-eqb (t .room) 0 z) refl));
+        }
 
     module _ (z : t .room ≡ 0 → ⊥) where
       long-enough : (m : Sections) → ModelIs buffer pairs mc m → leb (16 * sizes (m ∷ all-read .0) + 1024) (length work) ≡ true
@@ -175,6 +183,8 @@ module _ (mc : AagCounts) (buffer : Bytes) (pairs work : List ℕ) (out : Bytes)
 
       pub witnesses-composed : (out' : Bytes) (r : Composed) → ComposesFitting mc t buffer pairs work out out' r → ComposesWitnesses mc buffer pairs work out out' r
       witnesses-composed out' r h =
-          record { each = λ m i.
-            answers-same out (andThen (readAll (textsIn buffer pairs)) (composeRead (length work) (length out) m)) (composeSections (length out) m (all-read .0)) out' r
-            (goes m (composeSections (length out) m (all-read .0)) (rw (long-enough m i) refl)) (h .each m (all-read .0) (fitting m i)) }
+          record {
+            each = λ m i.
+                answers-same out (andThen (readAll (textsIn buffer pairs)) (composeRead (length work) (length out) m)) (composeSections (length out) m (all-read .0)) out' r
+                (goes m (composeSections (length out) m (all-read .0)) (rw (long-enough m i) refl)) (h .each m (all-read .0) (fitting m i));
+          }

@@ -102,7 +102,15 @@ fn all_safe(witnesses: &[u8], pairs: &[u64]) -> bool
 }
 
 // Composes witnesses that are laid out.
-fn compose_laid(witnesses: &[u8], pairs: &[u64], work: &mut [u64], m: AagCounts, t: Totals, at: Places, out: &mut [u8]) -> Composed
+fn compose_laid(
+    witnesses: &[u8],
+    pairs: &[u64],
+    work: &mut [u64],
+    m: AagCounts,
+    t: Totals,
+    at: Places,
+    out: &mut [u8],
+) -> Composed
     requires { ⌜ LaidSome m t (now witnesses) (now pairs) (now work) at ⌝ }
     ensures { λ r. ⌜ ComposesLaid m t (now (witnesses .entry)) (now (pairs .entry)) (now (work .entry)) at (now (out .entry)) (now (out .exit)) r ⌝ }
 {
@@ -110,7 +118,14 @@ fn compose_laid(witnesses: &[u8], pairs: &[u64], work: &mut [u64], m: AagCounts,
 }
 
 // Composes witnesses that are read and for which there are enough work words; m are the counts of the model.
-fn compose_fitting(witnesses: &[u8], pairs: &[u64], work: &mut [u64], m: AagCounts, t: Totals, out: &mut [u8]) -> Composed
+fn compose_fitting(
+    witnesses: &[u8],
+    pairs: &[u64],
+    work: &mut [u64],
+    m: AagCounts,
+    t: Totals,
+    out: &mut [u8],
+) -> Composed
     requires { ⌜ CanLay m t (now witnesses) (now pairs) (now work) ⌝ }
     ensures { λ r. ⌜ ComposesFitting m t (now (witnesses .entry)) (now (pairs .entry)) (now (work .entry)) (now (out .entry)) (now (out .exit)) r ⌝ }
 {
@@ -137,7 +152,13 @@ fn room_beside(m: AagCounts, words: usize) -> usize
 }
 
 // Reads the witnesses and composes them; m are the counts of the model.
-fn compose_witnesses(witnesses: &[u8], pairs: &[u64], work: &mut [u64], m: AagCounts, out: &mut [u8]) -> Composed
+fn compose_witnesses(
+    witnesses: &[u8],
+    pairs: &[u64],
+    work: &mut [u64],
+    m: AagCounts,
+    out: &mut [u8],
+) -> Composed
     requires { ⌜ ModelSome (now witnesses) (now pairs) m ⌝ }
     ensures { λ r. ⌜ ComposesWitnesses m (now (witnesses .entry)) (now (pairs .entry)) (now (work .entry)) (now (out .entry)) (now (out .exit)) r ⌝ }
 {
@@ -155,7 +176,13 @@ fn compose_witnesses(witnesses: &[u8], pairs: &[u64], work: &mut [u64], m: AagCo
 }
 
 // Reads the model, then the witnesses, and composes them.
-fn compose_texts(model: &[u8], witnesses: &[u8], pairs: &[u64], work: &mut [u64], out: &mut [u8]) -> Composed
+fn compose_texts(
+    model: &[u8],
+    witnesses: &[u8],
+    pairs: &[u64],
+    work: &mut [u64],
+    out: &mut [u8],
+) -> Composed
     requires { ⌜ FewInOrder (now witnesses) (now pairs) ⌝ }
     ensures { λ r. ⌜ Answers (now (out .entry)) (composeTexts (length (now (work .entry))) (length (now (out .entry))) (now (model .entry)) (textsIn (now (witnesses .entry)) (now (pairs .entry)))) (now (out .exit)) r ⌝ }
 {
@@ -166,7 +193,13 @@ fn compose_texts(model: &[u8], witnesses: &[u8], pairs: &[u64], work: &mut [u64]
 }
 
 // The composition, with the work words left as they are.
-fn compose_in(model: &[u8], witnesses: &[u8], pairs: &[u64], work: &mut [u64], out: &mut [u8]) -> Composed
+fn compose_in(
+    model: &[u8],
+    witnesses: &[u8],
+    pairs: &[u64],
+    work: &mut [u64],
+    out: &mut [u8],
+) -> Composed
     ensures { λ r. ⌜ Answers (now (out .entry)) (composeCall (length (now (work .entry))) (length (now (out .entry))) (now (model .entry)) (now (witnesses .entry)) (now (pairs .entry))) (now (out .exit)) r ⌝ }
 {
     let count = pairs.len() / 2;
@@ -183,7 +216,13 @@ fn compose_in(model: &[u8], witnesses: &[u8], pairs: &[u64], work: &mut [u64], o
 }
 
 // Composes safety witnesses for a model: item 8 of 01.
-pub fn compose_safety_witnesses_v1(model: &[u8], witnesses: &[u8], pairs: &[u64], work: &mut [u64], out: &mut [u8]) -> Composed
+pub fn compose_safety_witnesses_v1(
+    model: &[u8],
+    witnesses: &[u8],
+    pairs: &[u64],
+    work: &mut [u64],
+    out: &mut [u8],
+) -> Composed
     ensures { λ r. ⌜ Composes (now (model .entry)) (now (witnesses .entry)) (now (pairs .entry)) (now (work .entry)) (now (out .entry)) (now (work .exit)) (now (out .exit)) r ⌝ }
 {
     let r = compose_in(model, witnesses, pairs, work, out);

@@ -18,13 +18,13 @@ use Rattle.printing.specs.Lines as lines
 use Rattle.printing.proofs.PrintsLaws.{Word, prints-then}
 use Rattle.witness.specs.Sections.{Sections}
 use Rattle.witness_words.specs.Loaded.{latchWords}
-use Rattle.composition.specs.Numbering.{inputFirsts, latchFirsts, leafCount}
+use Rattle.composition.specs.Numbering.{inputEntries, latchEntries, inputFirsts, latchFirsts, numbered, leafCount}
 use Rattle.composition.specs.Sharing.{Operands, gatesFrom}
 use Rattle.composition.specs.Composing.{safety, literalsOf, whole, allDefined, composedGates}
 use Rattle.composition.specs.Printing.{gateLines, symbolLines}
 use Rattle.composition.proofs.KeepLaws.{composed-latches-length}
 use Rattle.joint.specs.declared.Leaves.the-variants as leaf
-use Rattle.joint.specs.Joint.{totalOf, inputCount, latchCount, gateCount, nothingBefore}
+use Rattle.joint.specs.Joint.{totalOf, inputCount, latchCount, gateCount, nothingBefore, origins}
 use Rattle.gathering.specs.declared.Totals.{Totals}
 use Rattle.gathering.specs.Gathered.{wordTotal, leafCountOf}
 use Rattle.laying.specs.declared.Places.{Places}
@@ -32,7 +32,7 @@ use Rattle.laying.specs.Laid.{Has}
 use Rattle.merging.specs.declared.Merged.{Merged}
 use Rattle.linking.specs.Linked.{keyOf}
 use Rattle.sharing.specs.Table.{Held}
-use Rattle.merging.specs.Merged.{SmallOperands, definitionWords}
+use Rattle.merging.specs.Merged.{SmallOperands, inputNumbers, latchNumbers, definitionWords}
 use Rattle.naming.specs.Symbols.{SymbolWords, CanPrintSymbols, PrintsSymbols}
 use Rattle.naming.proofs.EntryLaws.{origins-total, entries-total}
 use Rattle.composed_text.specs.declared.Counts.{Counts}
@@ -60,15 +60,15 @@ module _ (buffer : Bytes) (pairs work : List ℕ) (at : Places) (c : Merged) (t 
   input-words : (m : Sections) (ws : List Sections) → Printable buffer pairs work at c t m ws → SymbolWords leaf.Inputs m ws buffer pairs work (at .«input_origins») (at .vars + 1) 1
   input-words m ws k =
       let o = origins-total leaf.Inputs m 0 nothingBefore ws in
-      let e = length-map _ _ ∙ entries-total leaf.Inputs m 0 ws in
+      let e : length (inputNumbers m ws) ≡ totalOf (leafCountOf leaf.Inputs) ws = length-map (inputEntries m 0 ws) (numbered 1 (inputFirsts m ws)) ∙ entries-total leaf.Inputs m 0 ws in
       record {
         readable = k .readable;
         blocks = k .listed .blocks;
         room = omega (arith, k .regions .latches, k .listed .latches .room);
-        originsFit = has-room work (at .«input_origins») (totalOf (leafCountOf leaf.Inputs) ws) _ o (k .listed .inputOrigins);
-        numbersFit = has-room work (at .vars + 1) (totalOf (leafCountOf leaf.Inputs) ws) _ e (k .result .inputs);
-        origins-are = has-part work (at .«input_origins») (totalOf (leafCountOf leaf.Inputs) ws) _ o (k .listed .inputOrigins);
-        numbers-are = has-part work (at .vars + 1) (totalOf (leafCountOf leaf.Inputs) ws) _ e (k .result .inputs);
+        originsFit = has-room work (at .«input_origins») (totalOf (leafCountOf leaf.Inputs) ws) (origins leaf.Inputs m ws) o (k .listed .inputOrigins);
+        numbersFit = has-room work (at .vars + 1) (totalOf (leafCountOf leaf.Inputs) ws) (inputNumbers m ws) e (k .result .inputs);
+        origins-are = has-part work (at .«input_origins») (totalOf (leafCountOf leaf.Inputs) ws) (origins leaf.Inputs m ws) o (k .listed .inputOrigins);
+        numbers-are = has-part work (at .vars + 1) (totalOf (leafCountOf leaf.Inputs) ws) (inputNumbers m ws) e (k .result .inputs);
         small = omega arith;
       }
 
@@ -78,7 +78,7 @@ module _ (buffer : Bytes) (pairs work : List ℕ) (at : Places) (c : Merged) (t 
   latch-words : (m : Sections) (ws : List Sections) → Printable buffer pairs work at c t m ws → SymbolWords leaf.Latches m ws buffer pairs work (at .«latch_origins») (at .vars + 1 + t .inputs) (c .inputs + 1)
   latch-words m ws k =
       let o = origins-total leaf.Latches m 0 nothingBefore ws in
-      let e = length-map _ _ ∙ entries-total leaf.Latches m 0 ws in
+      let e : length (latchNumbers m ws) ≡ totalOf (leafCountOf leaf.Latches) ws = length-map (latchEntries m 0 ws) (numbered (suc (length (inputFirsts m ws))) (latchFirsts m ws)) ∙ entries-total leaf.Latches m 0 ws in
       let i : suc (length (inputFirsts m ws)) ≡ c .inputs + 1 = omega (arith, k .result .counted .inputs) in
       let a : at .vars + 1 + totalOf inputCount ws ≡ at .vars + 1 + t .inputs = omega (arith, k .inputs) in
       subst (λ (j : ℕ). SymbolWords leaf.Latches m ws buffer pairs work (at .«latch_origins») (at .vars + 1 + t .inputs) j) i
@@ -87,10 +87,10 @@ module _ (buffer : Bytes) (pairs work : List ℕ) (at : Places) (c : Merged) (t 
         readable = k .readable;
         blocks = k .listed .blocks;
         room = omega (arith, k .regions .latches, k .listed .latches .room);
-        originsFit = has-room work (at .«latch_origins») (totalOf (leafCountOf leaf.Latches) ws) _ o (k .listed .latchOrigins);
-        numbersFit = has-room work (at .vars + 1 + totalOf inputCount ws) (totalOf (leafCountOf leaf.Latches) ws) _ e (k .result .latches);
-        origins-are = has-part work (at .«latch_origins») (totalOf (leafCountOf leaf.Latches) ws) _ o (k .listed .latchOrigins);
-        numbers-are = has-part work (at .vars + 1 + totalOf inputCount ws) (totalOf (leafCountOf leaf.Latches) ws) _ e (k .result .latches);
+        originsFit = has-room work (at .«latch_origins») (totalOf (leafCountOf leaf.Latches) ws) (origins leaf.Latches m ws) o (k .listed .latchOrigins);
+        numbersFit = has-room work (at .vars + 1 + totalOf inputCount ws) (totalOf (leafCountOf leaf.Latches) ws) (latchNumbers m ws) e (k .result .latches);
+        origins-are = has-part work (at .«latch_origins») (totalOf (leafCountOf leaf.Latches) ws) (origins leaf.Latches m ws) o (k .listed .latchOrigins);
+        numbers-are = has-part work (at .vars + 1 + totalOf inputCount ws) (totalOf (leafCountOf leaf.Latches) ws) (latchNumbers m ws) e (k .result .latches);
         small = omega (arith, k .few, k .result .counted .inputs);
       }))
 
@@ -115,8 +115,8 @@ module _ (buffer : Bytes) (pairs work : List ℕ) (at : Places) (c : Merged) (t 
       let n = k .result .counted in
       record {
         held =
-          subst (λ (j : ℕ). Held (t .gates + 1) (map keyOf (composedGates m ws)) (part work (at .gates) j)) (sym (k .regions .definitions))
-          (subst (λ (j : ℕ). Held (j + 1) (map keyOf (composedGates m ws)) (part work (at .gates) (at .gates + (4 * totalOf gateCount ws + 1)))) (sym (k .gates)) (k .result .keys));
+            subst (λ (j : ℕ). Held (t .gates + 1) (map keyOf (composedGates m ws)) (part work (at .gates) j)) (sym (k .regions .definitions))
+            (subst (λ (j : ℕ). Held (j + 1) (map keyOf (composedGates m ws)) (part work (at .gates) (at .gates + (4 * totalOf gateCount ws + 1)))) (sym (k .gates)) (k .result .keys));
         counted = sym (n .gates);
         narrow = each-so SmallOperands Narrow (λ g s. s .left) (composedGates m ws) (k .result .small);
         small = omega (arith, k .few, n .inputs, n .latches, n .gates);
@@ -131,9 +131,9 @@ module _ (buffer : Bytes) (pairs work : List ℕ) (at : Places) (c : Merged) (t 
     gates-printed p q =
         then-printed (λ m ws. textOf (gateLines (gatesFrom (suc (leafCount m ws)) (composedGates m ws)))) fromInputNames o o' o'' from r r' small same
         (λ m ws k.
-          let n = k .result .counted in
-          let e : c .inputs + c .latches + 1 ≡ suc (leafCount m ws) = omega (arith, n .inputs, n .latches) in
-          subst (λ (j : ℕ). Prints o from (textOf (gateLines (gatesFrom j (composedGates m ws)))) o' r) e (p (composedGates m ws) (gate-keys m ws k)))
+        let n = k .result .counted in
+        let e : c .inputs + c .latches + 1 ≡ suc (leafCount m ws) = omega (arith, n .inputs, n .latches) in
+        subst (λ (j : ℕ). Prints o from (textOf (gateLines (gatesFrom j (composedGates m ws)))) o' r) e (p (composedGates m ws) (gate-keys m ws k)))
         q
 
     -- ---- sets
@@ -143,8 +143,8 @@ module _ (buffer : Bytes) (pairs work : List ℕ) (at : Places) (c : Merged) (t 
     constraints-printed p q =
         then-printed (λ m ws. textOf (lines.literalLines (literalsOf (λ s. s .constraints) (whole m ws)))) fromGates o o' o'' from r r' small same
         (λ m ws k.
-          let e : elements (part work (at .limits) (at .end)) ≡ literalsOf (λ s. s .constraints) (whole m ws) = ap (λ (j : ℕ). elements (part work (at .limits) j)) (k .regions .end) ∙ k .result .limits in
-          subst (λ (xs : List ℕ). Prints o from (textOf (lines.literalLines xs)) o' r) e p)
+        let e : elements (part work (at .limits) (at .end)) ≡ literalsOf (λ s. s .constraints) (whole m ws) = ap (λ (j : ℕ). elements (part work (at .limits) j)) (k .regions .end) ∙ k .result .limits in
+        subst (λ (xs : List ℕ). Prints o from (textOf (lines.literalLines xs)) o' r) e p)
         q
 
     pub bads-printed : Prints o from (textOf (lines.literalLines (elements (part work (at .bads) (at .limits))))) o' r → PrintsText fromConstraints buffer pairs work at c t o' r o'' r'
@@ -152,8 +152,8 @@ module _ (buffer : Bytes) (pairs work : List ℕ) (at : Places) (c : Merged) (t 
     bads-printed p q =
         then-printed (λ m ws. textOf (lines.literalLines (literalsOf safety (whole m ws)))) fromConstraints o o' o'' from r r' small same
         (λ m ws k.
-          let e : elements (part work (at .bads) (at .limits)) ≡ literalsOf safety (whole m ws) = ap (λ (j : ℕ). elements (part work (at .bads) j)) (k .regions .limits) ∙ k .result .bads in
-          subst (λ (xs : List ℕ). Prints o from (textOf (lines.literalLines xs)) o' r) e p)
+        let e : elements (part work (at .bads) (at .limits)) ≡ literalsOf safety (whole m ws) = ap (λ (j : ℕ). elements (part work (at .bads) j)) (k .regions .limits) ∙ k .result .bads in
+        subst (λ (xs : List ℕ). Prints o from (textOf (lines.literalLines xs)) o' r) e p)
         q
 
     -- ---- latches, inputs, header
@@ -163,11 +163,11 @@ module _ (buffer : Bytes) (pairs work : List ℕ) (at : Places) (c : Merged) (t 
     latches-printed p q =
         then-printed (λ m ws. textOf (lines.gateLines (suc (length (inputFirsts m ws))) (wordsOf latchWords (latchesOf m ws)))) fromBads o o' o'' from r r' small same
         (λ m ws k.
-          let n = k .result .counted in
-          let long : length (definitionWords m ws) ≡ 2 * c .latches = latch-length m ws ∙ ap (λ (j : ℕ). 2 * j) (sym (n .latches)) in
-          let e : part work (at .definitions) (at .definitions + 2 * c .latches) ≡ definitionWords m ws = has-part work (at .definitions) (2 * c .latches) (definitionWords m ws) long (k .result .definitions) in
-          let f : c .inputs + 1 ≡ suc (length (inputFirsts m ws)) = omega (arith, n .inputs) in
-          subst (λ (j : ℕ). Prints o from (textOf (lines.gateLines j (definitionWords m ws))) o' r) f (subst (λ (xs : List ℕ). Prints o from (textOf (lines.gateLines (c .inputs + 1) xs)) o' r) e p))
+        let n = k .result .counted in
+        let long : length (definitionWords m ws) ≡ 2 * c .latches = latch-length m ws ∙ ap (λ (j : ℕ). 2 * j) (sym (n .latches)) in
+        let e : part work (at .definitions) (at .definitions + 2 * c .latches) ≡ definitionWords m ws = has-part work (at .definitions) (2 * c .latches) (definitionWords m ws) long (k .result .definitions) in
+        let f : c .inputs + 1 ≡ suc (length (inputFirsts m ws)) = omega (arith, n .inputs) in
+        subst (λ (j : ℕ). Prints o from (textOf (lines.gateLines j (definitionWords m ws))) o' r) f (subst (λ (xs : List ℕ). Prints o from (textOf (lines.gateLines (c .inputs + 1) xs)) o' r) e p))
         q
       where
         latch-length : (m : Sections) (ws : List Sections) → length (definitionWords m ws) ≡ 2 * length (latchFirsts m ws)
@@ -179,3 +179,56 @@ module _ (buffer : Bytes) (pairs work : List ℕ) (at : Places) (c : Merged) (t 
         then-printed (λ m ws. textOf (lines.literalLines (lines.literalsFrom 1 (length (inputFirsts m ws))))) fromLatches o o' o'' from r r' small same
         (λ m ws k. subst (λ (j : ℕ). Prints o from (textOf (lines.literalLines (lines.literalsFrom 1 j))) o' r) (k .result .counted .inputs) p)
         q
+
+    pub header-printed : (n : Counts)
+        → n ≡ record { variables = c .inputs + c .latches + c .gates; inputs = c .inputs; latches = c .latches; gates = c .gates; bads = c .bads; constraints = c .constraints }
+        → Prints o from (headerOf n ++ 10 ∷ []) o' r → PrintsText fromInputs buffer pairs work at c t o' r o'' r' → PrintsText fromHeader buffer pairs work at c t o from o'' r'
+    header-printed n e p q =
+        then-printed (λ m ws. headerOf (composedCounts m ws) ++ 10 ∷ []) fromInputs o o' o'' from r r' small same
+        (λ m ws k. subst (λ (x : Counts). Prints o from (headerOf x ++ 10 ∷ []) o' r) (e ∙ counts-are m ws k) p)
+        q
+      where
+        counts-are : (m : Sections) (ws : List Sections) → Printable buffer pairs work at c t m ws
+            → _≡_ {A = Counts} (record { variables = c .inputs + c .latches + c .gates; inputs = c .inputs; latches = c .latches; gates = c .gates; bads = c .bads; constraints = c .constraints })
+            (composedCounts m ws)
+        counts-are m ws k = let n = k .result .counted in rw (n .inputs, n .latches, n .gates, n .bads, n .constraints) refl
+
+  -- ---- what the printing functions ask for
+
+  pub inputs-small : PrintableSome buffer pairs work at c t → 2 * (1 + c .inputs) < 9223372036854775808
+  inputs-small k = omega (arith, k .holds .few, k .holds .result .counted .inputs)
+
+  bits-length : (a e : ℕ) → e ≡ a + at .bits → e ≤ length work → length (part work a e) ≡ at .bits
+  bits-length a e f h = part-length work a e h ∙ omega arith
+
+  pub limits-small : PrintableSome buffer pairs work at c t → 64 * length (part work (at .limits) (at .end)) < 18446744073709551616
+  limits-small k = let n = bits-length (at .limits) (at .end) (k .holds .regions .end) (k .holds .fits) in omega (arith, n, k .holds .fewBits)
+
+  pub bads-small : PrintableSome buffer pairs work at c t → 64 * length (part work (at .bads) (at .limits)) < 18446744073709551616
+  bads-small k =
+      let n = bits-length (at .bads) (at .limits) (k .holds .regions .limits) (omega (arith, k .holds .fits, k .holds .regions .end)) in
+      omega (arith, n, k .holds .fewBits)
+
+  -- the definitions of the composed latches end before the bads
+  pub definitions-end : PrintableSome buffer pairs work at c t → at .definitions + 2 * c .latches ≤ length work
+  definitions-end k =
+      let d = k .holds .result .definitions in
+      let n = words-length latchWords 2 (λ x. refl) (latchesOf (k .m) (k .ws)) in
+      let l = composed-latches-length (suc (length (inputFirsts (k .m) (k .ws)))) (latchFirsts (k .m) (k .ws)) (allDefined (whole (k .m) (k .ws))) in
+      omega (arith, d .room, n, l, k .holds .result .counted .latches)
+
+  pub latches-small : PrintableSome buffer pairs work at c t → 2 * (c .inputs + 1 + length (part work (at .definitions) (at .definitions + 2 * c .latches))) < 9223372036854775808
+  latches-small k =
+      let n = part-length work (at .definitions) (at .definitions + 2 * c .latches) (definitions-end k) in
+      omega (arith, n, k .holds .few, k .holds .result .counted .inputs, k .holds .result .counted .latches)
+
+  -- where the regions that are printed end
+  pub gates-end : PrintableSome buffer pairs work at c t → (at .gates ≤ at .definitions) × ((at .definitions ≤ length work) × (t .gates + 1 ≤ length work))
+  gates-end k =
+      let g = k .holds .regions in
+      let f = k .holds .fits in
+      let d : at .definitions ≤ length work = omega (arith, g .bads, g .limits, g .end, f) in
+      (omega (arith, g .definitions), (d, omega (arith, g .definitions, k .holds .gates, d)))
+
+  pub bads-end : PrintableSome buffer pairs work at c t → (at .bads ≤ at .limits) × (at .limits ≤ length work)
+  bads-end k = let g = k .holds .regions in (omega (arith, g .limits), omega (arith, g .end, k .holds .fits))

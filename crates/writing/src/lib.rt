@@ -7,67 +7,163 @@ use laying::Places;
 use merging::Merged;
 
 // From the symbols of the latches on.
-fn print_latch_names(out: &mut [u8], from: usize, witnesses: &[u8], pairs: &[u64], work: &[u64], at: Places, c: Merged, t: Totals) -> usize
+fn print_latch_names(
+    out: &mut [u8],
+    from: usize,
+    witnesses: &[u8],
+    pairs: &[u64],
+    work: &[u64],
+    at: Places,
+    c: Merged,
+    t: Totals,
+) -> usize
     requires { ⌜ PrintableSome (now witnesses) (now pairs) (now work) at c t ⌝ }
     ensures { λ r. ⌜ PrintsText fromLatchNames (now (witnesses .entry)) (now (pairs .entry)) (now (work .entry)) at c t (now (out .entry)) from (now (out .exit)) r ⌝ }
 {
     let numbers = at.vars + 1 + t.inputs;
     let first = c.inputs + 1;
-    let next = naming::print_symbols(out, from, witnesses, pairs, work, Leaves::Latches, at.latch_origins, numbers, first as u64);
+    let next = naming::print_symbols(
+        out,
+        from,
+        witnesses,
+        pairs,
+        work,
+        Leaves::Latches,
+        at.latch_origins,
+        numbers,
+        first as u64,
+    );
     composed_text::print_closing(out, next)
 }
 
 // From the symbols of the inputs on.
-fn print_input_names(out: &mut [u8], from: usize, witnesses: &[u8], pairs: &[u64], work: &[u64], at: Places, c: Merged, t: Totals) -> usize
+fn print_input_names(
+    out: &mut [u8],
+    from: usize,
+    witnesses: &[u8],
+    pairs: &[u64],
+    work: &[u64],
+    at: Places,
+    c: Merged,
+    t: Totals,
+) -> usize
     requires { ⌜ PrintableSome (now witnesses) (now pairs) (now work) at c t ⌝ }
     ensures { λ r. ⌜ PrintsText fromInputNames (now (witnesses .entry)) (now (pairs .entry)) (now (work .entry)) at c t (now (out .entry)) from (now (out .exit)) r ⌝ }
 {
-    let next = naming::print_symbols(out, from, witnesses, pairs, work, Leaves::Inputs, at.input_origins, at.vars + 1, 1);
+    let next = naming::print_symbols(
+        out,
+        from,
+        witnesses,
+        pairs,
+        work,
+        Leaves::Inputs,
+        at.input_origins,
+        at.vars + 1,
+        1,
+    );
     print_latch_names(out, next, witnesses, pairs, work, at, c, t)
 }
 
 // From the gates on.
-fn print_gates(out: &mut [u8], from: usize, witnesses: &[u8], pairs: &[u64], work: &[u64], at: Places, c: Merged, t: Totals) -> usize
+fn print_gates(
+    out: &mut [u8],
+    from: usize,
+    witnesses: &[u8],
+    pairs: &[u64],
+    work: &[u64],
+    at: Places,
+    c: Merged,
+    t: Totals,
+) -> usize
     requires { ⌜ PrintableSome (now witnesses) (now pairs) (now work) at c t ⌝ }
     ensures { λ r. ⌜ PrintsText fromGates (now (witnesses .entry)) (now (pairs .entry)) (now (work .entry)) at c t (now (out .entry)) from (now (out .exit)) r ⌝ }
 {
     let first = c.inputs + c.latches + 1;
-    let table = &work[at.gates..at.definitions];
-    let next = composed_text::print_gates(out, from, first as u64, table, t.gates + 1, c.gates);
+    let start = at.gates;
+    let end = at.definitions;
+    let next = composed_text::print_gates(
+        out,
+        from,
+        first as u64,
+        &work[start..end],
+        t.gates + 1,
+        c.gates,
+    );
     print_input_names(out, next, witnesses, pairs, work, at, c, t)
 }
 
 // From the constraints on.
-fn print_constraints(out: &mut [u8], from: usize, witnesses: &[u8], pairs: &[u64], work: &[u64], at: Places, c: Merged, t: Totals) -> usize
+fn print_constraints(
+    out: &mut [u8],
+    from: usize,
+    witnesses: &[u8],
+    pairs: &[u64],
+    work: &[u64],
+    at: Places,
+    c: Merged,
+    t: Totals,
+) -> usize
     requires { ⌜ PrintableSome (now witnesses) (now pairs) (now work) at c t ⌝ }
     ensures { λ r. ⌜ PrintsText fromConstraints (now (witnesses .entry)) (now (pairs .entry)) (now (work .entry)) at c t (now (out .entry)) from (now (out .exit)) r ⌝ }
 {
-    let next = printing::print_set(out, from, &work[at.limits..at.end]);
+    let start = at.limits;
+    let end = at.end;
+    let next = printing::print_set(out, from, &work[start..end]);
     print_gates(out, next, witnesses, pairs, work, at, c, t)
 }
 
 // From the bads on.
-fn print_bads(out: &mut [u8], from: usize, witnesses: &[u8], pairs: &[u64], work: &[u64], at: Places, c: Merged, t: Totals) -> usize
+fn print_bads(
+    out: &mut [u8],
+    from: usize,
+    witnesses: &[u8],
+    pairs: &[u64],
+    work: &[u64],
+    at: Places,
+    c: Merged,
+    t: Totals,
+) -> usize
     requires { ⌜ PrintableSome (now witnesses) (now pairs) (now work) at c t ⌝ }
     ensures { λ r. ⌜ PrintsText fromBads (now (witnesses .entry)) (now (pairs .entry)) (now (work .entry)) at c t (now (out .entry)) from (now (out .exit)) r ⌝ }
 {
-    let next = printing::print_set(out, from, &work[at.bads..at.limits]);
+    let start = at.bads;
+    let end = at.limits;
+    let next = printing::print_set(out, from, &work[start..end]);
     print_constraints(out, next, witnesses, pairs, work, at, c, t)
 }
 
 // From the latches on.
-fn print_latches(out: &mut [u8], from: usize, witnesses: &[u8], pairs: &[u64], work: &[u64], at: Places, c: Merged, t: Totals) -> usize
+fn print_latches(
+    out: &mut [u8],
+    from: usize,
+    witnesses: &[u8],
+    pairs: &[u64],
+    work: &[u64],
+    at: Places,
+    c: Merged,
+    t: Totals,
+) -> usize
     requires { ⌜ PrintableSome (now witnesses) (now pairs) (now work) at c t ⌝ }
     ensures { λ r. ⌜ PrintsText fromLatches (now (witnesses .entry)) (now (pairs .entry)) (now (work .entry)) at c t (now (out .entry)) from (now (out .exit)) r ⌝ }
 {
     let first = c.inputs + 1;
-    let end = at.definitions + 2 * c.latches;
-    let next = printing::print_pairs(out, from, first as u64, &work[at.definitions..end]);
+    let start = at.definitions;
+    let end = start + 2 * c.latches;
+    let next = printing::print_pairs(out, from, first as u64, &work[start..end]);
     print_bads(out, next, witnesses, pairs, work, at, c, t)
 }
 
 // From the inputs on.
-fn print_inputs(out: &mut [u8], from: usize, witnesses: &[u8], pairs: &[u64], work: &[u64], at: Places, c: Merged, t: Totals) -> usize
+fn print_inputs(
+    out: &mut [u8],
+    from: usize,
+    witnesses: &[u8],
+    pairs: &[u64],
+    work: &[u64],
+    at: Places,
+    c: Merged,
+    t: Totals,
+) -> usize
     requires { ⌜ PrintableSome (now witnesses) (now pairs) (now work) at c t ⌝ }
     ensures { λ r. ⌜ PrintsText fromInputs (now (witnesses .entry)) (now (pairs .entry)) (now (work .entry)) at c t (now (out .entry)) from (now (out .exit)) r ⌝ }
 {
@@ -76,7 +172,15 @@ fn print_inputs(out: &mut [u8], from: usize, witnesses: &[u8], pairs: &[u64], wo
 }
 
 // The whole text.
-pub fn print_composition(out: &mut [u8], witnesses: &[u8], pairs: &[u64], work: &[u64], at: Places, c: Merged, t: Totals) -> usize
+pub fn print_composition(
+    out: &mut [u8],
+    witnesses: &[u8],
+    pairs: &[u64],
+    work: &[u64],
+    at: Places,
+    c: Merged,
+    t: Totals,
+) -> usize
     requires { ⌜ PrintableSome (now witnesses) (now pairs) (now work) at c t ⌝ }
     ensures { λ r. ⌜ PrintsText fromHeader (now (witnesses .entry)) (now (pairs .entry)) (now (work .entry)) at c t (now (out .entry)) 0 (now (out .exit)) r ⌝ }
 {

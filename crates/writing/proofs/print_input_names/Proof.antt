@@ -1,30 +1,25 @@
 use borrow.Author.Needs.{needs}
 use Rattle.writing.proofs.print_input_names.Statement.{statement}
 use Rattle.writing.proofs.print_input_names.Tie as tie
-use Rattle.writing.proofs.print_input_names.Reads as reads
-use Rattle.writing.proofs.print_input_names.Lts as lts
-use Rattle.naming.proofs.print_symbols.Reads as print-symbols-reads
-use Rattle.writing.proofs.print_latch_names.Reads as print-latch-names-reads
+use Rattle.writing.proofs.WriteLaws.{input-symbols, input-names-printed}
+use native.Mathlib.Omega.{arith}
+use Rattle.printing.proofs.PrintsLaws.{Word}
+use lib.ListN.{length}
 
--- src/lib.rt:25:107
 add-print-symbols : tie.Need-add-print-symbols
 add-print-symbols c = search needs
 
--- src/lib.rt:25:9
 print-symbols-requires : tie.Need-print-symbols-requires
-print-symbols-requires c κs = search needs
+print-symbols-requires c κs = search input-symbols
 
--- src/lib.rt:26:5
 print-latch-names-requires : tie.Need-print-latch-names-requires
 print-latch-names-requires c κs = search needs
 
--- src/lib.rt:21:1
 same-length : tie.Need-same-length
 same-length c = search needs
 
--- src/lib.rt:21:1
 returns : tie.Need-returns
-returns c = search needs
+returns c = let small : Word (length (c .before .before .before .before .before .before .before .before .before .before .before .before .before .args .out .now)) = omega arith in search input-names-printed
 
 pub print-input-names-spec : {M : Type 1} → statement M
 print-input-names-spec =
