@@ -2,3 +2,4 @@
 pub mod CallLaws
 pub mod ChainLaws
 pub mod TopLaws
+pub mod LaidLaws

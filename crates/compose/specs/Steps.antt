@@ -5,19 +5,23 @@ use mathlib.Core.List.{List, _∷_}
 use mathlib.Core.Path.{_≡_}
 use lib.Dec.{leb, ltb}
 use lib.ListN.{length}
-use Rattle.lists.specs.Answer.{Answer, andThen, unless}
+use Rattle.lists.specs.Answer.{Answer, got, andThen, unless}
 use Rattle.lists.specs.Parts.{Bytes}
 use Rattle.lists.specs.Tests.{all}
 use Rattle.witness_text.specs.declared.AagCounts.{AagCounts}
 use Rattle.witness.specs.Sections.{Sections, variables}
 use Rattle.witness.specs.Reading.{countsIn}
-use Rattle.composition.specs.Composing.{isSome, safety, mapsRight}
+use Rattle.composition.specs.Composing.{isSome, safety, mapsRight, composed}
+use Rattle.composition.specs.Printing.{printed}
 use Rattle.composition.specs.Calling.{sizes, readAll, composeSections, textsIn}
 use Rattle.gathering.specs.declared.Totals.{Totals}
 use Rattle.gathering.specs.Checking.{FewInOrder}
 use Rattle.gathering.specs.Gathered.{Readable}
 use Rattle.laying.specs.declared.Places.{Places}
 use Rattle.laying.specs.Laid.{Fitting, Ready}
+use Rattle.printing.specs.Prints.{capped}
+use Rattle.merging.specs.declared.Merged.{Merged}
+use Rattle.writing.specs.Written.{Printable}
 use Rattle.compose.specs.declared.Composed.{Composed}
 use Rattle.compose.specs.declared.PartEnd.{PartEnd}
 use Rattle.compose.specs.declared.PartEnd.the-variants as part
@@ -80,6 +84,18 @@ pub record LaidSome (mc : AagCounts) (t : Totals) (buffer : Bytes) (pairs work :
   pub m : Sections
   pub ws : List Sections
   pub laid : LaidRight mc t buffer pairs work at m ws
+
+-- 20 of a composition that is merged
+abbrev pub writeComposed : ℕ → Sections → List Sections → Answer Bytes
+writeComposed room m ws = unless 20 (leb (length (printed (composed m ws))) room) (got (printed (composed m ws)))
+
+-- the length of the text is counted, and nothing is written
+pub record Measures (buffer : Bytes) (pairs work : List ℕ) (at : Places) (c : Merged) (t : Totals) (out out' : Bytes) (r : ℕ) : Type 0 where
+  pub same : out' ≡ out
+  pub size : (m : Sections) (ws : List Sections) → Printable buffer pairs work at c t m ws → r ≡ capped (length (printed (composed m ws)))
+
+pub record Writes (buffer : Bytes) (pairs work : List ℕ) (at : Places) (c : Merged) (t : Totals) (out out' : Bytes) (r : Composed) : Type 0 where
+  pub each : (m : Sections) (ws : List Sections) → Printable buffer pairs work at c t m ws → Answers out (writeComposed (length out) m ws) out' r
 
 -- 17 to 20
 pub record ComposesLaid (mc : AagCounts) (t : Totals) (buffer : Bytes) (pairs work : List ℕ) (at : Places) (out out' : Bytes) (r : Composed) : Type 0 where

@@ -6,12 +6,15 @@ ghost use Rattle.lists.specs.Words.{inOrder};
 ghost use Rattle.composition.specs.Calling.{textsIn, composeTexts, composeCall};
 ghost use Rattle.gathering.specs.Checking.{FewInOrder, SmallSums, noneYet};
 ghost use Rattle.laying.specs.Laid.{CanLay};
+ghost use Rattle.writing.specs.Written.{PrintableSome};
 ghost use Rattle.compose.specs.Promise.{Composes};
-ghost use Rattle.compose.specs.Steps.{partEnd, firstRoom, TestsSafety, roomBeside, Answers, LaidSome, ComposesLaid, ComposesFitting, ModelSome, ComposesWitnesses};
+ghost use Rattle.compose.specs.Steps.{partEnd, firstRoom, TestsSafety, roomBeside, Answers, Measures, Writes, LaidSome, ComposesLaid, ComposesFitting, ModelSome, ComposesWitnesses};
 use gathering::Checked;
 use gathering::Totals;
 use laying::Laid;
 use laying::Places;
+use merging::Merged;
+use merging::Merging;
 use witness::ReadAag;
 use witness_text::AagCounts;
 
@@ -101,6 +104,43 @@ fn all_safe(witnesses: &[u8], pairs: &[u64]) -> bool
     true
 }
 
+// How many bytes the text of a merged composition has; nothing is written.
+fn measure(
+    witnesses: &[u8],
+    pairs: &[u64],
+    work: &[u64],
+    at: Places,
+    c: Merged,
+    t: Totals,
+    out: &mut [u8],
+) -> usize
+    requires { ⌜ PrintableSome (now witnesses) (now pairs) (now work) at c t ⌝ }
+    ensures { λ r. ⌜ Measures (now (witnesses .entry)) (now (pairs .entry)) (now (work .entry)) at c t (now (out .entry)) (now (out .exit)) r ⌝ }
+{
+    writing::print_composition(&mut out[..0], witnesses, pairs, work, at, c, t)
+}
+
+// The text of a merged composition, where it fits.
+fn write_merged(
+    witnesses: &[u8],
+    pairs: &[u64],
+    work: &[u64],
+    at: Places,
+    c: Merged,
+    t: Totals,
+    out: &mut [u8],
+) -> Composed
+    requires { ⌜ PrintableSome (now witnesses) (now pairs) (now work) at c t ⌝ }
+    ensures { λ r. ⌜ Writes (now (witnesses .entry)) (now (pairs .entry)) (now (work .entry)) at c t (now (out .entry)) (now (out .exit)) r ⌝ }
+{
+    let size = measure(witnesses, pairs, work, at, c, t, out);
+    if out.len() < size {
+        return Composed::Refused(20);
+    }
+    let end = writing::print_composition(out, witnesses, pairs, work, at, c, t);
+    Composed::Got(end)
+}
+
 // Composes witnesses that are laid out.
 fn compose_laid(
     witnesses: &[u8],
@@ -114,7 +154,16 @@ fn compose_laid(
     requires { ⌜ LaidSome m t (now witnesses) (now pairs) (now work) at ⌝ }
     ensures { λ r. ⌜ ComposesLaid m t (now (witnesses .entry)) (now (pairs .entry)) (now (work .entry)) at (now (out .entry)) (now (out .exit)) r ⌝ }
 {
-    Composed::Refused(0)
+    let merged = merging::merge(work, at, m, t);
+    match merged {
+        Merging::Refused(reason) => Composed::Refused(reason),
+        Merging::Done(c) => {
+            if all_safe(witnesses, pairs) {
+                return write_merged(witnesses, pairs, work, at, c, t, out);
+            }
+            Composed::Refused(19)
+        }
+    }
 }
 
 // Composes witnesses that are read and for which there are enough work words; m are the counts of the model.

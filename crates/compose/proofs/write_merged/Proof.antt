@@ -1,0 +1,36 @@
+use borrow.Author.Needs.{needs}
+use Rattle.compose.proofs.write_merged.Statement.{statement}
+use Rattle.compose.proofs.write_merged.Tie as tie
+use Rattle.compose.proofs.LaidLaws.{too-long, written}
+use lib.ListN.{length}
+use Prim.Native.Nat.{_<_}
+use native.Mathlib.Omega.{arith}
+
+measure-requires : tie.Need-measure-requires
+measure-requires c κs = search needs
+
+same-length : tie.Need-same-length
+same-length c = search needs
+
+returns : tie.Need-returns
+returns c = search too-long
+
+print-composition-requires : tie.Need-print-composition-requires
+print-composition-requires c κs = search needs
+
+same-length-2 : tie.Need-same-length-2
+same-length-2 c = search needs
+
+returns-2 : tie.Need-returns-2
+returns-2 c = let small : length (c .before .before .before .before .before .before .before .before .before .before .before .before .before .args .out .now) < 9223372036854775808 = omega arith in search written
+
+pub write-merged-spec : {M : Type 1} → statement M
+write-merged-spec =
+    tie.close
+    (tie.spec
+    measure-requires
+    same-length
+    returns
+    print-composition-requires
+    same-length-2
+    returns-2)
