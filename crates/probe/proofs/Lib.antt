@@ -2,3 +2,4 @@
 pub mod FlatLaws
 pub mod MadeLaws
 pub mod LoadLaws
+pub mod ComposedLaws
