@@ -12,6 +12,8 @@ use Rattle.step.proofs.Table.{textK, modelK, textQ, modelQ, stepFrom, outcome, 
 use Rattle.cnf.specs.Clauses.{satisfies, Unsatisfiable}
 use Rattle.completeness.specs.Calls.{relationRow, terminalList}
 use Rattle.completeness.proofs.Table.{plain, enough, kBoth, kZero, k-both, k-zero, textZ, z-row-text, qRow, q-row}
+use Rattle.composition.specs.Calling.{composeTexts}
+use Rattle.composition.proofs.Examples.{model, first, second, together, composing-case}
 
 pub record Table : Type 0 where
   -- "Model K: `aag 3 1 1 1 1`, `2`, `4 6`, `6`, `6 4 2`"
@@ -30,6 +32,8 @@ pub record Table : Type 0 where
   -- "Reader: `+7` is 7; `07` by the witness reader is refused"
   pub plus-7 : (numberOf Transition (43 ∷ 55 ∷ []) ≡ Value 7) × (numberOf Witness (43 ∷ 55 ∷ []) ≡ Value 7)
   pub zero-7 : numberOf Witness (48 ∷ 55 ∷ []) ≡ Unreadable
+  -- "Composing model `aag 1 0 1 0 0`, `2 2` with witnesses `aag 1 0 1 1 0`, `2 2`, `2` and the same ending in `3` gives"
+  pub composes : composeTexts 1104 82 model (first ∷ second ∷ []) ≡ got together
 
 pub table : Table
 table =
@@ -44,4 +48,5 @@ table =
       q-complete = q-row;
       plus-7 = (plus-seven, plus-seven-witness);
       zero-7 = zero-seven-witness;
+      composes = composing-case;
     }
