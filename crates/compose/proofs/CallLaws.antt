@@ -3,22 +3,19 @@ use Prim.Native.Nat.{ℕ, zero, suc, _+_, _-_, _*_, _/_, _≤_, _<_}
 use mathlib.Core.Bool.{Bool, true, false, cond, not, _&&_}
 use mathlib.Core.List.{List, [], _∷_}
 use mathlib.Core.Logic.{_⊎_, inl, inr}
-use mathlib.Core.Path.{_≡_, refl, sym, ap, _∙_, subst}
+use mathlib.Core.Path.{_≡_, refl, sym, ap, _∙_}
 use native.Mathlib.Omega.{arith}
 use borrow.Author.Tests.{eq-eqb, ne-eqb, ltb-true, ltb-false, le-leb, lt-leb, lt-ltb, le-ltb}
 use lib.Dec.{eqb, leb, ltb}
 use lib.ListN.{length, getD, drop}
 use Rattle.lists.specs.Answer.{got}
-use Rattle.lists.specs.Parts.{Bytes, part}
-use Rattle.lists.specs.Tests.{all}
+use Rattle.lists.specs.Parts.{Bytes}
 use Rattle.lists.specs.Words.{inOrder}
 use Rattle.lists.proofs.AnswerLaws.{got-same}
 use Rattle.lists.proofs.BoolLaws.{and-false, below-or}
 use Rattle.lists.proofs.PairLaws.{pair-rest, no-pair, order-none}
-use Rattle.text.specs.Texts.{limited}
 use Rattle.witness_text.specs.declared.AagCounts.{AagCounts}
 use Rattle.witness.specs.Sections.{Sections}
-use Rattle.witness.specs.Reading.{readAag, countsIn}
 use Rattle.composition.specs.Composing.{orOutputs, safety, isSome}
 use Rattle.composition.specs.Calling.{readAll, textsIn}
 use Rattle.gathering.specs.Gathered.{CountsOf, Readable}

@@ -1,44 +1,31 @@
 -- Laws of the composer from the call down to what is laid out: each function's answer from that of the next.
-use Prim.Native.Nat.{ℕ, _+_, _-_, _*_, _/_, _≤_, _<_}
-use mathlib.Core.Bool.{Bool, true, false, not, _&&_}
+use Prim.Native.Nat.{ℕ, _+_, _-_, _*_}
+use mathlib.Core.Bool.{true, false, not}
 use mathlib.Core.List.{List, [], _∷_}
 use mathlib.Core.Path.{_≡_, refl, sym, ap, _∙_, subst}
 use native.Mathlib.Omega.{arith}
-use borrow.Author.Tests.{eq-eqb, ne-eqb, le-leb, lt-leb, leb-true}
+use borrow.Author.Tests.{eq-eqb, ne-eqb, leb-true}
 use lib.Dec.{eqb, leb}
-use lib.ListN.{length, take}
-use lib.Seq.{take-at}
-use Rattle.lists.specs.Answer.{Answer, got, refused, andThen, unless}
-use Rattle.lists.specs.Parts.{Bytes, part, front, zeros}
+use lib.ListN.{length}
+use Rattle.lists.specs.Answer.{Answer, got, refused, andThen}
+use Rattle.lists.specs.Parts.{Bytes}
 use Rattle.lists.specs.Tests.{all}
-use Rattle.lists.specs.Words.{inOrder}
-use Rattle.lists.proofs.BoolLaws.{and-false}
-use Rattle.lists.proofs.WordLaws.{pairs-count}
-use Rattle.text.specs.Texts.{limited}
 use Rattle.witness_text.specs.declared.AagCounts.{AagCounts}
-use Rattle.witness_text.proofs.CountLaws.{Counted, counted-facts}
-use Rattle.witness.specs.declared.ReadAag.{ReadAag}
-use Rattle.witness.specs.declared.ReadAag.the-variants as read
 use Rattle.witness.specs.Sections.{Sections, variables}
-use Rattle.witness.specs.Reading.{readAag, countsIn, countsRead}
-use Rattle.witness.proofs.AcceptedLaws.{read-accepted, read-got, read-refused}
+use Rattle.witness.specs.Reading.{countsIn}
 use Rattle.composition.specs.Composing.{mapsRight, compose}
-use Rattle.composition.specs.Calling.{size, sizes, readAll, composeSections, composeTexts, textsIn, composeCall}
-use Rattle.composition.specs.Meaning.{Composition}
-use Rattle.composition.proofs.DemandLaws.{composition-means}
+use Rattle.composition.specs.Calling.{size, sizes, readAll, composeSections, textsIn}
 use Rattle.joint.specs.Joint.{totalOf, inputCount, latchCount, gateCount}
 use Rattle.gathering.specs.declared.Totals.{Totals}
 use Rattle.gathering.specs.declared.Checked.{Checked}
 use Rattle.gathering.specs.declared.Checked.the-variants as checked
-use Rattle.gathering.specs.Checking.{addedCounts, SmallSums, totalsFrom, checkedFrom, noneYet, FewInOrder}
-use Rattle.gathering.specs.Gathered.{Readable}
+use Rattle.gathering.specs.Checking.{addedCounts, SmallSums, totalsFrom, checkedFrom, noneYet}
 use Rattle.laying.specs.declared.Places.{Places}
 use Rattle.laying.specs.declared.Laid.{Laid}
 use Rattle.laying.specs.declared.Laid.the-variants as laid
 use Rattle.laying.specs.Laid.{Fitting, LaidOut, CanLay, Lays}
 use Rattle.compose.specs.declared.Composed.{Composed}
 use Rattle.compose.specs.declared.Composed.the-variants as composed
-use Rattle.compose.specs.Promise.{composedAnswer, resultBytes, Composes}
 use Rattle.compose.specs.Steps.{firstRoom, roomBeside, Answers, composeRead, ModelIs, ModelSome, ComposesWitnesses, ComposesFitting, LaidRight, LaidSome, ComposesLaid}
 use Rattle.compose.proofs.CallLaws.{room-enough}
 

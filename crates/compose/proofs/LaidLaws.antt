@@ -1,5 +1,5 @@
 -- Laws of the composer from what is laid out on: merging, 19, measuring and writing.
-use Prim.Native.Nat.{ℕ, _+_, _*_, _/_, _≤_, _<_, min}
+use Prim.Native.Nat.{ℕ, _+_, _≤_, _<_}
 use mathlib.Core.Bool.{Bool, true, false}
 use mathlib.Core.List.{List, [], _∷_, _++_}
 use mathlib.Core.Path.{_≡_, refl, sym, ap, _∙_, subst}
@@ -10,13 +10,11 @@ use lib.Dec.{leb}
 use lib.ListN.{length, take, drop}
 use Rattle.lists.specs.Answer.{Answer, got, refused, andThen, unless}
 use Rattle.lists.specs.Parts.{Bytes, put, front}
-use Rattle.lists.specs.Tests.{all}
 use Rattle.lists.proofs.PartLaws.{put-front}
 use Rattle.printing.specs.Prints.{capped, Prints}
 use Rattle.witness_text.specs.declared.AagCounts.{AagCounts}
 use Rattle.witness.specs.Sections.{Sections}
-use Rattle.composition.specs.Numbering.{leafCount}
-use Rattle.composition.specs.Composing.{mapsRight, composed, composedGates, compose}
+use Rattle.composition.specs.Composing.{composed, compose}
 use Rattle.composition.specs.Printing.{printed}
 use Rattle.composition.specs.Calling.{composeSections}
 use Rattle.joint.proofs.AmountLaws.{leaf-count-most}
@@ -24,7 +22,6 @@ use Rattle.joint.proofs.GateLaws.{composed-gates-most}
 use Rattle.gathering.specs.declared.Totals.{Totals}
 use Rattle.gathering.specs.Checking.{FewInOrder}
 use Rattle.laying.specs.declared.Places.{Places}
-use Rattle.laying.specs.Laid.{Ready, variableTotal}
 use Rattle.merging.specs.declared.Merged.{Merged}
 use Rattle.merging.specs.declared.Merging.{Merging}
 use Rattle.merging.specs.declared.Merging.the-variants as merging

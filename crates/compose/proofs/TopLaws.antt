@@ -1,15 +1,15 @@
 -- Laws of the composer's call: the model's text, 1 and 2, and the whole promise.
 use Prim.Native.Nat.{ℕ, _+_, _/_, _≤_, _<_}
-use mathlib.Core.Bool.{Bool, true, false, _&&_}
-use mathlib.Core.List.{List, [], _∷_}
+use mathlib.Core.Bool.{Bool, true, false}
+use mathlib.Core.List.{List}
 use mathlib.Core.Path.{_≡_, refl, sym, ap, _∙_, subst}
 use native.Mathlib.Omega.{arith}
 use borrow.Author.Tests.{le-leb, lt-leb}
 use lib.Dec.{leb}
 use lib.ListN.{length, take}
 use lib.Seq.{take-at}
-use Rattle.lists.specs.Answer.{Answer, got, refused, andThen, unless}
-use Rattle.lists.specs.Parts.{Bytes, part, front, zeros}
+use Rattle.lists.specs.Answer.{Answer, got, refused, andThen}
+use Rattle.lists.specs.Parts.{Bytes, part, zeros}
 use Rattle.lists.specs.Words.{inOrder}
 use Rattle.lists.proofs.BoolLaws.{and-false}
 use Rattle.lists.proofs.WordLaws.{pairs-count}

@@ -1,6 +1,6 @@
 -- The composer on texts (01, item 8 and the numbered reasons): 1, 2, the texts in their order with 3 to 11, 15, then 16 to 20.
 use Prim.Native.Nat.{ℕ, _+_, _*_}
-use mathlib.Core.Bool.{Bool, true, false, _&&_}
+use mathlib.Core.Bool.{true, false, _&&_}
 use mathlib.Core.List.{List, [], _∷_}
 use lib.Dec.{leb}
 use lib.ListN.{length}

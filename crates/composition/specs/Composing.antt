@@ -1,7 +1,7 @@
 -- Item 8 of 01 on sections: the composition of the witnesses ws for the model m, or the first of 16, 17, 18, 19.
 use Prim.Native.Nat.{ℕ, suc, _+_}
-use mathlib.Core.Bool.{Bool, true, false, cond, not, _&&_}
-use mathlib.Core.List.{List, [], _∷_, _++_, map}
+use mathlib.Core.Bool.{Bool, true, false, cond, _&&_}
+use mathlib.Core.List.{List, [], _∷_, map}
 use mathlib.Core.Option.{Option, some}
 use lib.Dec.{eqb, leb}
 use lib.ListN.{length, getD}

@@ -1,6 +1,6 @@
 -- Item 8 of 01: "Variables are numbered at first appearance: all witnesses' inputs, then all latches, then gates" (the gates: Sharing).
 use Prim.Native.Nat.{ℕ, suc, _+_}
-use mathlib.Core.Bool.{Bool, true, false, _&&_}
+use mathlib.Core.Bool.{Bool, false, _&&_}
 use mathlib.Core.List.{List, [], _∷_, _++_, map}
 use mathlib.Core.Option.{Option, some, none}
 use lib.Dec.{eqb}

@@ -8,7 +8,7 @@ use Rattle.text.specs.Fields.{aag}
 use Rattle.decimal.specs.Decimal.{decimal}
 use Rattle.decimal.specs.Printed.{spaced, numberLine, textOf}
 use Rattle.aiger.specs.declared.Gate.{Gate}
-use Rattle.witness.specs.Sections.{NamedLatch, Sections, leaves, variables, latchNames}
+use Rattle.witness.specs.Sections.{NamedLatch, Sections, variables, latchNames}
 
 -- the header: `aag`, then M I L O A B C J F
 abbrev pub headerLine : Sections → Bytes

@@ -7,7 +7,6 @@ use lib.ListN.{getD}
 use Rattle.lists.specs.Firsts.{place, joined}
 use Rattle.aiger.specs.declared.Gate.{Gate}
 use Rattle.aiger.specs.Gates.{variable, gateFrom}
-use Rattle.witness.specs.Sections.{Sections}
 use Rattle.composition.specs.Numbering.{Placed}
 
 -- a literal of a witness as one of the composition: the composed variable in the place of its own, the sign kept

@@ -1,5 +1,5 @@
 -- Laws of the words of all texts, one after the other.
-use Prim.Native.Nat.{ℕ, _+_, _-_, _*_, _/_, _≤_, _<_}
+use Prim.Native.Nat.{ℕ, _+_, _-_, _/_, _≤_, _<_}
 use mathlib.Core.List.{List, [], _∷_, _++_, append-assoc, append-nil}
 use mathlib.Core.Path.{_≡_, refl, sym, ap, _∙_, subst}
 use native.Mathlib.Omega.{arith}
@@ -21,9 +21,8 @@ use Rattle.witness_words.specs.Loading.{Loadable, LoadsText, HasRoom}
 use Rattle.witness_words.proofs.TextLaws.{words-counted}
 use Rattle.composition.specs.Calling.{readAll, textsIn}
 use Rattle.joint.specs.Joint.{totalOf}
-use Rattle.gathering.specs.Checking.{FewInOrder}
-use Rattle.gathering.specs.Gathered.{CountsOf, wordsFor, LoadableAt, LoadedAt, LoadsAt, Block, Blocks, wordTotal, Readable, CanLoad, LoadsAll}
-use Rattle.gathering.proofs.TextLaws.{FirstRead, Left, left-more, left-none, texts-end}
+use Rattle.gathering.specs.Gathered.{CountsOf, wordsFor, LoadableAt, LoadedAt, LoadsAt, Block, Blocks, wordTotal, CanLoad, LoadsAll}
+use Rattle.gathering.proofs.TextLaws.{FirstRead, Left, left-more, left-none}
 
 -- a total over two lists of witnesses
 pub total-append : (count : Sections → ℕ) (xs ys : List Sections) → totalOf count (xs ++ ys) ≡ totalOf count xs + totalOf count ys

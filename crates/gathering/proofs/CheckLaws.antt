@@ -1,6 +1,6 @@
 -- Laws of `check_all`: what is counted of the witnesses that are read.
 use Prim.Native.Nat.{ℕ, _+_, _-_, _*_, _/_, _≤_, _<_}
-use mathlib.Core.Bool.{Bool, true}
+use mathlib.Core.Bool.{true}
 use mathlib.Core.List.{List, [], _∷_}
 use mathlib.Core.Path.{_≡_, refl, sym, ap, _∙_, subst}
 use native.Mathlib.Omega.{arith}
@@ -22,9 +22,8 @@ use Rattle.witness.specs.Reading.{readAag, countsIn, countsRead}
 use Rattle.witness.proofs.AcceptedLaws.{read-accepted, read-header, read-got, read-refused}
 use Rattle.composition.specs.Calling.{readAll, textsIn}
 use Rattle.gathering.specs.declared.Totals.{Totals}
-use Rattle.gathering.specs.declared.Checked.{Checked}
 use Rattle.gathering.specs.declared.Checked.the-variants as checked
-use Rattle.gathering.specs.Checking.{addedCounts, SmallSums, totalsFrom, checkedFrom, noneYet, FewInOrder}
+use Rattle.gathering.specs.Checking.{addedCounts, SmallSums, checkedFrom, noneYet, FewInOrder}
 use Rattle.gathering.specs.Gathered.{CountsOf}
 use Rattle.gathering.proofs.TextLaws.{texts-left, texts-end}
 

@@ -1,5 +1,5 @@
 -- Laws of gathering words of each witness, one list after the other.
-use Prim.Native.Nat.{ℕ, suc, _+_, _*_, _/_, _≤_, _<_}
+use Prim.Native.Nat.{ℕ, _+_, _/_, _≤_, _<_}
 use mathlib.Core.Bool.{true}
 use mathlib.Core.List.{List, [], _∷_, _++_, append-assoc, append-nil}
 use mathlib.Core.Path.{_≡_, refl, sym, ap, _∙_, subst}
@@ -12,16 +12,14 @@ use Rattle.lists.specs.Parts.{Bytes, put}
 use Rattle.lists.proofs.AnswerLaws.{got-same}
 use Rattle.lists.proofs.PartLaws.{put-none, put-put, put-length, put-take}
 use Rattle.text.specs.Texts.{limited}
-use Rattle.witness_text.specs.declared.AagCounts.{AagCounts}
 use Rattle.witness.specs.Sections.{Sections}
-use Rattle.witness.specs.Reading.{readAag, countsIn}
+use Rattle.witness.specs.Reading.{readAag}
 use Rattle.witness_words.specs.Loaded.{wordCount}
-use Rattle.composition.specs.Calling.{readAll, textsIn}
+use Rattle.composition.specs.Calling.{textsIn}
 use Rattle.joint.specs.declared.Before.{Before}
 use Rattle.joint.specs.Joint.{totalOf, inputCount, latchCount, gateCount, nothingBefore, beyond, gatheredFrom, gathered}
-use Rattle.gathering.specs.Gathered.{CountsOf, wordsFor, Block, Blocks, wordTotal, Readable, CanGather, Gathers}
+use Rattle.gathering.specs.Gathered.{Block, Blocks, wordTotal, Readable, CanGather, Gathers}
 use Rattle.gathering.proofs.TextLaws.{FirstRead, Left, left-more, left-none, texts-left}
-use Rattle.gathering.proofs.BlockLaws.{words-for}
 
 -- what stands before a witness and what is left make the totals
 pub record Amounts (ws : List Sections) (b : Before) (rest : List Sections) : Type 0 where

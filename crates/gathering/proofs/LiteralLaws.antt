@@ -1,35 +1,24 @@
 -- Laws of gathering a list of literals of each witness.
-use Prim.Native.Nat.{ℕ, _+_, _-_, _*_, _/_, _≤_, _<_}
-use mathlib.Core.Bool.{Bool, true, false}
-use mathlib.Core.List.{List, [], _∷_, _++_, map, append-assoc, append-nil}
+use Prim.Native.Nat.{ℕ, _+_, _-_, _*_, _≤_}
+use mathlib.Core.List.{List, [], _∷_, _++_, append-assoc, append-nil}
 use mathlib.Core.Path.{_≡_, refl, sym, ap, ap₂, _∙_, subst}
 use native.Mathlib.Omega.{arith}
 use borrow.Author.Tests.{eq-eqb, ne-eqb}
-use lib.ListN.{length, take, drop, getD, length-append, length-drop, length-map}
-use lib.Seq.{take-take, take-at, drop-at}
-use Rattle.lists.specs.Answer.{got}
-use Rattle.lists.specs.Parts.{Bytes, part, put}
-use Rattle.lists.specs.Tests.{Each}
+use lib.ListN.{length, take, length-append}
+use lib.Seq.{take-at, drop-at}
+use Rattle.lists.specs.Parts.{Bytes, part}
 use Rattle.lists.specs.Words.{wordsOf}
-use Rattle.lists.proofs.PartLaws.{part-of-part, part-at, part-take}
+use Rattle.lists.proofs.PartLaws.{part-of-part, part-take}
 use Rattle.lists.proofs.WordLaws.{words-length}
-use Rattle.text.specs.Texts.{limited}
-use Rattle.aiger.specs.declared.Gate.{Gate}
-use Rattle.witness_text.specs.declared.AagCounts.{AagCounts}
-use Rattle.witness.specs.Sections.{NamedLatch, Sections, leaves, variables}
-use Rattle.witness.specs.Reading.{readAag, countsIn}
+use Rattle.witness.specs.Sections.{Sections, leaves}
+use Rattle.witness.specs.Reading.{countsIn}
 use Rattle.witness_words.specs.Loaded.{latchWords, operandWords, literalWords, wordCount}
 use Rattle.composition.specs.Composing.{orOutputs, safety}
-use Rattle.composition.specs.Calling.{readAll, textsIn}
-use Rattle.composition.proofs.RangeLaws.{Within, LatchWithin, InRange, read-range}
-use Rattle.joint.specs.declared.Before.{Before}
-use Rattle.joint.specs.declared.Shift.{Shift}
 use Rattle.joint.specs.declared.Literals.{Literals}
 use Rattle.joint.specs.declared.Literals.the-variants as literals
-use Rattle.joint.specs.Joint.{totalOf, inputCount, latchCount, gateCount, shiftOf, shiftedLiteral, jointLiterals, listOf, nothingBefore, beyond}
+use Rattle.joint.specs.Joint.{inputCount, latchCount, listOf}
 use Rattle.gathering.specs.declared.Range.{Range}
-use Rattle.gathering.specs.Gathered.{CountsOf, wordsFor, Block, Readable, CanGather, Gathers, RightTotals, rangeOf, literalCount, SmallShift, CanShift, shiftFor, beyondCounts, SmallBefore, CanShiftList, ShiftsRange}
-use Rattle.gathering.proofs.TextLaws.{FirstRead}
+use Rattle.gathering.specs.Gathered.{Block, rangeOf}
 
 -- ---- a list among the words of a text
 

@@ -1,15 +1,15 @@
 -- Laws of the witness texts of a call: where they stand, and how they are read one after the other.
 use Prim.Native.Nat.{ℕ, zero, suc, _+_, _-_, _*_, _/_, _≤_, _<_}
-use mathlib.Core.Bool.{Bool, true, false, _&&_}
+use mathlib.Core.Bool.{true, _&&_}
 use mathlib.Core.List.{List, [], _∷_}
 use mathlib.Core.Path.{_≡_, refl, sym, ap, _∙_, subst}
 use native.Mathlib.Omega.{arith}
 use borrow.Author.Tests.{leb-true}
 use lib.Dec.{leb}
 use lib.ListN.{length, getD, drop, drop-of-length-le}
-use Rattle.lists.specs.Answer.{Answer, got, refused, andThen}
+use Rattle.lists.specs.Answer.{got, andThen}
 use Rattle.lists.specs.Parts.{Bytes, part}
-use Rattle.lists.specs.Words.{pairsOf, inOrder}
+use Rattle.lists.specs.Words.{inOrder}
 use Rattle.lists.proofs.AnswerLaws.{andThen-got, got-same}
 use Rattle.lists.proofs.BoolLaws.{and-left, and-right}
 use Rattle.lists.proofs.PairLaws.{pair-rest}

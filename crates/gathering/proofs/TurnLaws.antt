@@ -2,7 +2,7 @@
 use Prim.Native.Nat.{ℕ, suc, _+_, _-_, _*_, _/_, _≤_, _<_}
 use mathlib.Core.Bool.{true}
 use mathlib.Core.List.{List, [], _∷_, map}
-use mathlib.Core.Path.{_≡_, refl, sym, ap, ap₂, _∙_, subst}
+use mathlib.Core.Path.{_≡_, sym, ap, ap₂, _∙_, subst}
 use native.Mathlib.Omega.{arith}
 use lib.ListN.{length, drop, getD, take, length-map}
 use lib.Seq.{drop-drop}
@@ -17,18 +17,17 @@ use Rattle.text.specs.Texts.{limited}
 use Rattle.aiger.specs.declared.Gate.{Gate}
 use Rattle.witness_text.specs.declared.AagCounts.{AagCounts}
 use Rattle.witness.specs.Sections.{NamedLatch, Sections, leaves, variables}
-use Rattle.witness.specs.Reading.{readAag, countsIn}
+use Rattle.witness.specs.Reading.{countsIn}
 use Rattle.witness_words.specs.Loaded.{latchWords, operandWords, wordCount}
 use Rattle.composition.specs.Composing.{orOutputs}
 use Rattle.composition.specs.Calling.{readAll, textsIn}
 use Rattle.composition.proofs.RangeLaws.{Within, LatchWithin, InRange, read-range}
 use Rattle.composition.proofs.SolveLaws.{GatesFrom}
 use Rattle.joint.specs.declared.Before.{Before}
-use Rattle.joint.specs.declared.Shift.{Shift}
 use Rattle.joint.specs.declared.Literals.{Literals}
 use Rattle.joint.specs.declared.Literals.the-variants as literals
 use Rattle.joint.specs.Joint.{totalOf, inputCount, latchCount, gateCount, shiftOf, shiftedLiteral, jointLiterals, listOf, beyond}
-use Rattle.gathering.specs.Gathered.{CountsOf, wordsFor, Block, Readable, RightTotals, rangeOf, literalCount, SmallShift, CanShift, shiftFor, beyondCounts, SmallBefore, CanShiftList, ShiftsRange}
+use Rattle.gathering.specs.Gathered.{CountsOf, wordsFor, RightTotals, rangeOf, literalCount, shiftFor, beyondCounts, SmallBefore, CanShiftList, ShiftsRange}
 use Rattle.gathering.proofs.TextLaws.{first-read, none-read}
 use Rattle.gathering.proofs.CheckLaws.{read-counted}
 use Rattle.gathering.proofs.BlockLaws.{words-for}

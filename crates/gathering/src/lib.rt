@@ -1,14 +1,11 @@
 // All witnesses of a call: read, loaded into the work words, and gathered into lists of the joint circuit.
 ghost use mathlib.Core.Bool.{true};
-ghost use mathlib.Core.List.{[], map};
+ghost use mathlib.Core.List.{[]};
 ghost use mathlib.Core.Path.{_≡_};
 ghost use Prim.Native.Nat.{_+_, _-_, _*_, _/_, _≤_, _<_};
-ghost use lib.ListN.{length, getD, drop};
-ghost use Rattle.lists.specs.Answer.{got};
+ghost use lib.ListN.{length, getD};
 ghost use Rattle.lists.specs.Parts.{part};
 ghost use Rattle.lists.specs.Words.{inOrder};
-ghost use Rattle.text.specs.Texts.{limited};
-ghost use Rattle.witness.specs.Reading.{readAag, countsIn};
 ghost use Rattle.composition.specs.Calling.{readAll, textsIn};
 ghost use Rattle.gathering.specs.Checking.{addedCounts, SmallSums, checkedFrom, noneYet, FewInOrder};
 ghost use Rattle.gathering.specs.Gathered.{CountsOf, wordsFor, LoadableAt, LoadsAt, CanLoad, LoadsAll};

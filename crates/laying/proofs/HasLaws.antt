@@ -1,11 +1,11 @@
 -- Laws of lists that stand in the work words.
 use Prim.Native.Nat.{ℕ, _+_, _≤_}
 use mathlib.Core.List.{List, [], _∷_, _++_}
-use mathlib.Core.Path.{_≡_, refl, sym, ap, _∙_, subst}
+use mathlib.Core.Path.{_≡_, sym, ap, _∙_, subst}
 use native.Mathlib.Omega.{arith}
 use lib.ListN.{length, take}
 use Rattle.lists.specs.Parts.{part, put}
-use Rattle.lists.proofs.PartLaws.{put-part, put-take, put-length}
+use Rattle.lists.proofs.PartLaws.{put-part, put-length}
 use Rattle.gathering.proofs.LiteralLaws.{part-within}
 use Rattle.laying.specs.Laid.{Has, Known, knownLength, Standing}
 

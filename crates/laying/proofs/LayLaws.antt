@@ -1,8 +1,8 @@
 -- Laws of the last two regions that are read, and of the whole.
-use Prim.Native.Nat.{ℕ, _+_, _*_, _/_, _≤_, _<_}
-use mathlib.Core.Bool.{Bool, true, false, _&&_}
+use Prim.Native.Nat.{ℕ, _+_, _*_, _/_, _≤_}
+use mathlib.Core.Bool.{Bool, true, _&&_}
 use mathlib.Core.List.{List, [], _∷_, _++_}
-use mathlib.Core.Path.{_≡_, refl, sym, ap, _∙_, subst}
+use mathlib.Core.Path.{_≡_, sym, ap, _∙_, subst}
 use native.Mathlib.Omega.{arith}
 use lib.ListN.{length}
 use Rattle.lists.specs.Parts.{Bytes}
@@ -10,13 +10,13 @@ use Rattle.lists.proofs.BoolLaws.{and-false}
 use Rattle.witness_text.specs.declared.AagCounts.{AagCounts}
 use Rattle.witness.specs.Sections.{Sections}
 use Rattle.witness.specs.Reading.{countsIn}
-use Rattle.composition.specs.Calling.{size, sizes, textsIn}
+use Rattle.composition.specs.Calling.{size, sizes}
 use Rattle.joint.specs.declared.Leaves.the-variants as leaf
 use Rattle.joint.specs.declared.Literals.the-variants as literals
 use Rattle.joint.specs.Joint.{totalOf, inputCount, latchCount, gateCount, origins}
 use Rattle.joint.proofs.AmountLaws.{origins-length, input-origins-length, latch-origins-length}
 use Rattle.gathering.specs.declared.Totals.{Totals}
-use Rattle.gathering.specs.Gathered.{Blocks, wordTotal, LoadsAll, CanLoad, leafCountOf}
+use Rattle.gathering.specs.Gathered.{wordTotal, LoadsAll, CanLoad, leafCountOf}
 use Rattle.origins.specs.declared.Origins.{Origins}
 use Rattle.origins.specs.declared.Origins.the-variants as origin
 use Rattle.origins.specs.Mapped.{CanMapAll, MapsAll}
@@ -24,8 +24,8 @@ use Rattle.laying.specs.declared.Places.{Places}
 use Rattle.laying.specs.declared.Lists.{Lists}
 use Rattle.laying.specs.declared.Laid.{Laid}
 use Rattle.laying.specs.declared.Laid.the-variants as laid
-use Rattle.laying.specs.Laid.{Fitting, Regions, Listed, Ready, LaidOut, CanLay, Lays, knownLength, Standing, Stage, Staged, Goes, GoesRight, LaidRight, rightLeaves, nothing, withConstraints, withInputs, PlacesFit, placesOf}
-use Rattle.laying.proofs.RoomLaws.{Amounts, amounts}
+use Rattle.laying.specs.Laid.{Fitting, Ready, LaidOut, CanLay, Lays, knownLength, Stage, Staged, Goes, GoesRight, LaidRight, rightLeaves, nothing, withConstraints, withInputs, PlacesFit, placesOf}
+use Rattle.laying.proofs.RoomLaws.{amounts}
 use Rattle.laying.proofs.StageLaws.{long}
 use Rattle.laying.proofs.ReadyLaws.{stage-ready}
 use Rattle.laying.proofs.OriginLaws.{right-both, RoomyLeaves, modelBy, leaves-can, leaves-wrong, leaves-right, leaves-next}

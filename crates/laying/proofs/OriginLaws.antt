@@ -1,13 +1,13 @@
 -- Laws of laying out region by region: the origins, and the places behind them.
-use Prim.Native.Nat.{ℕ, _+_, _*_, _/_, _≤_, _<_}
+use Prim.Native.Nat.{ℕ, _+_, _*_, _≤_, _<_}
 use mathlib.Core.Bool.{Bool, true, false, _&&_}
-use mathlib.Core.List.{List, [], _∷_, _++_, map}
+use mathlib.Core.List.{List, [], _∷_, _++_}
 use mathlib.Core.Path.{_≡_, refl, sym, ap, _∙_, subst}
 use native.Mathlib.Omega.{arith}
-use lib.ListN.{length, length-map}
-use Rattle.lists.specs.Parts.{Bytes, put}
+use lib.ListN.{length}
+use Rattle.lists.specs.Parts.{Bytes}
 use Rattle.lists.specs.Tests.{all}
-use Rattle.lists.proofs.BoolLaws.{and-false, and-swap}
+use Rattle.lists.proofs.BoolLaws.{and-swap}
 use Rattle.witness_text.specs.declared.AagCounts.{AagCounts}
 use Rattle.witness.specs.Sections.{Sections}
 use Rattle.witness.specs.Reading.{countsIn}
@@ -17,20 +17,16 @@ use Rattle.composition.specs.Composing.{leavesRight, mapsRight}
 use Rattle.composition.specs.Calling.{sizes}
 use Rattle.joint.specs.declared.Leaves.{Leaves}
 use Rattle.joint.specs.declared.Leaves.the-variants as leaf
-use Rattle.joint.specs.declared.Literals.the-variants as literals
-use Rattle.joint.specs.Joint.{totalOf, inputCount, latchCount, gathered, namesOf, modelOf, origins}
+use Rattle.joint.specs.Joint.{totalOf, namesOf, modelOf, origins}
 use Rattle.joint.proofs.AmountLaws.{origins-length}
 use Rattle.gathering.specs.declared.Totals.{Totals}
-use Rattle.gathering.specs.Gathered.{CanGather, leafCountOf}
+use Rattle.gathering.specs.Gathered.{leafCountOf}
 use Rattle.origins.specs.declared.Origins.{Origins}
 use Rattle.origins.specs.declared.Origins.the-variants as origin
-use Rattle.origins.specs.Mapped.{rightBy, originsBy, CanMapAll, AllOrigins, MapsAll}
-use Rattle.laying.specs.declared.Lists.{Lists}
-use Rattle.laying.specs.declared.Laid.{Laid}
-use Rattle.laying.specs.declared.Laid.the-variants as laid
-use Rattle.laying.specs.Laid.{Known, knownLength, Stage, Staged, Goes, GoesRight, LaidOut, LaidRight, rightLeaves, withConstraints, withInputs}
-use Rattle.laying.proofs.RoomLaws.{Amounts, amounts}
-use Rattle.laying.proofs.StageLaws.{long, stage-behind, stage-more}
+use Rattle.origins.specs.Mapped.{CanMapAll, AllOrigins, MapsAll}
+use Rattle.laying.specs.Laid.{Known, knownLength, Stage, Staged, rightLeaves}
+use Rattle.laying.proofs.RoomLaws.{amounts}
+use Rattle.laying.proofs.StageLaws.{stage-behind, stage-more}
 
 -- ---- 16 of inputs and of latches
 

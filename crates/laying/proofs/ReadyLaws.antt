@@ -1,21 +1,20 @@
 -- What is laid out, region by region.
-use Prim.Native.Nat.{ℕ, suc, _+_, _*_, _/_, _≤_, _<_}
+use Prim.Native.Nat.{ℕ, _+_, _/_}
 use mathlib.Core.List.{List, [], _∷_, _++_}
-use mathlib.Core.Path.{_≡_, refl, sym, ap, _∙_, subst}
+use mathlib.Core.Path.{_≡_, refl, sym, ap, subst}
 use native.Mathlib.Omega.{arith}
 use lib.ListN.{length}
 use Rattle.lists.specs.Parts.{Bytes}
 use Rattle.witness_text.specs.declared.AagCounts.{AagCounts}
 use Rattle.witness.specs.Sections.{Sections}
-use Rattle.witness.specs.Reading.{countsIn}
 use Rattle.joint.specs.declared.Leaves.the-variants as leaf
 use Rattle.joint.specs.declared.Literals.the-variants as literals
 use Rattle.joint.specs.Joint.{totalOf, inputCount, latchCount, gateCount, joint, listOf, origins}
 use Rattle.joint.proofs.AmountLaws.{input-origins-length, latch-origins-length}
 use Rattle.gathering.specs.declared.Totals.{Totals}
 use Rattle.laying.specs.declared.Lists.{Lists}
-use Rattle.laying.specs.Laid.{Has, Regions, Listed, Ready, knownLength, Stage, withInputs, PlacesFit, placesOf}
-use Rattle.laying.proofs.RoomLaws.{Amounts, amounts}
+use Rattle.laying.specs.Laid.{Has, Regions, Listed, Ready, Stage, withInputs, PlacesFit, placesOf}
+use Rattle.laying.proofs.RoomLaws.{amounts}
 use Rattle.laying.proofs.StageLaws.{long}
 
 module _ (l : Lists) (mc : AagCounts) (t : Totals) (buffer : Bytes) (pairs work : List ℕ) (b table : ℕ) (m : Sections) (ws : List Sections)

@@ -1,16 +1,14 @@
 -- Laws of how much room the regions need.
 use Prim.Native.Nat.{ℕ, _+_, _*_, _≤_}
 use mathlib.Core.List.{List, [], _∷_}
-use mathlib.Core.Path.{_≡_, refl, sym, ap, _∙_}
+use mathlib.Core.Path.{_≡_, refl}
 use native.Mathlib.Omega.{arith}
 use lib.ListN.{length}
-use Rattle.lists.specs.Words.{wordsOf}
 use Rattle.lists.proofs.WordLaws.{words-length}
 use Rattle.witness.specs.Sections.{Sections}
-use Rattle.witness.specs.Reading.{countsIn}
-use Rattle.witness_words.specs.Loaded.{latchWords, operandWords, wordCount}
+use Rattle.witness_words.specs.Loaded.{latchWords, operandWords}
 use Rattle.composition.specs.Composing.{orOutputs}
-use Rattle.composition.specs.Calling.{size, sizes}
+use Rattle.composition.specs.Calling.{sizes}
 use Rattle.joint.specs.declared.Literals.the-variants as literals
 use Rattle.joint.specs.Joint.{totalOf, inputCount, latchCount, gateCount}
 use Rattle.gathering.specs.Gathered.{wordTotal, literalCount}

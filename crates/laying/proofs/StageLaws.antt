@@ -4,7 +4,6 @@ use mathlib.Core.List.{List, [], _∷_, _++_}
 use mathlib.Core.Path.{_≡_, refl, sym, ap, ap₂, _∙_, subst}
 use native.Mathlib.Omega.{arith}
 use lib.ListN.{length, take}
-use Rattle.lists.specs.Answer.{got}
 use Rattle.lists.specs.Parts.{Bytes, put}
 use Rattle.lists.proofs.AnswerLaws.{got-same}
 use Rattle.lists.proofs.PartLaws.{put-take, put-length}
@@ -16,12 +15,12 @@ use Rattle.joint.specs.declared.Literals.the-variants as literals
 use Rattle.joint.specs.Joint.{totalOf, inputCount, latchCount, jointLiterals, gathered, joint, listOf}
 use Rattle.joint.proofs.AmountLaws.{joint-length}
 use Rattle.gathering.specs.declared.Totals.{Totals}
-use Rattle.gathering.specs.Gathered.{Blocks, wordTotal, Readable, CanGather, Gathers, literalCount}
+use Rattle.gathering.specs.Gathered.{wordTotal, Readable, CanGather, Gathers, literalCount}
 use Rattle.gathering.proofs.BlockLaws.{blocks-same}
 use Rattle.laying.specs.declared.Laid.{Laid}
 use Rattle.laying.specs.Laid.{Has, Known, knownLength, Stage, Staged, Goes, literalsAt, nothing, withLatches, withOperands, withSafety}
 use Rattle.laying.proofs.HasLaws.{has-put, standing-more, known-more}
-use Rattle.laying.proofs.RoomLaws.{Amounts, amounts}
+use Rattle.laying.proofs.RoomLaws.{amounts}
 
 -- ---- any list behind others
 

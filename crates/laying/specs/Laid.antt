@@ -1,16 +1,14 @@
 -- For the contracts of the composer's inner functions: where everything stands in the work words.
-use Prim.Native.Nat.{ℕ, suc, _+_, _*_, _/_, _≤_, _<_}
-use mathlib.Core.Bool.{Bool, true, false, _&&_}
+use Prim.Native.Nat.{ℕ, suc, _+_, _*_, _/_, _≤_}
+use mathlib.Core.Bool.{Bool, true, false}
 use mathlib.Core.List.{List, [], _∷_}
 use mathlib.Core.Path.{_≡_}
 use lib.ListN.{length}
-use Rattle.lists.specs.Answer.{got}
 use Rattle.lists.specs.Parts.{Bytes, part}
 use Rattle.lists.specs.Tests.{all}
 use Rattle.witness_text.specs.declared.AagCounts.{AagCounts}
 use Rattle.witness.specs.Sections.{Sections, variables}
 use Rattle.witness.specs.Reading.{countsIn}
-use Rattle.witness_words.specs.Loaded.{wordCount}
 use Rattle.composition.specs.Composing.{leavesRight, mapsRight}
 use Rattle.composition.specs.Mapping.{mapsByName}
 use Rattle.composition.specs.Calling.{sizes, textsIn}

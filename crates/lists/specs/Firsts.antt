@@ -1,6 +1,6 @@
 -- First appearances (01, item 8): "Variables are numbered at first appearance", "Equal unordered operand pairs share a gate", and "ascending sets".
 use Prim.Native.Nat.{ℕ, zero, suc}
-use mathlib.Core.Bool.{Bool, true, false, cond}
+use mathlib.Core.Bool.{Bool, cond}
 use mathlib.Core.List.{List, [], _∷_, _++_}
 use lib.Dec.{eqb, ltb}
 use Rattle.lists.specs.Tests.{any}

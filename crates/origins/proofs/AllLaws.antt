@@ -1,17 +1,16 @@
 -- Laws of the origins of all witnesses.
-use Prim.Native.Nat.{ℕ, _+_, _*_, _/_, _≤_, _<_}
+use Prim.Native.Nat.{ℕ, _+_, _/_, _≤_, _<_}
 use mathlib.Core.Bool.{Bool, true, false, _&&_}
-use mathlib.Core.List.{List, [], _∷_}
+use mathlib.Core.List.{List, []}
 use mathlib.Core.Path.{_≡_, refl, sym, ap, _∙_, subst}
 use native.Mathlib.Omega.{arith}
 use lib.ListN.{length, drop, getD, length-map}
-use Rattle.lists.specs.Answer.{got}
-use Rattle.lists.specs.Parts.{Bytes, part, put}
+use Rattle.lists.specs.Parts.{Bytes}
 use Rattle.lists.specs.Tests.{all}
 use Rattle.lists.proofs.AnswerLaws.{got-same}
 use Rattle.text.specs.Texts.{limited}
 use Rattle.witness_text.specs.declared.AagCounts.{AagCounts}
-use Rattle.witness.specs.Sections.{Sections, latchNames}
+use Rattle.witness.specs.Sections.{Sections}
 use Rattle.witness.specs.Reading.{readAag, countsIn}
 use Rattle.witness_words.specs.Loaded.{wordCount}
 use Rattle.composition.specs.declared.ModelLeaves.{ModelLeaves}
@@ -20,7 +19,7 @@ use Rattle.composition.specs.Calling.{textsIn}
 use Rattle.joint.specs.declared.Before.{Before}
 use Rattle.joint.specs.declared.Leaves.{Leaves}
 use Rattle.joint.specs.declared.Leaves.the-variants as leaf
-use Rattle.joint.specs.Joint.{nothingBefore, beyond, namesOf, originsFrom}
+use Rattle.joint.specs.Joint.{nothingBefore, beyond, namesOf}
 use Rattle.gathering.specs.Gathered.{CountsOf, wordsFor, Block, Readable, leafCountOf}
 use Rattle.gathering.proofs.TextLaws.{FirstRead, Left, left-more, left-none}
 use Rattle.gathering.proofs.CheckLaws.{read-counted}
@@ -28,7 +27,7 @@ use Rattle.gathering.proofs.BlockLaws.{words-for, block-kept}
 use Rattle.gathering.proofs.GatherLaws.{Gathering, Next, gathering-none, gathering-next, gathering-end}
 use Rattle.origins.specs.declared.Origins.{Origins}
 use Rattle.origins.specs.declared.Origins.the-variants as origins
-use Rattle.origins.specs.Mapped.{leafCounts, CanMapWitness, originsBy, rightBy, WitnessOrigins, MapsWitness, CanMapAll, AllOrigins, MapsAll}
+use Rattle.origins.specs.Mapped.{leafCounts, CanMapWitness, originsBy, rightBy, WitnessOrigins, MapsWitness, CanMapAll, MapsAll}
 use Rattle.origins.proofs.LoopLaws.{origins-length}
 
 -- as many as the counts say

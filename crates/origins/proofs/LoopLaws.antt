@@ -1,18 +1,18 @@
 -- Laws of the loops over the names that pairs of words say.
 use Prim.Native.Nat.{ℕ, zero, suc, _+_, _*_, _/_, _≤_, _<_}
 use mathlib.Core.Bool.{Bool, true, false, _||_, _&&_}
-use mathlib.Core.List.{List, [], _∷_, map}
+use mathlib.Core.List.{List, [], _∷_}
 use mathlib.Core.Option.{Option, some, none}
-use mathlib.Core.Path.{_≡_, refl, sym, ap, _∙_, subst}
+use mathlib.Core.Path.{_≡_, refl, sym, ap, _∙_}
 use native.Mathlib.Numerals.{add-one}
 use native.Mathlib.Omega.{arith}
 use lib.ListN.{length, getD, drop, take, set, length-map, length-set, List·getD-map, drop-of-length-le}
 use lib.Seq.{getD-take, take-set-le}
-use Rattle.lists.specs.Parts.{Bytes, part, put}
+use Rattle.lists.specs.Parts.{Bytes, part}
 use Rattle.lists.specs.Tests.{any, allFrom}
 use Rattle.lists.specs.Words.{pairsOf}
 use Rattle.lists.proofs.PairLaws.{pair-rest}
-use Rattle.lists.proofs.PartLaws.{Copied, copied-none, copied-more, copied-done, part-length, part-at, put-before}
+use Rattle.lists.proofs.PartLaws.{Copied, copied-none, copied-more, copied-done, part-length, part-at}
 use Rattle.lists.proofs.RestLaws.{rest-head, rest-more}
 use Rattle.lists.proofs.WordLaws.{pairs-count, pairs-drop}
 use Rattle.witness_words.specs.Loaded.{nameFrom}
@@ -21,8 +21,7 @@ use Rattle.composition.specs.declared.Mapping.{Mapping}
 use Rattle.composition.specs.Mapping.{isMapped, mappingOf}
 use Rattle.composition.specs.Composing.{isRight, leavesRight}
 use Rattle.joint.specs.Joint.{originWord, originsFrom}
-use Rattle.origins.specs.Mapped.{FewLeaves, SaysName, MappedAt, MapsAt, SaysAt, TestsAt, SaysNames, SayNames, AnyMapped, CanMap, OriginsIf, StoresOrigins}
-use Rattle.origins.proofs.NameLaws.{some-same}
+use Rattle.origins.specs.Mapped.{MappedAt, MapsAt, SaysAt, TestsAt, SaysNames, SayNames, AnyMapped, CanMap, StoresOrigins}
 
 -- ---- the names one by one
 

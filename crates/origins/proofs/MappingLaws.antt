@@ -1,13 +1,13 @@
 -- Laws of what one input or latch maps to.
-use Prim.Native.Nat.{ℕ, suc, _+_, _-_, _*_, _/_, _%_, _≤_, _<_}
-use mathlib.Core.Bool.{Bool, true, false, cond, not, _&&_}
-use mathlib.Core.List.{List, [], _∷_}
-use mathlib.Core.Option.{Option, some, none}
+use Prim.Native.Nat.{ℕ, _+_, _-_, _*_, _/_, _%_, _≤_, _<_}
+use mathlib.Core.Bool.{Bool, true, false, not}
+use mathlib.Core.List.{[], _∷_}
+use mathlib.Core.Option.{some}
 use mathlib.Core.Path.{_≡_, refl, sym, ap, _∙_}
 use native.Mathlib.Numerals.{add-one}
 use native.Mathlib.Omega.{arith}
-use borrow.Author.Tests.{eq-eqb, ne-eqb, lt-ltb, le-ltb, le-leb, lt-leb, ltb-true, ltb-false}
-use lib.Dec.{eqb, ltb, leb}
+use borrow.Author.Tests.{eq-eqb, ne-eqb, lt-ltb, le-ltb, le-leb, lt-leb}
+use lib.Dec.{eqb, ltb}
 use lib.ListN.{length, drop, take}
 use Rattle.lists.specs.Bits.{odd}
 use Rattle.lists.specs.Parts.{Bytes}
@@ -21,7 +21,7 @@ use Rattle.text.specs.Numbers.{numberOf}
 use Rattle.composition.specs.declared.ModelLeaves.{ModelLeaves}
 use Rattle.composition.specs.declared.Mapping.{Mapping}
 use Rattle.composition.specs.declared.Mapping.the-variants as mapping
-use Rattle.composition.specs.Mapping.{equals, isOf, ontoNumber, byName, byPosition}
+use Rattle.composition.specs.Mapping.{equals, ontoNumber, byName, byPosition}
 
 -- ---- a literal
 

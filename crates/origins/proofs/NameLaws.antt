@@ -1,21 +1,20 @@
 -- Laws of names that two words say.
-use Prim.Native.Nat.{ℕ, _+_, _*_, _≤_, _<_}
+use Prim.Native.Nat.{ℕ, _+_, _*_, _≤_}
 use mathlib.Core.Bool.{Bool, true, false, cond}
-use mathlib.Core.List.{List, [], _∷_, map}
+use mathlib.Core.List.{List, [], _∷_}
 use mathlib.Core.Option.{Option, some, none}
-use mathlib.Core.Path.{_≡_, refl, sym, ap, _∙_}
+use mathlib.Core.Path.{_≡_, refl, sym, _∙_}
 use native.Mathlib.Omega.{arith}
 use borrow.Author.Tests.{eq-eqb, ne-eqb, leb-true}
 use lib.Dec.{eqb, leb}
 use lib.ListN.{length, getD}
 use Rattle.lists.specs.Parts.{Bytes, part}
-use Rattle.lists.proofs.BoolLaws.{true-or-false}
 use Rattle.scan.specs.Same.{beginsWith}
 use Rattle.witness_words.specs.Loaded.{nameFrom}
 use Rattle.composition.specs.declared.ModelLeaves.{ModelLeaves}
 use Rattle.composition.specs.declared.Mapping.{Mapping}
 use Rattle.composition.specs.declared.Mapping.the-variants as mapping
-use Rattle.composition.specs.Mapping.{isMapped, byName, byPosition, mappingOf}
+use Rattle.composition.specs.Mapping.{byName, byPosition}
 use Rattle.joint.specs.Joint.{originWord}
 use Rattle.origins.specs.Mapped.{SaysName, MapsTo, TestsName, SaysAt, TestsAt, MappedAt, MapsAt}
 

@@ -1,14 +1,13 @@
 -- Laws of the origins of one witness.
-use Prim.Native.Nat.{ℕ, _+_, _-_, _*_, _≤_, _<_}
+use Prim.Native.Nat.{ℕ, _+_, _-_, _*_, _≤_}
 use mathlib.Core.Bool.{Bool, true, false, cond}
-use mathlib.Core.List.{List, [], _∷_, _++_, map, map-append}
-use mathlib.Core.Option.{Option, some, none}
+use mathlib.Core.List.{List, map, map-append}
+use mathlib.Core.Option.{some}
 use mathlib.Core.Path.{_≡_, refl, sym, ap, _∙_, subst}
 use native.Mathlib.Omega.{arith}
-use lib.ListN.{length, take, drop, length-append, length-map}
+use lib.ListN.{length, take, drop, length-map}
 use lib.Seq.{take-at, drop-at, drop-drop, take-take}
-use Rattle.lists.specs.Parts.{Bytes, part, put}
-use Rattle.lists.specs.Tests.{any}
+use Rattle.lists.specs.Parts.{Bytes, part}
 use Rattle.lists.specs.Words.{pairsOf}
 use Rattle.lists.proofs.PartLaws.{drop-take}
 use Rattle.lists.proofs.WordLaws.{pairs-take, pairs-drop}
@@ -17,13 +16,11 @@ use Rattle.witness.specs.Sections.{Sections, leaves, latchNames, namesIn}
 use Rattle.witness.specs.Reading.{countsIn}
 use Rattle.witness_words.specs.Loaded.{nameFrom, literalWords, wordCount}
 use Rattle.composition.specs.declared.ModelLeaves.{ModelLeaves}
-use Rattle.composition.specs.Mapping.{isMapped, mapsByName}
-use Rattle.composition.specs.Composing.{leavesRight}
+use Rattle.composition.specs.Mapping.{mapsByName}
 use Rattle.joint.specs.declared.Leaves.{Leaves}
 use Rattle.joint.specs.declared.Leaves.the-variants as leaf
-use Rattle.joint.specs.Joint.{namesOf, originsFrom}
+use Rattle.joint.specs.Joint.{namesOf}
 use Rattle.gathering.specs.Gathered.{wordsFor, Block}
-use Rattle.gathering.proofs.BlockLaws.{words-for}
 use Rattle.origins.specs.declared.Origins.{Origins}
 use Rattle.origins.specs.declared.Origins.the-variants as origins
 use Rattle.origins.specs.Mapped.{SaysNames, SayNames, AnyMapped, CanMap, OriginsIf, StoresOrigins, leafCounts, namesBefore, CanTest, TestsWitness, CanMapWitness, WitnessOrigins, MapsWitness}

@@ -1,12 +1,10 @@
 -- Laws of printing the composition part by part.
-use Prim.Native.Nat.{ℕ, suc, _+_, _-_, _*_, _/_, _^_, _≤_, _<_}
+use Prim.Native.Nat.{ℕ, suc, _+_, _-_, _*_, _≤_, _<_}
 use mathlib.Core.List.{List, [], _∷_, _++_, map}
 use mathlib.Core.Path.{_≡_, refl, sym, ap, _∙_, subst}
-use native.Mathlib.Numerals.{add-one}
 use native.Mathlib.Omega.{arith}
 use lib.ListN.{length, length-map}
 use Rattle.lists.specs.Parts.{Bytes, part}
-use Rattle.lists.specs.Tests.{Each}
 use Rattle.lists.specs.Words.{wordsOf}
 use Rattle.lists.proofs.PartLaws.{part-length}
 use Rattle.lists.proofs.TestLaws.{each-so}
@@ -19,14 +17,14 @@ use Rattle.printing.proofs.PrintsLaws.{Word, prints-then}
 use Rattle.witness.specs.Sections.{Sections}
 use Rattle.witness_words.specs.Loaded.{latchWords}
 use Rattle.composition.specs.Numbering.{inputEntries, latchEntries, inputFirsts, latchFirsts, numbered, leafCount}
-use Rattle.composition.specs.Sharing.{Operands, gatesFrom}
+use Rattle.composition.specs.Sharing.{gatesFrom}
 use Rattle.composition.specs.Composing.{safety, literalsOf, whole, allDefined, composedGates}
 use Rattle.composition.specs.Printing.{gateLines, symbolLines}
 use Rattle.composition.proofs.KeepLaws.{composed-latches-length}
 use Rattle.joint.specs.declared.Leaves.the-variants as leaf
-use Rattle.joint.specs.Joint.{totalOf, inputCount, latchCount, gateCount, nothingBefore, origins}
+use Rattle.joint.specs.Joint.{totalOf, inputCount, gateCount, nothingBefore, origins}
 use Rattle.gathering.specs.declared.Totals.{Totals}
-use Rattle.gathering.specs.Gathered.{wordTotal, leafCountOf}
+use Rattle.gathering.specs.Gathered.{leafCountOf}
 use Rattle.laying.specs.declared.Places.{Places}
 use Rattle.laying.specs.Laid.{Has}
 use Rattle.merging.specs.declared.Merged.{Merged}

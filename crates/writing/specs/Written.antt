@@ -1,5 +1,5 @@
 -- For the contracts of the functions that print the composition from the work words.
-use Prim.Native.Nat.{ℕ, suc, _+_, _≤_, _<_}
+use Prim.Native.Nat.{ℕ, suc, _+_, _≤_}
 use mathlib.Core.List.{List, [], _∷_, _++_}
 use mathlib.Core.Path.{_≡_}
 use lib.ListN.{length}
@@ -14,7 +14,7 @@ use Rattle.composition.specs.Numbering.{inputFirsts, latchFirsts, leafCount}
 use Rattle.composition.specs.Sharing.{gatesFrom}
 use Rattle.composition.specs.Composing.{safety, literalsOf, whole, composedGates}
 use Rattle.composition.specs.Printing.{gateLines, symbolLines}
-use Rattle.joint.specs.Joint.{totalOf, inputCount, latchCount, gateCount}
+use Rattle.joint.specs.Joint.{totalOf, inputCount, gateCount}
 use Rattle.gathering.specs.declared.Totals.{Totals}
 use Rattle.gathering.specs.Gathered.{Readable}
 use Rattle.laying.specs.declared.Places.{Places}
