@@ -10,11 +10,9 @@ use lib.ListN.{length, getD, drop, take, set, length-map, length-set, List·getD
 use lib.Seq.{getD-take, take-set-le}
 use Rattle.lists.specs.Parts.{Bytes, part}
 use Rattle.lists.specs.Tests.{any, allFrom}
-use Rattle.lists.specs.Words.{pairsOf}
-use Rattle.lists.proofs.PairLaws.{pair-rest}
 use Rattle.lists.proofs.PartLaws.{Copied, copied-none, copied-more, copied-done, part-length, part-at}
-use Rattle.lists.proofs.RestLaws.{rest-head, rest-more}
-use Rattle.lists.proofs.WordLaws.{pairs-count, pairs-drop}
+use Rattle.lists.proofs.RestLaws.{rest-more}
+use Rattle.lists.proofs.WordLaws.{pairs-at, pairs-count}
 use Rattle.witness_words.specs.Loaded.{nameFrom}
 use Rattle.composition.specs.declared.ModelLeaves.{ModelLeaves}
 use Rattle.composition.specs.declared.Mapping.{Mapping}
@@ -25,9 +23,6 @@ use Rattle.origins.specs.Mapped.{MappedAt, MapsAt, SaysAt, TestsAt, Says
 
 -- ---- the names one by one
 
-pub pairs-at : {B : Type 0} (make : ℕ → ℕ → B) (ws : List ℕ) (i : ℕ) (d : B) → i < length ws / 2 → getD (pairsOf make ws) i d ≡ make (getD ws (2 * i) 0) (getD ws (2 * i + 1) 0)
-pairs-at make ws i d h = sym (rest-head (pairsOf make ws) i d) ∙ rw (pairs-drop make i ws, pair-rest ws i (omega arith)) refl
-
 module _ (t : Bytes) (words : List ℕ) (names : List (Option Bytes)) (say : SaysNames t words names) where
   pub names-count : length names ≡ length words / 2
   names-count = sym (length-map names some) ∙ (ap length (sym say) ∙ pairs-count (nameFrom t) words)
@@ -35,7 +30,7 @@ module _ (t : Bytes) (words : List ℕ) (names : List (Option Bytes)) (say : Say
   module _ (i : ℕ) (h : i < length words / 2) where
     pub names-at : nameFrom t (getD words (2 * i) 0) (getD words (2 * i + 1) 0) ≡ some (getD names i none)
     names-at =
-        sym (pairs-at (nameFrom t) words i (some none) h)
+        sym (pairs-at (nameFrom t) words i 0 (some none) (omega arith))
         ∙ (ap (λ (l : List (Option (Option Bytes))). getD l i (some none)) say ∙ List·getD-map some names i none)
 
     pub names-rest : drop i names ≡ getD names i none ∷ drop (i + 1) names
