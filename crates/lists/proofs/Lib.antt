@@ -2,6 +2,7 @@ pub mod BoolLaws
 pub mod AnswerLaws
 pub mod RestLaws
 pub mod PartLaws
+pub mod KeptLaws
 pub mod TestLaws
 pub mod MapLaws
 pub mod WordLaws
