@@ -4,12 +4,13 @@ use mathlib.Core.List.{List, [], _∷_, _++_, append-assoc, append-nil}
 use mathlib.Core.Path.{_≡_, refl, sym, ap, _∙_, subst}
 use native.Mathlib.Omega.{arith}
 use lib.ListN.{length, take, drop, getD, length-append, length-drop}
-use lib.Seq.{take-all, take-at, take-take, drop-drop}
+use lib.Seq.{take-all, take-at, drop-drop}
 use mathlib.Core.Bool.{true}
 use Rattle.lists.specs.Answer.{got}
 use Rattle.lists.specs.Parts.{Bytes, part}
 use Rattle.lists.proofs.AnswerLaws.{got-same}
-use Rattle.lists.proofs.PartLaws.{drop-take, tail-lent, tail-front, tail-back}
+use Rattle.lists.proofs.KeptLaws.{take-kept, part-kept}
+use Rattle.lists.proofs.PartLaws.{tail-lent, tail-front, tail-back}
 use Rattle.lists.proofs.RestLaws.{take-next}
 use Rattle.lists.proofs.WordLaws.{pairs-count}
 use Rattle.text.specs.Texts.{limited}
@@ -21,7 +22,8 @@ use Rattle.witness_words.specs.Loading.{Loadable, LoadsText, HasRoom}
 use Rattle.witness_words.proofs.TextLaws.{words-counted}
 use Rattle.composition.specs.Calling.{readAll, textsIn}
 use Rattle.joint.specs.Joint.{totalOf}
-use Rattle.gathering.specs.Gathered.{CountsOf, wordsFor, LoadableAt, LoadedAt, LoadsAt, Block, Blocks, wordTotal, CanLoad, LoadsAll}
+use Rattle.gathering.specs.Counts.{countsAt, CountsListed}
+use Rattle.gathering.specs.Gathered.{wordsFor, LoadableAt, LoadedAt, LoadsAt, Block, Blocks, wordTotal, CanLoad, LoadsAll}
 use Rattle.gathering.proofs.TextLaws.{FirstRead, Left, left-more, left-none}
 
 -- a total over two lists of witnesses
@@ -35,14 +37,10 @@ words-for s = omega (arith, words-counted s)
 
 -- ---- blocks
 
--- fewer words of the same
-take-fewer : (m n : ℕ) (v w : List ℕ) → m ≤ n → take n w ≡ take n v → take m w ≡ take m v
-take-fewer m n v w h e = sym (take-take m n w h) ∙ (ap (take m) e ∙ take-take m n v h)
-
 drop-fewer : (m n : ℕ) (v w : List ℕ) → take (m + n) w ≡ take (m + n) v → take n (drop m w) ≡ take n (drop m v)
 drop-fewer m n v w e =
     let k : m + n - m ≡ n = omega arith in
-    subst (λ (j : ℕ). take j (drop m w) ≡ take j (drop m v)) k (sym (drop-take m (m + n) w) ∙ (ap (drop m) e ∙ drop-take m (m + n) v))
+    subst (λ (j : ℕ). take j (drop m w) ≡ take j (drop m v)) k (part-kept w v (m + n) e m (m + n) (omega arith))
 
 -- blocks are a matter of their own words
 pub blocks-same : (ts : List Bytes) (ss : List Sections) (v w : List ℕ) → take (wordTotal ss) w ≡ take (wordTotal ss) v → Blocks ts ss v → Blocks ts ss w
@@ -54,7 +52,7 @@ blocks-same (t ∷ ts) (s ∷ ss) v w e b = (
     nameWords = b .0 .nameWords;
     count = b .0 .count;
     names = b .0 .names;
-    stand = take-fewer (wordCount s) (wordCount s + wordTotal ss) v w (omega arith) e ∙ b .0 .stand;
+    stand = take-kept w v (wordCount s + wordTotal ss) e (wordCount s) (omega arith) ∙ b .0 .stand;
   },
   blocks-same ts ss (drop (wordCount s) v) (drop (wordCount s) w) (drop-fewer (wordCount s) (wordTotal ss) v w e) (b .1),
 )
@@ -66,7 +64,7 @@ block-kept t s v w to from e h b =
       nameWords = b .nameWords;
       count = b .count;
       names = b .names;
-      stand = drop-fewer from (wordCount s) v w (take-fewer (from + wordCount s) to v w h e) ∙ b .stand;
+      stand = drop-fewer from (wordCount s) v w (take-kept w v to e (from + wordCount s) h) ∙ b .stand;
     }
 
 -- one more block behind the others
@@ -130,7 +128,7 @@ module _ (buffer : Bytes) (pairs work : List ℕ) (at w count : ℕ) (k : Loadin
       let whole : take w (textsIn buffer pairs) ≡ textsIn buffer pairs = take-all w (textsIn buffer pairs) (omega (arith, pairs-count (λ (o n : ℕ). part buffer o (o + n)) pairs)) in
       rw same (subst (λ (ts : List Bytes). Blocks ts (k .before) work) whole (k .blocks), k .at-is)
 
-  module _ (less : w < count) (t : Bytes) (is : t ≡ getD (textsIn buffer pairs) w []) (n : AagCounts) (c : CountsOf t n) where
+  module _ (less : w < count) (t : Bytes) (is : t ≡ getD (textsIn buffer pairs) w []) (counts : List ℕ) (listed : CountsListed buffer pairs counts) (n : AagCounts) (c : n ≡ countsAt counts w) where
     first : FirstRead (getD (textsIn buffer pairs) w []) (drop (w + 1) (textsIn buffer pairs)) (k .rest)
     first = left-more buffer pairs w (k .rest) (k .left) (omega arith)
 
@@ -138,7 +136,7 @@ module _ (buffer : Bytes) (pairs work : List ℕ) (at w count : ℕ) (k : Loadin
     reads-first = ap (readAag limited true) is ∙ first .reads
 
     counts-first : n ≡ countsIn (first .first)
-    counts-first = c (first .first) reads-first
+    counts-first = c ∙ listed .before .each w (omega arith) (first .first) (first .reads)
 
     total : wordTotal (k .before ++ k .rest) ≡ at + wordCount (first .first) + wordTotal (first .others)
     total = omega (arith, total-append wordCount (k .before) (k .rest), k .at-is, ap wordTotal (first .is))

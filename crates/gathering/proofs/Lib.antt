@@ -1,5 +1,6 @@
 -- Laws of gathering.
 pub mod TextLaws
+pub mod CountLaws
 pub mod CheckLaws
 pub mod BlockLaws
 pub mod ShiftLaws

@@ -1,14 +1,14 @@
 -- Laws of gathering a list of literals of each witness.
 use Prim.Native.Nat.{ℕ, _+_, _-_, _*_, _≤_}
 use mathlib.Core.List.{List, [], _∷_, _++_, append-assoc, append-nil}
-use mathlib.Core.Path.{_≡_, refl, sym, ap, ap₂, _∙_, subst}
+use mathlib.Core.Path.{_≡_, refl, sym, ap, _∙_, subst}
 use native.Mathlib.Omega.{arith}
 use borrow.Author.Tests.{eq-eqb, ne-eqb}
 use lib.ListN.{length, take, length-append}
 use lib.Seq.{take-at, drop-at}
 use Rattle.lists.specs.Parts.{Bytes, part}
 use Rattle.lists.specs.Words.{wordsOf}
-use Rattle.lists.proofs.PartLaws.{part-of-part, part-take}
+use Rattle.lists.proofs.KeptLaws.{part-within}
 use Rattle.lists.proofs.WordLaws.{words-length}
 use Rattle.witness.specs.Sections.{Sections, leaves}
 use Rattle.witness.specs.Reading.{countsIn}
@@ -32,13 +32,6 @@ regroup : (a b c d e : List ℕ) → a ++ (b ++ (c ++ (d ++ e))) ≡ (a ++ (b ++
 regroup a b c d e =
     sym (append-assoc a (b ++ (c ++ d)) e
     ∙ ap (λ (l : List ℕ). a ++ l) (append-assoc b (c ++ d) e ∙ ap (λ (l : List ℕ). b ++ l) (append-assoc c d e)))
-
--- a part of the first so many words
-pub part-within : (w : List ℕ) (to a e : ℕ) → e ≤ to → part (take to w) a e ≡ part w a e
-part-within w to a e h =
-    let x : 0 + a ≡ a = omega arith in
-    let y : 0 + e ≡ e = omega arith in
-    ap (λ (l : List ℕ). part l a e) (sym (part-take w to)) ∙ (part-of-part w 0 to a e (omega arith) ∙ ap₂ (λ (i j : ℕ). part w i j) x y)
 
 -- the names and the lists in front of a list, the list, the lists behind it
 pub record Stands (s : Sections) (r : Range) (xs : List ℕ) : Type 0 where

@@ -10,6 +10,7 @@ use Rattle.lists.specs.Answer.{got}
 use Rattle.lists.specs.Parts.{Bytes, part, put}
 use Rattle.lists.specs.Tests.{Each}
 use Rattle.lists.specs.Words.{wordsOf}
+use Rattle.lists.proofs.KeptLaws.{part-kept}
 use Rattle.lists.proofs.PartLaws.{part-at}
 use Rattle.lists.proofs.TestLaws.{each-at, each-so}
 use Rattle.lists.proofs.WordLaws.{pairs-count}
@@ -27,12 +28,13 @@ use Rattle.joint.specs.declared.Before.{Before}
 use Rattle.joint.specs.declared.Literals.{Literals}
 use Rattle.joint.specs.declared.Literals.the-variants as literals
 use Rattle.joint.specs.Joint.{totalOf, inputCount, latchCount, gateCount, shiftOf, shiftedLiteral, jointLiterals, listOf, beyond}
-use Rattle.gathering.specs.Gathered.{CountsOf, wordsFor, RightTotals, rangeOf, literalCount, shiftFor, beyondCounts, SmallBefore, CanShiftList, ShiftsRange}
+use Rattle.gathering.specs.Counts.{countsAt, CountsListed}
+use Rattle.gathering.specs.Gathered.{wordsFor, RightTotals, rangeOf, literalCount, shiftFor, beyondCounts, SmallBefore, CanShiftList, ShiftsRange}
 use Rattle.gathering.proofs.TextLaws.{first-read, none-read}
 use Rattle.gathering.proofs.CheckLaws.{read-counted}
 use Rattle.gathering.proofs.BlockLaws.{words-for}
 use Rattle.gathering.proofs.GatherLaws.{Gathering, Next, gathering-next}
-use Rattle.gathering.proofs.LiteralLaws.{part-within, range-within, list-stands, block-list}
+use Rattle.gathering.proofs.LiteralLaws.{range-within, list-stands, block-list}
 
 abbrev SmallLiteral : ℕ → Type 0
 SmallLiteral l = l < 4294967296
@@ -78,21 +80,20 @@ total-small (t ∷ ts) ws e =
 
 -- ---- one turn of gathering a list
 
--- a part that two lists share up to a place
-part-kept : (v w : List ℕ) (to from a c : ℕ) → take to w ≡ take to v → from + c ≤ to → part w (from + a) (from + c) ≡ part (drop from v) a c
-part-kept v w to from a c e h =
+-- a part behind a place, where two lists are the same up to another
+part-behind : (v w : List ℕ) (to from a c : ℕ) → take to w ≡ take to v → from + c ≤ to → part w (from + a) (from + c) ≡ part (drop from v) a c
+part-behind v w to from a c e h =
     let n : from + c - (from + a) ≡ c - a = omega arith in
-    sym (part-within w to (from + a) (from + c) h)
-    ∙ (ap (λ (l : List ℕ). part l (from + a) (from + c)) e ∙ (part-within v to (from + a) (from + c) h ∙ ap₂ (λ (j : ℕ) (l : List ℕ). take j l) n (sym (drop-drop a from v))))
+    part-kept w v to e (from + a) (from + c) h ∙ ap₂ (λ (j : ℕ) (l : List ℕ). take j l) n (sym (drop-drop a from v))
 
 module _ (kind : Literals) (i q : ℕ) (buffer : Bytes) (pairs work₀ work : List ℕ) (to from at : ℕ) (b : Before) (w all : ℕ)
     (k : Gathering (jointLiterals (listOf kind) i q) (literalCount kind) buffer pairs work₀ work to from at b w) (number : all ≡ length pairs / 2) (less : w < all)
-    (right : RightTotals buffer pairs i q) (n : AagCounts) (c : CountsOf (getD (textsIn buffer pairs) w []) n) where
+    (right : RightTotals buffer pairs i q) (listed : List ℕ) (d : CountsListed buffer pairs listed) (n : AagCounts) (c : n ≡ countsAt listed w) where
   next : Next (jointLiterals (listOf kind) i q) (literalCount kind) buffer pairs work₀ work to from at b w (k .ws)
   next = gathering-next (jointLiterals (listOf kind) i q) (literalCount kind) buffer pairs to work₀ work from at b w all k number less
 
   counts : n ≡ countsIn (next .first)
-  counts = c (next .first) (next .reads)
+  counts = c ∙ d .before .each w (omega arith) (next .first) (next .reads)
 
   totals : (i ≡ totalOf inputCount (k .ws)) × (q ≡ totalOf latchCount (k .ws))
   totals = right (k .ws) (k .readable)
@@ -127,7 +128,7 @@ module _ (kind : Literals) (i q : ℕ) (buffer : Bytes) (pairs work₀ work : Li
       go : (a m : ℕ) → a + m ≤ wordCount (next .first) → part (drop from work₀) a (a + m) ≡ listOf kind (next .first) → part work (from + a) (from + a + m) ≡ listOf kind (next .first)
       go a m h e =
           let z : from + (a + m) ≡ from + a + m = omega arith in
-          subst (λ (j : ℕ). part work (from + a) j ≡ listOf kind (next .first)) z (part-kept work₀ work to from a (a + m) (next .kept) (omega (arith, next .behind)) ∙ e)
+          subst (λ (j : ℕ). part work (from + a) j ≡ listOf kind (next .first)) z (part-behind work₀ work to from a (a + m) (next .kept) (omega (arith, next .behind)) ∙ e)
 
   long : rangeOf kind (countsIn (next .first)) .count ≡ literalCount kind (next .first)
   long = list-stands kind (next .first) .counts

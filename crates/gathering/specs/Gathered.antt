@@ -1,6 +1,6 @@
 -- For the contracts of the functions that load and gather: how the words of all witnesses stand.
 use Prim.Native.Nat.{ℕ, _+_, _-_, _*_, _≤_, _<_}
-use mathlib.Core.Bool.{Bool, true, cond}
+use mathlib.Core.Bool.{Bool, cond}
 use mathlib.Core.List.{List, [], _∷_, _++_, map}
 use mathlib.Core.Option.{some}
 use mathlib.Core.Path.{_≡_}
@@ -10,10 +10,8 @@ use Rattle.lists.specs.Answer.{got}
 use Rattle.lists.specs.Parts.{Bytes, part, put}
 use Rattle.lists.specs.Tests.{all}
 use Rattle.lists.specs.Words.{pairsOf}
-use Rattle.text.specs.Texts.{limited}
 use Rattle.witness_text.specs.declared.AagCounts.{AagCounts}
 use Rattle.witness.specs.Sections.{Sections, leaves, namesIn}
-use Rattle.witness.specs.Reading.{readAag, countsIn}
 use Rattle.witness_words.specs.Loaded.{nameFrom, literalWords, wordCount}
 use Rattle.witness_words.specs.Loading.{HasRoom, Loadable}
 use Rattle.composition.specs.Mapping.{mapsByName}
@@ -27,10 +25,6 @@ use Rattle.joint.specs.declared.Leaves.{Leaves}
 use Rattle.joint.specs.Joint.{totalOf, inputCount, latchCount, shiftedLiteral, gathered, listOf, namesOf, modelOf}
 use Rattle.gathering.specs.declared.Range.{Range}
 use Rattle.gathering.specs.Checking.{FewInOrder}
-
--- the counts of a text that is accepted
-abbrev pub CountsOf : Bytes → AagCounts → Type 0
-CountsOf t n = (s : Sections) → readAag limited true t ≡ got s → n ≡ countsIn s
 
 -- how many words the sections of a text with these counts need
 abbrev pub wordsFor : AagCounts → ℕ

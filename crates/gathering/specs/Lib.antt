@@ -1,3 +1,4 @@
 -- The witnesses checked, loaded, and gathered into joint lists.
 pub mod Checking
+pub mod Counts
 pub mod Gathered

@@ -6,15 +6,16 @@ ghost use Prim.Native.Nat.{_+_, _-_, _*_, _/_, _≤_, _<_};
 ghost use lib.ListN.{length, getD};
 ghost use Rattle.lists.specs.Parts.{part};
 ghost use Rattle.lists.specs.Words.{inOrder};
-ghost use Rattle.composition.specs.Calling.{readAll, textsIn};
-ghost use Rattle.gathering.specs.Checking.{addedCounts, SmallSums, checkedFrom, noneYet, FewInOrder};
-ghost use Rattle.gathering.specs.Gathered.{CountsOf, wordsFor, LoadableAt, LoadsAt, CanLoad, LoadsAll};
+ghost use Rattle.composition.specs.Calling.{textsIn};
+ghost use Rattle.gathering.specs.Checking.{addedCounts, SmallSums, FewInOrder};
+ghost use Rattle.gathering.specs.Counts.{CanCheck, ChecksOne, CountsListed, ChecksAll};
+ghost use Rattle.gathering.specs.Gathered.{wordsFor, LoadableAt, LoadsAt, CanLoad, LoadsAll};
 
+pub mod counts;
 pub mod literals;
 
 use witness::ReadAag;
 use witness_text::AagCounts;
-use witness_text::Header;
 
 // What is counted of all witnesses, and how much of the room the texts leave: 0 where they need too much, else one more than is left.
 pub struct Totals {
@@ -81,10 +82,25 @@ pub fn add_counts(t: Totals, n: AagCounts) -> Totals
     }
 }
 
-// Reads all witnesses in their order.
-pub fn check_all(witnesses: &[u8], pairs: &[u64], room: usize) -> Checked
+// Reads a text, the one of witness w: the totals with it, and its counts are listed; or the number of the reason.
+fn check_one(text: &[u8], counts: &mut [u64], w: usize, t: Totals) -> Checked
+    requires { ⌜ CanCheck (now counts) w t ⌝ }
+    ensures { λ r. ⌜ ChecksOne (now (text .entry)) w t (now (counts .entry)) (now (counts .exit)) r ⌝ }
+{
+    match witness::parse_aag(text, true) {
+        ReadAag::Refused(reason) => Checked::Refused(reason),
+        ReadAag::Got(n) => {
+            counts::store(counts, w, n);
+            Checked::Read(add_counts(t, n))
+        }
+    }
+}
+
+// Reads all witnesses in their order, and lists their counts.
+pub fn check_all(witnesses: &[u8], pairs: &[u64], room: usize, counts: &mut [u64]) -> Checked
     requires { ⌜ FewInOrder (now witnesses) (now pairs) ⌝ }
-    ensures { λ r. ⌜ r ≡ checkedFrom (noneYet room) (readAll (textsIn (now (witnesses .entry)) (now (pairs .entry)))) ⌝ }
+    requires { ⌜ 9 * (length (now pairs) / 2) ≤ length (now counts) ⌝ }
+    ensures { λ r. ⌜ ChecksAll room (now (witnesses .entry)) (now (pairs .entry)) (now (counts .exit)) r ⌝ }
 {
     let count = pairs.len() / 2;
     let mut t = Totals {
@@ -95,47 +111,18 @@ pub fn check_all(witnesses: &[u8], pairs: &[u64], room: usize) -> Checked
     };
     let mut w = 0;
     while w < count {
-        let text = text_at(witnesses, pairs, w);
-        let read = witness::parse_aag(text, true);
-        match read {
-            ReadAag::Refused(reason) => {
+        let checked = check_one(text_at(witnesses, pairs, w), counts, w, t);
+        match checked {
+            Checked::Refused(reason) => {
                 return Checked::Refused(reason);
             }
-            ReadAag::Got(n) => {
-                t = add_counts(t, n);
+            Checked::Read(next) => {
+                t = next;
             }
         }
         w += 1;
     }
     Checked::Read(t)
-}
-
-// The counts of a text that is accepted, from its header.
-pub fn counts_of(s: &[u8]) -> AagCounts
-    ensures { λ r. ⌜ CountsOf (now (s .entry)) r ⌝ }
-{
-    match witness_text::take_header(s) {
-        Header::Got { counts, next } => counts,
-        Header::Refused => AagCounts {
-            max_variable: 0,
-            inputs: 0,
-            latches: 0,
-            outputs: 0,
-            gates: 0,
-            bads: 0,
-            constraints: 0,
-            justice: 0,
-            fairness: 0,
-        },
-    }
-}
-
-// The counts of witness w.
-pub fn counts_at(witnesses: &[u8], pairs: &[u64], w: usize) -> AagCounts
-    requires { ⌜ (inOrder 0 (length (now witnesses)) (now pairs) ≡ true) × (w < length (now pairs) / 2) ⌝ }
-    ensures { λ r. ⌜ CountsOf (getD (textsIn (now (witnesses .entry)) (now (pairs .entry))) w []) r ⌝ }
-{
-    counts_of(text_at(witnesses, pairs, w))
 }
 
 // How many words the sections of a text with these counts need.
@@ -164,8 +151,9 @@ fn load_at(text: &[u8], n: AagCounts, work: &mut [u64], at: usize) -> usize
 }
 
 // Loads all witnesses in front of the words, and returns how many words that takes.
-pub fn load_all(witnesses: &[u8], pairs: &[u64], work: &mut [u64]) -> usize
+pub fn load_all(witnesses: &[u8], pairs: &[u64], counts: &[u64], work: &mut [u64]) -> usize
     requires { ⌜ CanLoad (now witnesses) (now pairs) (now work) ⌝ }
+    requires { ⌜ CountsListed (now witnesses) (now pairs) (now counts) ⌝ }
     ensures { λ r. ⌜ LoadsAll (now (witnesses .entry)) (now (pairs .entry)) (now (work .exit)) r ⌝ }
 {
     let count = pairs.len() / 2;
@@ -173,7 +161,7 @@ pub fn load_all(witnesses: &[u8], pairs: &[u64], work: &mut [u64]) -> usize
     let mut w = 0;
     while w < count {
         let text = text_at(witnesses, pairs, w);
-        let n = counts_of(text);
+        let n = counts::counts_at(counts, w);
         at = load_at(text, n, work, at);
         w += 1;
     }

@@ -4,6 +4,7 @@ ghost use mathlib.Core.Path.{_≡_};
 ghost use Prim.Native.Nat.{_+_, _<_};
 ghost use Rattle.lists.specs.Parts.{part, put};
 ghost use Rattle.joint.specs.Joint.{shifted, shiftedLiteral, jointLiterals, listOf};
+ghost use Rattle.gathering.specs.Counts.{CountsListed};
 ghost use Rattle.gathering.specs.Gathered.{wordsFor, rangeOf, Shiftable, SmallWord, CanShift, shiftFor, beyondCounts, SmallBefore, CanShiftList, ShiftsRange, literalCount, CanGather, RightTotals, Gathers};
 use crate::Range;
 use joint::Before;
@@ -142,6 +143,7 @@ fn shift_list(
 pub fn gather(
     witnesses: &[u8],
     pairs: &[u64],
+    counts: &[u64],
     work: &mut [u64],
     kind: Literals,
     inputs: usize,
@@ -149,6 +151,7 @@ pub fn gather(
     to: usize,
 ) -> usize
     requires { ⌜ CanGather (literalCount kind) (now witnesses) (now pairs) (now work) to ⌝ }
+    requires { ⌜ CountsListed (now witnesses) (now pairs) (now counts) ⌝ }
     requires { ⌜ RightTotals (now witnesses) (now pairs) inputs latches ⌝ }
     ensures { λ r. ⌜ Gathers (jointLiterals (listOf kind) inputs latches) (literalCount kind) (now (witnesses .entry)) (now (pairs .entry)) (now (work .entry)) to (now (work .exit)) r ⌝ }
 {
@@ -162,7 +165,7 @@ pub fn gather(
     let mut at = to;
     let mut w = 0;
     while w < count {
-        let n = crate::counts_at(witnesses, pairs, w);
+        let n = crate::counts::counts_at(counts, w);
         let next = crate::after_words(n, from, at);
         at = shift_list(kind, n, inputs, latches, b, work, from, at);
         from = next;

@@ -7,10 +7,10 @@ use Prim.Native.Nat.{_-_, _/_}
 use mathlib.Core.Path.{_≡_}
 
 abbrev Inv-loop : tie.InvT-loop
-Inv-loop witnesses pairs work₀ count at₀ w₀ work at w = LoadingAll witnesses pairs work at w × (count ≡ length pairs / 2) × (length work ≡ length work₀)
+Inv-loop witnesses pairs counts work₀ count at₀ w₀ work at w = LoadingAll witnesses pairs work at w × (count ≡ length pairs / 2) × (length work ≡ length work₀)
 
 abbrev μ-loop : tie.MeasureT-loop
-μ-loop witnesses pairs work₀ count at₀ w₀ work at w = count - w
+μ-loop witnesses pairs counts work₀ count at₀ w₀ work at w = count - w
 
 loop-holds : tie.Need-loop-holds Inv-loop μ-loop
 loop-holds c = search (needs, loading-none)
@@ -18,8 +18,8 @@ loop-holds c = search (needs, loading-none)
 text-at-requires : tie.Need-text-at-requires Inv-loop μ-loop
 text-at-requires c κs = search needs
 
-counts-of-requires : tie.Need-counts-of-requires Inv-loop μ-loop
-counts-of-requires c κs = search needs
+counts-at-requires : tie.Need-counts-at-requires Inv-loop μ-loop
+counts-at-requires c κs = search needs
 
 load-at-requires : tie.Need-load-at-requires Inv-loop μ-loop
 load-at-requires c κs = search loading-loadable
@@ -47,7 +47,7 @@ load-all-spec =
     μ-loop
     loop-holds
     text-at-requires
-    counts-of-requires
+    counts-at-requires
     load-at-requires
     add-w
     loop-less

@@ -10,10 +10,10 @@ use Rattle.joint.specs.Joint.{jointLiterals, listOf}
 use Rattle.gathering.specs.Gathered.{literalCount}
 
 abbrev Inv-loop : tie.InvT-loop
-Inv-loop witnesses pairs work₀ kind inputs latches to count b₀ from₀ at₀ w₀ work b from at w = Gathering (jointLiterals (listOf kind) inputs latches) (literalCount kind) witnesses pairs work₀ work to from at b w × (count ≡ length pairs / 2) × (length work ≡ length work₀)
+Inv-loop witnesses pairs counts work₀ kind inputs latches to count b₀ from₀ at₀ w₀ work b from at w = Gathering (jointLiterals (listOf kind) inputs latches) (literalCount kind) witnesses pairs work₀ work to from at b w × (count ≡ length pairs / 2) × (length work ≡ length work₀)
 
 abbrev μ-loop : tie.MeasureT-loop
-μ-loop witnesses pairs work₀ kind inputs latches to count b₀ from₀ at₀ w₀ work b from at w = count - w
+μ-loop witnesses pairs counts work₀ kind inputs latches to count b₀ from₀ at₀ w₀ work b from at w = count - w
 
 loop-holds : tie.Need-loop-holds Inv-loop μ-loop
 loop-holds c = search (needs, gathering-none)
