@@ -15,10 +15,13 @@ use Rattle.lists.proofs.AnswerLaws.{got-same}
 use Rattle.lists.proofs.BoolLaws.{and-false, below-or}
 use Rattle.lists.proofs.PairLaws.{pair-rest, no-pair, order-none}
 use Rattle.witness_text.specs.declared.AagCounts.{AagCounts}
+use Rattle.text.specs.Texts.{limited}
+use Rattle.witness.specs.Reading.{readAag, countsIn}
 use Rattle.witness.specs.Sections.{Sections}
 use Rattle.composition.specs.Composing.{orOutputs, safety, isSome}
 use Rattle.composition.specs.Calling.{readAll, textsIn}
-use Rattle.gathering.specs.Gathered.{CountsOf, Readable}
+use Rattle.gathering.specs.Counts.{countsAt, CountsListed}
+use Rattle.gathering.specs.Gathered.{Readable}
 use Rattle.gathering.proofs.TextLaws.{FirstRead, first-read, none-read, left-more, left-none}
 use Rattle.compose.specs.declared.PartEnd.{PartEnd}
 use Rattle.compose.specs.declared.PartEnd.the-variants as parts
@@ -150,7 +153,7 @@ module _ (buffer : Bytes) (pairs : List ℕ) (w count : ℕ) (k : Safe buffer pa
       let none : drop w ws ≡ [] = left-none buffer pairs w (drop w ws) (read-drop w (textsIn buffer pairs) ws (r .reads)) (omega arith) in
       sym (ap allSafe none) ∙ k .rest ws r
 
-  module _ (less : w < count) (n : AagCounts) (c : CountsOf (getD (textsIn buffer pairs) w []) n) where
+  module _ (less : w < count) (counts : List ℕ) (listed : CountsListed buffer pairs counts) (n : AagCounts) (c : n ≡ countsAt counts w) where
     next : (ws : List Sections) → Readable buffer pairs ws → FirstRead (getD (textsIn buffer pairs) w []) (drop (w + 1) (textsIn buffer pairs)) (drop w ws)
     next ws r = left-more buffer pairs w (drop w ws) (read-drop w (textsIn buffer pairs) ws (r .reads)) (omega arith)
 
@@ -161,11 +164,14 @@ module _ (buffer : Bytes) (pairs : List ℕ) (w count : ℕ) (k : Safe buffer pa
         (got-same (drop (w + 1) ws) (next ws r .others) (sym (read-drop (w + 1) (textsIn buffer pairs) ws (r .reads)) ∙ next ws r .readOthers))
         ∙ (ap allSafe (sym (next ws r .is)) ∙ k .rest ws r)
 
+    counts-are : (s : Sections) → readAag limited true (getD (textsIn buffer pairs) w []) ≡ got s → n ≡ countsIn s
+    counts-are s e = c ∙ listed .before .each w (omega arith) s e
+
     bads-are : (ws : List Sections) (r : Readable buffer pairs ws) → n .bads ≡ length (next ws r .first .bads)
-    bads-are ws r = ap (λ (m : AagCounts). m .bads) (c (next ws r .first) (next ws r .reads))
+    bads-are ws r = ap (λ (m : AagCounts). m .bads) (counts-are (next ws r .first) (next ws r .reads))
 
     outputs-are : (ws : List Sections) (r : Readable buffer pairs ws) → n .outputs ≡ length (next ws r .first .outputs)
-    outputs-are ws r = ap (λ (m : AagCounts). m .outputs) (c (next ws r .first) (next ws r .reads))
+    outputs-are ws r = ap (λ (m : AagCounts). m .outputs) (counts-are (next ws r .first) (next ws r .reads))
 
     pub safe-stop : n .bads ≡ 0 → n .outputs ≡ 0 → TestsSafety buffer pairs false
     safe-stop b o ws r =

@@ -19,6 +19,7 @@ use Rattle.joint.specs.Joint.{totalOf, inputCount, latchCount, gateCount}
 use Rattle.gathering.specs.declared.Totals.{Totals}
 use Rattle.gathering.specs.declared.Checked.{Checked}
 use Rattle.gathering.specs.declared.Checked.the-variants as checked
+use Rattle.gathering.specs.Counts.{CountsListed, ChecksAll}
 use Rattle.gathering.specs.Checking.{addedCounts, SmallSums, totalsFrom, checkedFrom, noneYet}
 use Rattle.laying.specs.declared.Places.{Places}
 use Rattle.laying.specs.declared.Laid.{Laid}
@@ -115,14 +116,21 @@ checked-read : (t : Totals) (a : Answer (List Sections)) (u : Totals) → checke
 checked-read t (got ws) u e = let s : u ≡ totalsFrom t ws = cc in (ws, refl, s)
 checked-read t (refused n) u e = let z : _≡_ {A = ℕ} 0 1 = cc in absurd (omega arith)
 
-module _ (mc : AagCounts) (buffer : Bytes) (pairs work : List ℕ) (out : Bytes) (room : ℕ) (a : room ≡ roomBeside mc (length work)) (x : Checked)
-    (c : x ≡ checkedFrom (noneYet room) (readAll (textsIn buffer pairs))) where
+module _ (mc : AagCounts) (buffer : Bytes) (pairs work : List ℕ) (out : Bytes) (room : ℕ) (a : room ≡ roomBeside mc (length work)) (counts : List ℕ) (x : Checked)
+    (checks : ChecksAll room buffer pairs counts x) where
+  c : x ≡ checkedFrom (noneYet room) (readAll (textsIn buffer pairs))
+  c = checks .is
+
   pub witnesses-refused : (k : ℕ) → x ≡ checked.Refused k → ComposesWitnesses mc buffer pairs work out out (composed.Refused k)
   witnesses-refused k e =
       let f : readAll (textsIn buffer pairs) ≡ refused k = checked-refused (noneYet room) (readAll (textsIn buffer pairs)) k (sym e ∙ c) in
       record { each = λ m i. refuses out (andThen (readAll (textsIn buffer pairs)) (composeRead (length work) (length out) m)) k (ap (λ (z : Answer (List Sections)). andThen z (composeRead (length work) (length out) m)) f) }
 
   module _ (t : Totals) (e : x ≡ checked.Read t) where
+    -- the counts are listed
+    pub witnesses-listed : CountsListed buffer pairs counts
+    witnesses-listed = checks .lists t e
+
     all-read : (ws : List Sections) × (readAll (textsIn buffer pairs) ≡ got ws) × (t ≡ totalsFrom (noneYet room) ws)
     all-read = checked-read (noneYet room) (readAll (textsIn buffer pairs)) t (sym e ∙ c)
 

@@ -5,6 +5,7 @@ ghost use Prim.Native.Nat.{_+_, _*_, _<_};
 ghost use Rattle.lists.specs.Words.{inOrder};
 ghost use Rattle.composition.specs.Calling.{textsIn, composeTexts, composeCall};
 ghost use Rattle.gathering.specs.Checking.{FewInOrder, SmallSums, noneYet};
+ghost use Rattle.gathering.specs.Counts.{CountsListed};
 ghost use Rattle.laying.specs.Laid.{CanLay};
 ghost use Rattle.writing.specs.Written.{PrintableSome};
 ghost use Rattle.compose.specs.Promise.{Composes};
@@ -84,14 +85,15 @@ fn first_room(words: usize) -> usize
 }
 
 // Whether each witness has a bad or an output (reason 19).
-fn all_safe(witnesses: &[u8], pairs: &[u64]) -> bool
+fn all_safe(witnesses: &[u8], pairs: &[u64], counts: &[u64]) -> bool
     requires { ⌜ FewInOrder (now witnesses) (now pairs) ⌝ }
+    requires { ⌜ CountsListed (now witnesses) (now pairs) (now counts) ⌝ }
     ensures { λ r. ⌜ TestsSafety (now (witnesses .entry)) (now (pairs .entry)) r ⌝ }
 {
     let count = pairs.len() / 2;
     let mut w = 0;
     while w < count {
-        let n = gathering::counts_at(witnesses, pairs, w);
+        let n = gathering::counts::counts_at(counts, w);
         if n.bads == 0 {
             if n.outputs == 0 {
                 return false;
@@ -108,6 +110,7 @@ fn all_safe(witnesses: &[u8], pairs: &[u64]) -> bool
 fn measure(
     witnesses: &[u8],
     pairs: &[u64],
+    counts: &[u64],
     work: &[u64],
     at: Places,
     c: Merged,
@@ -115,15 +118,17 @@ fn measure(
     out: &mut [u8],
 ) -> usize
     requires { ⌜ PrintableSome (now witnesses) (now pairs) (now work) at c t ⌝ }
+    requires { ⌜ CountsListed (now witnesses) (now pairs) (now counts) ⌝ }
     ensures { λ r. ⌜ Measures (now (witnesses .entry)) (now (pairs .entry)) (now (work .entry)) at c t (now (out .entry)) (now (out .exit)) r ⌝ }
 {
-    writing::print_composition(&mut out[..0], witnesses, pairs, work, at, c, t)
+    writing::print_composition(&mut out[..0], witnesses, pairs, counts, work, at, c, t)
 }
 
 // The text of a merged composition, where it fits.
 fn write_merged(
     witnesses: &[u8],
     pairs: &[u64],
+    counts: &[u64],
     work: &[u64],
     at: Places,
     c: Merged,
@@ -131,13 +136,14 @@ fn write_merged(
     out: &mut [u8],
 ) -> Composed
     requires { ⌜ PrintableSome (now witnesses) (now pairs) (now work) at c t ⌝ }
+    requires { ⌜ CountsListed (now witnesses) (now pairs) (now counts) ⌝ }
     ensures { λ r. ⌜ Writes (now (witnesses .entry)) (now (pairs .entry)) (now (work .entry)) at c t (now (out .entry)) (now (out .exit)) r ⌝ }
 {
-    let size = measure(witnesses, pairs, work, at, c, t, out);
+    let size = measure(witnesses, pairs, counts, work, at, c, t, out);
     if out.len() < size {
         return Composed::Refused(20);
     }
-    let end = writing::print_composition(out, witnesses, pairs, work, at, c, t);
+    let end = writing::print_composition(out, witnesses, pairs, counts, work, at, c, t);
     Composed::Got(end)
 }
 
@@ -145,6 +151,7 @@ fn write_merged(
 fn compose_laid(
     witnesses: &[u8],
     pairs: &[u64],
+    counts: &[u64],
     work: &mut [u64],
     m: AagCounts,
     t: Totals,
@@ -152,14 +159,15 @@ fn compose_laid(
     out: &mut [u8],
 ) -> Composed
     requires { ⌜ LaidSome m t (now witnesses) (now pairs) (now work) at ⌝ }
+    requires { ⌜ CountsListed (now witnesses) (now pairs) (now counts) ⌝ }
     ensures { λ r. ⌜ ComposesLaid m t (now (witnesses .entry)) (now (pairs .entry)) (now (work .entry)) at (now (out .entry)) (now (out .exit)) r ⌝ }
 {
     let merged = merging::merge(work, at, m, t);
     match merged {
         Merging::Refused(reason) => Composed::Refused(reason),
         Merging::Done(c) => {
-            if all_safe(witnesses, pairs) {
-                return write_merged(witnesses, pairs, work, at, c, t, out);
+            if all_safe(witnesses, pairs, counts) {
+                return write_merged(witnesses, pairs, counts, work, at, c, t, out);
             }
             Composed::Refused(19)
         }
@@ -170,18 +178,20 @@ fn compose_laid(
 fn compose_fitting(
     witnesses: &[u8],
     pairs: &[u64],
+    counts: &[u64],
     work: &mut [u64],
     m: AagCounts,
     t: Totals,
     out: &mut [u8],
 ) -> Composed
     requires { ⌜ CanLay m t (now witnesses) (now pairs) (now work) ⌝ }
+    requires { ⌜ CountsListed (now witnesses) (now pairs) (now counts) ⌝ }
     ensures { λ r. ⌜ ComposesFitting m t (now (witnesses .entry)) (now (pairs .entry)) (now (work .entry)) (now (out .entry)) (now (out .exit)) r ⌝ }
 {
-    let laid = laying::lay(witnesses, pairs, work, m, t);
+    let laid = laying::lay(witnesses, pairs, counts, work, m, t);
     match laid {
         Laid::Wrong => Composed::Refused(16),
-        Laid::At(at) => compose_laid(witnesses, pairs, work, m, t, at, out),
+        Laid::At(at) => compose_laid(witnesses, pairs, counts, work, m, t, at, out),
     }
 }
 
@@ -212,14 +222,15 @@ fn compose_witnesses(
     ensures { λ r. ⌜ ComposesWitnesses m (now (witnesses .entry)) (now (pairs .entry)) (now (work .entry)) (now (out .entry)) (now (out .exit)) r ⌝ }
 {
     let room = room_beside(m, work.len());
-    let checked = gathering::check_all(witnesses, pairs, room);
+    let mut counts: [u64; 576] = [0; 576];
+    let checked = gathering::check_all(witnesses, pairs, room, &mut counts);
     match checked {
         Checked::Refused(reason) => Composed::Refused(reason),
         Checked::Read(t) => {
             if t.room == 0 {
                 return Composed::Refused(15);
             }
-            compose_fitting(witnesses, pairs, work, m, t, out)
+            compose_fitting(witnesses, pairs, &counts, work, m, t, out)
         }
     }
 }

@@ -1,13 +1,18 @@
 -- Laws of the list of the witnesses' counts.
-use Prim.Native.Nat.{ℕ, _+_, _*_, _<_}
+use Prim.Native.Nat.{ℕ, _+_, _*_, _≤_, _<_}
 use mathlib.Core.List.{List, [], _∷_}
 use mathlib.Core.Path.{_≡_, refl, sym, ap, _∙_, subst}
 use native.Mathlib.Omega.{arith}
-use lib.ListN.{length, getD, set}
+use lib.ListN.{length, getD, set, length-map}
 use Rattle.lists.specs.Parts.{put}
 use Rattle.lists.proofs.PartLaws.{put-three, put-put, put-before, put-inside}
 use Rattle.witness_text.specs.declared.AagCounts.{AagCounts}
-use Rattle.gathering.specs.Counts.{countWords, countsAt}
+use Rattle.witness.specs.Sections.{Sections}
+use Rattle.witness.specs.Reading.{countsIn}
+use Rattle.joint.specs.declared.Leaves.{Leaves}
+use Rattle.joint.specs.declared.Leaves.the-variants as leaf
+use Rattle.gathering.specs.Counts.{countWords, countsAt, leafCounts, namesBefore}
+use Rattle.gathering.specs.Gathered.{wordsFor, leafCountOf}
 
 -- ---- stored and read
 
@@ -45,3 +50,22 @@ module _ (counts : List ℕ) (w : ℕ) (room : 9 * w + 8 < length counts) where
   counts-old n v h =
       let word : (i : ℕ) → i < 9 * w → getD (put counts (9 * w) (countWords n)) i 0 ≡ getD counts i 0 = λ i k. put-before counts (9 * w) (countWords n) (omega arith) i 0 k in
       rw (word (9 * v) (omega arith), word (9 * v + 1) (omega arith), word (9 * v + 2) (omega arith), word (9 * v + 3) (omega arith), word (9 * v + 4) (omega arith), word (9 * v + 5) (omega arith), word (9 * v + 6) (omega arith), word (9 * v + 7) (omega arith), word (9 * v + 8) (omega arith)) refl
+
+-- ---- inputs and latches
+
+-- as many as the counts say
+pub counts-leaves : (leaves : Leaves) (s : Sections) → leafCounts leaves (countsIn s) ≡ leafCountOf leaves s
+counts-leaves leaf.Inputs s = refl
+counts-leaves leaf.Latches s = sym (length-map (s .latches) (λ q. q .name))
+
+-- the words of their names stand within those of the text
+pub leaves-within : (leaves : Leaves) (n : AagCounts) → namesBefore leaves n + 2 * leafCounts leaves n ≤ wordsFor n
+leaves-within leaf.Inputs n = omega arith
+leaves-within leaf.Latches n = omega arith
+
+module _ (leaves : Leaves) (n : AagCounts) where
+  pub before-inputs : leaves ≡ leaf.Inputs → 0 ≡ namesBefore leaves n
+  before-inputs e = rw e refl
+
+  pub before-latches : leaves ≡ leaf.Latches → 2 * n .inputs ≡ namesBefore leaves n
+  before-latches e = rw e refl

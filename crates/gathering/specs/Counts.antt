@@ -11,6 +11,8 @@ use Rattle.witness_text.specs.declared.AagCounts.{AagCounts}
 use Rattle.witness.specs.Sections.{Sections}
 use Rattle.witness.specs.Reading.{readAag, countsIn}
 use Rattle.composition.specs.Calling.{readAll, textsIn}
+use Rattle.joint.specs.declared.Leaves.{Leaves}
+use Rattle.joint.specs.declared.Leaves.the-variants as leaf
 use Rattle.gathering.specs.declared.Totals.{Totals}
 use Rattle.gathering.specs.declared.Checked.{Checked}
 use Rattle.gathering.specs.declared.Checked.the-variants as checked
@@ -38,6 +40,15 @@ countsAt counts w =
       justice = getD counts (9 * w + 7) 0;
       fairness = getD counts (9 * w + 8) 0;
     }
+
+-- how many inputs, or latches, a text with these counts has, and where their names begin among its words
+abbrev pub leafCounts : Leaves → AagCounts → ℕ
+leafCounts leaf.Inputs n = n .inputs
+leafCounts leaf.Latches n = n .latches
+
+abbrev pub namesBefore : Leaves → AagCounts → ℕ
+namesBefore leaf.Inputs n = 0
+namesBefore leaf.Latches n = 2 * n .inputs
 
 -- there is room for the counts of witness w, and the totals before it are small
 pub record CanCheck (counts : List ℕ) (w : ℕ) (t : Totals) : Type 0 where

@@ -4,7 +4,9 @@ ghost use mathlib.Core.Path.{_≡_};
 ghost use Prim.Native.Nat.{_+_, _*_, _<_};
 ghost use lib.ListN.{length};
 ghost use Rattle.lists.specs.Parts.{put};
-ghost use Rattle.gathering.specs.Counts.{countWords, countsAt};
+ghost use Rattle.gathering.specs.Counts.{countWords, countsAt, leafCounts, namesBefore};
+ghost use Rattle.gathering.specs.Gathered.{wordsFor};
+use joint::Leaves;
 use lists::index;
 use witness_text::AagCounts;
 
@@ -62,5 +64,26 @@ pub fn counts_at(counts: &[u64], w: usize) -> AagCounts
         constraints: index(counts[at + 6]),
         justice: index(counts[at + 7]),
         fairness: index(counts[at + 8]),
+    }
+}
+
+// How many inputs, or latches, a text with these counts has.
+pub fn leaf_count(leaves: Leaves, n: AagCounts) -> usize
+    ensures { λ r. ⌜ r ≡ leafCounts leaves n ⌝ }
+{
+    match leaves {
+        Leaves::Inputs => n.inputs,
+        Leaves::Latches => n.latches,
+    }
+}
+
+// Where their names begin among the words of the text.
+pub fn names_before(leaves: Leaves, n: AagCounts) -> usize
+    requires { ⌜ wordsFor n < 18446744073709551616 ⌝ }
+    ensures { λ r. ⌜ r ≡ namesBefore leaves n ⌝ }
+{
+    match leaves {
+        Leaves::Inputs => 0,
+        Leaves::Latches => 2 * n.inputs,
     }
 }

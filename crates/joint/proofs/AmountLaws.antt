@@ -1,6 +1,6 @@
 -- How many there are of what is side by side, and how large joint literals and composed variables are.
 use Prim.Native.Nat.{ℕ, suc, _+_, _*_, _%_, _≤_, _<_}
-use mathlib.Core.Bool.{true}
+use mathlib.Core.Bool.{Bool, true}
 use mathlib.Core.List.{List, [], _∷_, map}
 use mathlib.Core.Option.{Option}
 use mathlib.Core.Path.{_≡_, refl, ap, _∙_}
@@ -17,6 +17,7 @@ use Rattle.aiger.specs.declared.Gate.{Gate}
 use Rattle.aiger.specs.Gates.{variable}
 use Rattle.witness.specs.Sections.{Sections, leaves, variables, latchNames}
 use Rattle.witness_words.specs.Loaded.{latchWords, operandWords}
+use Rattle.composition.specs.declared.ModelLeaves.{ModelLeaves}
 use Rattle.composition.specs.Mapping.{mapsByName}
 use Rattle.composition.specs.Numbering.{Entry, sameEntry, inputsIn, latchesIn, inputEntries, latchEntries, inputFirsts, latchFirsts, numbered, leafCount}
 use Rattle.composition.specs.Composing.{orOutputs}
@@ -49,12 +50,12 @@ joint-length list ws =
     gathered-length (jointLiterals list i q) (λ s. length (list s)) (λ w b s. length-map (list s) (shiftedLiteral (shiftOf i q b s))) 0 nothingBefore ws
 
 -- there is an origin word for each name of a witness
+pub origin-words : (p : ModelLeaves) (w : ℕ) (named : Bool) (k : ℕ) (names : List (Option Bytes)) → length (originsFrom p w named k names) ≡ length names
+origin-words p w named k [] = refl
+origin-words p w named k (name ∷ names) = ap suc (origin-words p w named (suc k) names)
+
 names-length : (kind : Leaves) (m : Sections) (w : ℕ) (b : Before) (s : Sections) → length (jointOrigins kind m w b s) ≡ length (namesOf kind s)
-names-length kind m w b s = go 0 (namesOf kind s)
-  where
-    go : (k : ℕ) (names : List (Option Bytes)) → length (originsFrom (modelOf kind m) w (mapsByName s) k names) ≡ length names
-    go k [] = refl
-    go k (name ∷ names) = ap suc (go (suc k) names)
+names-length kind m w b s = origin-words (modelOf kind m) w (mapsByName s) 0 (namesOf kind s)
 
 -- and for each of all witnesses
 pub origins-length : (kind : Leaves) (m : Sections) (ws : List Sections) → length (origins kind m ws) ≡ totalOf (λ s. length (namesOf kind s)) ws

@@ -1,12 +1,12 @@
 -- Laws of lists that stand in the work words.
 use Prim.Native.Nat.{ℕ, _+_, _≤_}
 use mathlib.Core.List.{List, [], _∷_, _++_}
-use mathlib.Core.Path.{_≡_, sym, ap, _∙_, subst}
+use mathlib.Core.Path.{_≡_, _∙_, subst}
 use native.Mathlib.Omega.{arith}
 use lib.ListN.{length, take}
-use Rattle.lists.specs.Parts.{part, put}
+use Rattle.lists.specs.Parts.{put}
+use Rattle.lists.proofs.KeptLaws.{part-kept}
 use Rattle.lists.proofs.PartLaws.{put-part, put-length}
-use Rattle.gathering.proofs.LiteralLaws.{part-within}
 use Rattle.laying.specs.Laid.{Has, Known, knownLength, Standing}
 
 module _ (work : List ℕ) (to : ℕ) (ys : List ℕ) (fits : to + length ys ≤ length work) where
@@ -19,7 +19,7 @@ pub has-same : (v w : List ℕ) (to a : ℕ) (xs : List ℕ) → take to w ≡ t
 has-same v w to a xs e n h k =
     record {
       room = omega (arith, n, k .room);
-      is = sym (part-within w to a (a + length xs) h) ∙ (ap (λ (l : List ℕ). part l a (a + length xs)) e ∙ (part-within v to a (a + length xs) h ∙ k .is));
+      is = part-kept w v to e a (a + length xs) h ∙ k .is;
     }
 
 -- lists that stand up to a place stay, and one more stands behind them

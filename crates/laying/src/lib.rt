@@ -1,6 +1,7 @@
 // All that the composer reads of the witnesses, laid out in the work words.
 ghost use mathlib.Core.Path.{_≡_};
 ghost use Rattle.joint.specs.declared.Leaves.the-variants as leaf;
+ghost use Rattle.gathering.specs.Counts.{CountsListed};
 ghost use Rattle.laying.specs.Laid.{CanLay, Lays, Staged, Goes, GoesRight, nothing, withLatches, withOperands, withSafety, withConstraints, withInputs, PlacesFit, placesOf};
 use composition::ModelLeaves;
 use gathering::Totals;
@@ -83,6 +84,7 @@ fn place_regions(
 fn lay_leaves(
     witnesses: &[u8],
     pairs: &[u64],
+    counts: &[u64],
     work: &mut [u64],
     m: AagCounts,
     t: Totals,
@@ -90,6 +92,7 @@ fn lay_leaves(
     b: usize,
 ) -> Laid
     requires { ⌜ Staged m t (now witnesses) (now pairs) (now work) (withInputs l (l .end)) b ⌝ }
+    requires { ⌜ CountsListed (now witnesses) (now pairs) (now counts) ⌝ }
     ensures { λ r. ⌜ GoesRight leaf.Latches m t (now (witnesses .entry)) (now (pairs .entry)) (now (work .entry)) (withInputs l (l .end)) b (now (work .exit)) r ⌝ }
 {
     let p = ModelLeaves {
@@ -99,6 +102,7 @@ fn lay_leaves(
     let Origins::Next(table) = origins::gather_origins(
         witnesses,
         pairs,
+        counts,
         work,
         Leaves::Latches,
         p,
@@ -113,29 +117,39 @@ fn lay_leaves(
 fn lay_inputs(
     witnesses: &[u8],
     pairs: &[u64],
+    counts: &[u64],
     work: &mut [u64],
     m: AagCounts,
     t: Totals,
     l: Lists,
 ) -> Laid
     requires { ⌜ Staged m t (now witnesses) (now pairs) (now work) (withConstraints l) (l .end) ⌝ }
+    requires { ⌜ CountsListed (now witnesses) (now pairs) (now counts) ⌝ }
     ensures { λ r. ⌜ Goes m t (now (witnesses .entry)) (now (pairs .entry)) (now (work .entry)) (withConstraints l) (l .end) (now (work .exit)) r ⌝ }
 {
     let p = ModelLeaves {
         before: 0,
         count: m.inputs,
     };
-    let Origins::Next(b) = origins::gather_origins(witnesses, pairs, work, Leaves::Inputs, p, l.end)
-    else {
+    let Origins::Next(b) = origins::gather_origins(
+        witnesses,
+        pairs,
+        counts,
+        work,
+        Leaves::Inputs,
+        p,
+        l.end,
+    ) else {
         return Laid::Wrong;
     };
-    lay_leaves(witnesses, pairs, work, m, t, l, b)
+    lay_leaves(witnesses, pairs, counts, work, m, t, l, b)
 }
 
 // The constraints, then the origins.
 fn lay_constraints(
     witnesses: &[u8],
     pairs: &[u64],
+    counts: &[u64],
     work: &mut [u64],
     m: AagCounts,
     t: Totals,
@@ -145,11 +159,13 @@ fn lay_constraints(
     d: usize,
 ) -> Laid
     requires { ⌜ Staged m t (now witnesses) (now pairs) (now work) (withSafety a b c) d ⌝ }
+    requires { ⌜ CountsListed (now witnesses) (now pairs) (now counts) ⌝ }
     ensures { λ r. ⌜ Goes m t (now (witnesses .entry)) (now (pairs .entry)) (now (work .entry)) (withSafety a b c) d (now (work .exit)) r ⌝ }
 {
     let end = gathering::literals::gather(
         witnesses,
         pairs,
+        counts,
         work,
         Literals::Constraints,
         t.inputs,
@@ -163,13 +179,14 @@ fn lay_constraints(
         constraints: d,
         end: end,
     };
-    lay_inputs(witnesses, pairs, work, m, t, lists)
+    lay_inputs(witnesses, pairs, counts, work, m, t, lists)
 }
 
 // The safety literals, then the others.
 fn lay_safety(
     witnesses: &[u8],
     pairs: &[u64],
+    counts: &[u64],
     work: &mut [u64],
     m: AagCounts,
     t: Totals,
@@ -178,24 +195,27 @@ fn lay_safety(
     c: usize,
 ) -> Laid
     requires { ⌜ Staged m t (now witnesses) (now pairs) (now work) (withOperands a b) c ⌝ }
+    requires { ⌜ CountsListed (now witnesses) (now pairs) (now counts) ⌝ }
     ensures { λ r. ⌜ Goes m t (now (witnesses .entry)) (now (pairs .entry)) (now (work .entry)) (withOperands a b) c (now (work .exit)) r ⌝ }
 {
     let d = gathering::literals::gather(
         witnesses,
         pairs,
+        counts,
         work,
         Literals::Safety,
         t.inputs,
         t.latches,
         c,
     );
-    lay_constraints(witnesses, pairs, work, m, t, a, b, c, d)
+    lay_constraints(witnesses, pairs, counts, work, m, t, a, b, c, d)
 }
 
 // The operands of the gates, then the others.
 fn lay_operands(
     witnesses: &[u8],
     pairs: &[u64],
+    counts: &[u64],
     work: &mut [u64],
     m: AagCounts,
     t: Totals,
@@ -203,49 +223,62 @@ fn lay_operands(
     b: usize,
 ) -> Laid
     requires { ⌜ Staged m t (now witnesses) (now pairs) (now work) (withLatches a) b ⌝ }
+    requires { ⌜ CountsListed (now witnesses) (now pairs) (now counts) ⌝ }
     ensures { λ r. ⌜ Goes m t (now (witnesses .entry)) (now (pairs .entry)) (now (work .entry)) (withLatches a) b (now (work .exit)) r ⌝ }
 {
     let c = gathering::literals::gather(
         witnesses,
         pairs,
+        counts,
         work,
         Literals::Operands,
         t.inputs,
         t.latches,
         b,
     );
-    lay_safety(witnesses, pairs, work, m, t, a, b, c)
+    lay_safety(witnesses, pairs, counts, work, m, t, a, b, c)
 }
 
 // The latches' literals, then the others; the words of the texts end at a place.
 fn lay_latches(
     witnesses: &[u8],
     pairs: &[u64],
+    counts: &[u64],
     work: &mut [u64],
     m: AagCounts,
     t: Totals,
     a: usize,
 ) -> Laid
     requires { ⌜ Staged m t (now witnesses) (now pairs) (now work) nothing a ⌝ }
+    requires { ⌜ CountsListed (now witnesses) (now pairs) (now counts) ⌝ }
     ensures { λ r. ⌜ Goes m t (now (witnesses .entry)) (now (pairs .entry)) (now (work .entry)) nothing a (now (work .exit)) r ⌝ }
 {
     let b = gathering::literals::gather(
         witnesses,
         pairs,
+        counts,
         work,
         Literals::Latches,
         t.inputs,
         t.latches,
         a,
     );
-    lay_operands(witnesses, pairs, work, m, t, a, b)
+    lay_operands(witnesses, pairs, counts, work, m, t, a, b)
 }
 
 // Loads the witnesses and lays out what is read of them.
-pub fn lay(witnesses: &[u8], pairs: &[u64], work: &mut [u64], m: AagCounts, t: Totals) -> Laid
+pub fn lay(
+    witnesses: &[u8],
+    pairs: &[u64],
+    counts: &[u64],
+    work: &mut [u64],
+    m: AagCounts,
+    t: Totals,
+) -> Laid
     requires { ⌜ CanLay m t (now witnesses) (now pairs) (now work) ⌝ }
+    requires { ⌜ CountsListed (now witnesses) (now pairs) (now counts) ⌝ }
     ensures { λ r. ⌜ Lays m t (now (witnesses .entry)) (now (pairs .entry)) (now (work .entry)) (now (work .exit)) r ⌝ }
 {
-    let a = gathering::load_all(witnesses, pairs, work);
-    lay_latches(witnesses, pairs, work, m, t, a)
+    let a = gathering::load_all(witnesses, pairs, counts, work);
+    lay_latches(witnesses, pairs, counts, work, m, t, a)
 }

@@ -33,14 +33,17 @@ use Rattle.composition.proofs.PlacedLaws.{entries-length}
 use Rattle.joint.specs.declared.Before.{Before}
 use Rattle.joint.specs.declared.Leaves.{Leaves}
 use Rattle.joint.specs.declared.Leaves.the-variants as leaf
+use Rattle.joint.proofs.AmountLaws.{origin-words}
 use Rattle.joint.specs.Joint.{totalOf, beyond, gatheredFrom, namesOf, modelOf, originWord, originsFrom, jointOrigins}
 use Rattle.gathering.specs.Gathered.{Block, Blocks, leafCountOf}
+use Rattle.gathering.specs.Counts.{leafCounts}
+use Rattle.gathering.proofs.CountLaws.{counts-leaves}
 use Rattle.gathering.proofs.BlockLaws.{words-for}
 use Rattle.naming.specs.declared.Places.{Places}
 use Rattle.naming.specs.Names.{unnamedOf, entriesOf, nameFor}
-use Rattle.naming.specs.Symbols.{Row, rowAt, rowsFrom, nameCount, namesAt, rowsIn, passed}
+use Rattle.naming.specs.Symbols.{Row, rowAt, rowsFrom, namesAt, rowsIn, passed}
 use Rattle.naming.proofs.FirstLaws.{rowOf}
-use Rattle.naming.proofs.RowLaws.{leaf-said, count-is}
+use Rattle.naming.proofs.RowLaws.{leaf-said}
 
 -- ---- the name by the origin word
 
@@ -91,11 +94,6 @@ module _ (kind : Leaves) (p : ModelLeaves) (w : ℕ) (named : Bool) where
   entry-at j [] k d h = absurd (omega arith)
   entry-at j (x ∷ xs) zero d h = entry-name kind w j x (mappingOf p named j x) (mapping-even p named j x)
   entry-at j (x ∷ xs) (suc k) d h = entry-at (suc j) xs k d (omega arith)
-
-  -- there is an origin word for each
-  origins-length : (j : ℕ) (names : List (Option Bytes)) → length (originsFrom p w named j names) ≡ length names
-  origins-length j [] = refl
-  origins-length j (x ∷ xs) = ap suc (origins-length (suc j) xs)
 
 -- ---- a list among the words
 
@@ -155,7 +153,7 @@ module _ (kind : Leaves) (m : Sections) (first : ℕ) (firsts : List Entry) (wor
       → StandsAt work (p .origins) (originsFrom (modelOf kind m) w (mapsByName s) 0 (namesOf kind s)) → StandsAt work (p .numbers) (map (numbered first firsts) (entriesIn kind m w s))
       → rowsIn t (countsIn s) work kind w p ≡ map (rowOf first firsts) (entriesIn kind m w s)
   rows-in w t s p block os ns =
-      ap (rowsFrom row 0) (count-is kind s ∙ sym long) ∙ rows-map row (rowOf first firsts) d 0 es (λ j h. let z : 0 + j ≡ j = omega arith in ap row z ∙ same j h)
+      ap (rowsFrom row 0) (counts-leaves kind s ∙ sym long) ∙ rows-map row (rowOf first firsts) d 0 es (λ j h. let z : 0 + j ≡ j = omega arith in ap row z ∙ same j h)
     where
       es : List Entry
       es = entriesIn kind m w s
@@ -174,7 +172,7 @@ module _ (kind : Leaves) (m : Sections) (first : ℕ) (firsts : List Entry) (wor
           let k : j < leafCountOf kind s = omega (arith, long) in
           ap₂ (λ (x : ℕ) (y : Bytes). record { number = x; name = y })
           (ns j (omega (arith, length-map es (numbered first firsts))) ∙ map-at (numbered first firsts) es j d 0 h)
-          (ap₂ (nameFor kind w) (os j (omega (arith, origins-length kind (modelOf kind m) w (mapsByName s) 0 (namesOf kind s)))) (leaf-said t s work (p .names) block kind j k .own)
+          (ap₂ (nameFor kind w) (os j (omega (arith, origin-words (modelOf kind m) w (mapsByName s) 0 (namesOf kind s)))) (leaf-said t s work (p .names) block kind j k .own)
           ∙ sym (entry-at kind (modelOf kind m) w (mapsByName s) 0 (namesOf kind s) j d k))
 
   -- no witness has no entry
@@ -197,15 +195,15 @@ module _ (kind : Leaves) (m : Sections) (first : ℕ) (firsts : List Entry) (wor
       let f : Entry → ℕ = numbered first firsts in
       let mine : List ℕ = originsFrom (modelOf kind m) w (mapsByName s) 0 (namesOf kind s) in
       let others : List ℕ = gatheredFrom (jointOrigins kind m) (suc w) (beyond b s) ss in
-      let count : leafCountOf kind s ≡ nameCount kind (countsIn s) = sym (count-is kind s) in
+      let count : leafCountOf kind s ≡ leafCounts kind (countsIn s) = sym (counts-leaves kind s) in
       let numbers : StandsAt work (p .numbers) (map f es ++ map f (entriesOf kind m (suc w) ss)) =
       subst (StandsAt work (p .numbers)) (ap (map f) (entries-split kind m w s ss) ∙ map-append f es (entriesOf kind m (suc w) ss)) ns in
       ap₂ (λ (xs ys : List Row). xs ++ ys)
       (rows-in w t s p (bs .0) (stands-front work (p .origins) mine others os) (stands-front work (p .numbers) (map f es) (map f (entriesOf kind m (suc w) ss)) numbers))
       (rows-are (suc w) (beyond b s) ts ss (passed kind (countsIn s) p)
       (subst (Blocks ts ss) (drop-drop (wordCount s) (p .names) work ∙ ap (λ (n : ℕ). drop (p .names + n) work) (words-for s)) (bs .1))
-      (stands-back work (p .origins) mine others os (nameCount kind (countsIn s)) (origins-length kind (modelOf kind m) w (mapsByName s) 0 (namesOf kind s) ∙ count))
-      (stands-back work (p .numbers) (map f es) (map f (entriesOf kind m (suc w) ss)) numbers (nameCount kind (countsIn s))
+      (stands-back work (p .origins) mine others os (leafCounts kind (countsIn s)) (origin-words (modelOf kind m) w (mapsByName s) 0 (namesOf kind s) ∙ count))
+      (stands-back work (p .numbers) (map f es) (map f (entriesOf kind m (suc w) ss)) numbers (leafCounts kind (countsIn s))
       (length-map es f ∙ (entries-length (modelOf kind m) (unnamedOf kind) w (mapsByName s) 0 (namesOf kind s) ∙ count))))
       ∙ (sym (map-append (rowOf first firsts) es (entriesOf kind m (suc w) ss)) ∙ ap (map (rowOf first firsts)) (sym (entries-split kind m w s ss)))
 
@@ -216,7 +214,7 @@ pub origins-total : (kind : Leaves) (m : Sections) (w : ℕ) (b : Before) (ss : 
 origins-total kind m w b [] = refl
 origins-total kind m w b (s ∷ ss) =
     length-append (jointOrigins kind m w b s) (gatheredFrom (jointOrigins kind m) (suc w) (beyond b s) ss)
-    ∙ ap₂ (λ (x y : ℕ). x + y) (origins-length kind (modelOf kind m) w (mapsByName s) 0 (namesOf kind s)) (origins-total kind m (suc w) (beyond b s) ss)
+    ∙ ap₂ (λ (x y : ℕ). x + y) (origin-words (modelOf kind m) w (mapsByName s) 0 (namesOf kind s)) (origins-total kind m (suc w) (beyond b s) ss)
 
 -- and an entry
 pub entries-total : (kind : Leaves) (m : Sections) (w : ℕ) (ss : List Sections) → length (entriesOf kind m w ss) ≡ totalOf (leafCountOf kind) ss

@@ -19,7 +19,7 @@ use Rattle.joint.specs.declared.Leaves.the-variants as leaf
 use Rattle.joint.specs.Joint.{namesOf}
 use Rattle.gathering.specs.Gathered.{Block, leafCountOf}
 use Rattle.naming.specs.Names.{ownName}
-use Rattle.naming.specs.Symbols.{nameStart, nameCount}
+use Rattle.gathering.specs.Counts.{namesBefore}
 
 -- ---- the names of a witness
 
@@ -69,7 +69,7 @@ module _ (t : Bytes) (s : Sections) (ws : List ℕ) (block : Block t s ws) where
 
   -- name k of the inputs, or latches
   pub leaf-name : (kind : Leaves) (k : ℕ) → k < leafCountOf kind s
-      → nameFrom t (getD ws (nameStart kind (countsIn s) + 2 * k) 0) (getD ws (nameStart kind (countsIn s) + 2 * k + 1) 0) ≡ some (getD (namesOf kind s) k none)
+      → nameFrom t (getD ws (namesBefore kind (countsIn s) + 2 * k) 0) (getD ws (namesBefore kind (countsIn s) + 2 * k + 1) 0) ≡ some (getD (namesOf kind s) k none)
   leaf-name leaf.Inputs k h = name-as k (0 + 2 * k) (getD (s .inputs) k none) (omega arith) (omega arith) (List·getD-append (s .inputs) (latchNames s) none k h)
   leaf-name leaf.Latches k h =
       name-as (length (s .inputs) + k) (2 * length (s .inputs) + 2 * k) (getD (latchNames s) k none) (omega (arith, length-map (s .latches) (λ q. q .name))) (omega arith)
@@ -77,9 +77,9 @@ module _ (t : Bytes) (s : Sections) (ws : List ℕ) (block : Block t s ws) where
 
 -- the same, at places of all words
 pub leaf-said : (t : Bytes) (s : Sections) (work : List ℕ) (from : ℕ) → Block t s (drop from work) → (kind : Leaves) (k : ℕ) → k < leafCountOf kind s
-    → Says t (getD work (from + nameStart kind (countsIn s) + 2 * k) 0) (getD work (from + nameStart kind (countsIn s) + 2 * k + 1) 0) (getD (namesOf kind s) k none)
+    → Says t (getD work (from + namesBefore kind (countsIn s) + 2 * k) 0) (getD work (from + namesBefore kind (countsIn s) + 2 * k + 1) 0) (getD (namesOf kind s) k none)
 leaf-said t s work from block kind k h =
-    go (nameStart kind (countsIn s)) (leaf-name t s (drop from work) block kind k h)
+    go (namesBefore kind (countsIn s)) (leaf-name t s (drop from work) block kind k h)
   where
     word : (i j : ℕ) → from + i ≡ j → getD work j 0 ≡ getD (drop from work) i 0
     word i j e = sym (getD-drop from work i 0 ∙ ap (λ (x : ℕ). getD work x 0) e)
@@ -89,13 +89,3 @@ leaf-said t s work from block kind k h =
     go a e =
         name-said t (getD work (from + a + 2 * k) 0) (getD work (from + a + 2 * k + 1) 0) (getD (namesOf kind s) k none)
         (ap₂ (nameFrom t) (word (a + 2 * k) (from + a + 2 * k) (omega arith)) (word (a + 2 * k + 1) (from + a + 2 * k + 1) (omega arith)) ∙ e)
-
--- how many there are
-pub count-is : (kind : Leaves) (s : Sections) → nameCount kind (countsIn s) ≡ leafCountOf kind s
-count-is leaf.Inputs s = refl
-count-is leaf.Latches s = sym (length-map (s .latches) (λ q. q .name))
-
--- the words of the names stand within the words of the text
-pub names-within : (kind : Leaves) (s : Sections) → nameStart kind (countsIn s) + 2 * nameCount kind (countsIn s) ≤ wordCount s
-names-within leaf.Inputs s = omega arith
-names-within leaf.Latches s = omega arith

@@ -19,18 +19,20 @@ use Rattle.composition.specs.Calling.{textsIn}
 use Rattle.joint.specs.declared.Leaves.{Leaves}
 use Rattle.joint.specs.declared.Leaves.the-variants as leaf
 use Rattle.joint.specs.Joint.{totalOf, nothingBefore, origins}
-use Rattle.gathering.specs.Gathered.{CountsOf, Block, Blocks, wordTotal, Readable, leafCountOf}
+use Rattle.gathering.specs.Counts.{countsAt, leafCounts, CountsListed}
+use Rattle.gathering.specs.Gathered.{Block, Blocks, wordTotal, Readable, leafCountOf}
 use Rattle.gathering.proofs.TextLaws.{FirstRead, Left, left-more, left-none, texts-left}
+use Rattle.gathering.proofs.CountLaws.{counts-leaves, leaves-within}
 use Rattle.gathering.proofs.BlockLaws.{words-for}
 use Rattle.gathering.proofs.TurnLaws.{total-below, total-small}
 use Rattle.naming.specs.declared.Places.{Places}
 use Rattle.naming.specs.declared.Printed.{Printed}
 use Rattle.naming.specs.Names.{kindOf, entriesOf, firstsOf}
-use Rattle.naming.specs.Symbols.{Row, newLines, nextAfter, nameCount, rowsIn, PrintsNew, CanPrintWitness, passed, CanPass, SymbolWords, CanPrintSymbols, PrintsSymbols}
+use Rattle.naming.specs.Symbols.{Row, newLines, nextAfter, rowsIn, PrintsNew, CanPrintWitness, passed, CanPass, SymbolWords, CanPrintSymbols, PrintsSymbols}
 use Rattle.naming.proofs.PieceLaws.{prints-as}
 use Rattle.naming.proofs.WalkLaws.{newText, rows-append, rows-length, after-least, after-most}
 use Rattle.naming.proofs.FirstLaws.{first-lines}
-use Rattle.naming.proofs.RowLaws.{leaf-said, count-is, names-within}
+use Rattle.naming.proofs.RowLaws.{leaf-said}
 use Rattle.naming.proofs.EntryLaws.{part-stands, rowsAll, rows-none, rows-are}
 
 -- where the words of the first witness begin
@@ -104,7 +106,7 @@ module _ (kind : Leaves) (buffer : Bytes) (pairs work : List ℕ) (fromOrigins f
         (ap textOf (ap (newLines (kindOf kind) first first) entries ∙ first-lines (kindOf kind) first (entriesOf kind m 0 ws)))
         (printing-done o₀ at (newText (kindOf kind) first first rows) o (done .at) (newText (kindOf kind) first (done .next) (rowsAll kind work w (drop w (textsIn buffer pairs)) (k .rest) p)) (k .printing) ended)
 
-    module _ (less : w < count) (t : Bytes) (is : t ≡ getD (textsIn buffer pairs) w []) (n : AagCounts) (c : CountsOf t n) where
+    module _ (less : w < count) (t : Bytes) (is : t ≡ getD (textsIn buffer pairs) w []) (listed : List ℕ) (d : CountsListed buffer pairs listed) (n : AagCounts) (c : n ≡ countsAt listed w) where
       -- witness w and those after it
       next : FirstRead (getD (textsIn buffer pairs) w []) (drop (w + 1) (textsIn buffer pairs)) (k .rest)
       next = left-more buffer pairs w (k .rest) (k .left) (omega arith)
@@ -115,7 +117,7 @@ module _ (kind : Leaves) (buffer : Bytes) (pairs work : List ℕ) (fromOrigins f
 
       -- its counts
       counts : n ≡ countsIn s
-      counts = subst (λ (x : Bytes). CountsOf x n) is c s (next .reads)
+      counts = c ∙ d .before .each w (omega arith) s (next .reads)
 
       blocks : Blocks (getD (textsIn buffer pairs) w [] ∷ drop (w + 1) (textsIn buffer pairs)) (s ∷ next .others) (drop (p .names) work)
       blocks =
@@ -149,12 +151,12 @@ module _ (kind : Leaves) (buffer : Bytes) (pairs work : List ℕ) (fromOrigins f
             words = omega (arith, words-for s, k .room, split wordCount);
             can =
                 record {
-                  named = omega (arith, names-within kind s, k .room, split wordCount);
-                  originsFit = omega (arith, count-is kind s, k .originsFit, split (leafCountOf kind));
-                  numbersFit = omega (arith, count-is kind s, k .numbersFit, split (leafCountOf kind));
-                  within = λ j h. leaf-said t s work (p .names) block kind j (omega (arith, count-is kind s)) .within;
+                  named = omega (arith, leaves-within kind (countsIn s), words-for s, k .room, split wordCount);
+                  originsFit = omega (arith, counts-leaves kind s, k .originsFit, split (leafCountOf kind));
+                  numbersFit = omega (arith, counts-leaves kind s, k .numbersFit, split (leafCountOf kind));
+                  within = λ j h. leaf-said t s work (p .names) block kind j (omega (arith, counts-leaves kind s)) .within;
                   low = k .low;
-                  small = omega (arith, count-is kind s, k .few, k .small, little, split (leafCountOf kind));
+                  small = omega (arith, counts-leaves kind s, k .few, k .small, little, split (leafCountOf kind));
                 };
           })
 
@@ -164,8 +166,8 @@ module _ (kind : Leaves) (buffer : Bytes) (pairs work : List ℕ) (fromOrigins f
           subst (λ (x : AagCounts). CanPass kind x p (length work)) (sym counts)
           (record {
             names = omega (arith, words-for s, k .room, split wordCount);
-            origins = omega (arith, count-is kind s, k .originsFit, split (leafCountOf kind));
-            numbers = omega (arith, count-is kind s, k .numbersFit, split (leafCountOf kind));
+            origins = omega (arith, counts-leaves kind s, k .originsFit, split (leafCountOf kind));
+            numbers = omega (arith, counts-leaves kind s, k .numbersFit, split (leafCountOf kind));
           })
 
       module _ (o′ : Bytes) (r : Printed) (same : length o′ ≡ length o) (l : PrintsNew kind first (done .next) (rowsIn t n work kind w p) o (done .at) o′ r) where
@@ -179,7 +181,7 @@ module _ (kind : Leaves) (buffer : Bytes) (pairs work : List ℕ) (fromOrigins f
 
         -- there is a row for each name
         mine-counted : length mine ≡ leafCountOf kind s
-        mine-counted = rows-length _ 0 (nameCount kind (countsIn s)) ∙ count-is kind s
+        mine-counted = rows-length _ 0 (leafCounts kind (countsIn s)) ∙ counts-leaves kind s
 
         -- what is printed
         prints : PrintsNew kind first (done .next) mine o (done .at) o′ r
@@ -207,8 +209,8 @@ module _ (kind : Leaves) (buffer : Bytes) (pairs work : List ℕ) (fromOrigins f
               left = next .readOthers;
               blocks = subst (Blocks (drop (w + 1) (textsIn buffer pairs)) (next .others)) (drop-drop (wordCount s) (p .names) work ∙ ap (λ (j : ℕ). drop (p .names + j) work) (words-for s)) (blocks .1);
               room = omega (arith, words-for s, k .room, split wordCount);
-              originsFit = omega (arith, count-is kind s, k .originsFit, split (leafCountOf kind));
-              numbersFit = omega (arith, count-is kind s, k .numbersFit, split (leafCountOf kind));
+              originsFit = omega (arith, counts-leaves kind s, k .originsFit, split (leafCountOf kind));
+              numbersFit = omega (arith, counts-leaves kind s, k .numbersFit, split (leafCountOf kind));
               low = omega (arith, k .low, after, after-least (done .next) mine);
               few = omega (arith, k .few, after, after-most (done .next) mine, mine-counted, split (leafCountOf kind));
               small = k .small;

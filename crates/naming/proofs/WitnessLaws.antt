@@ -10,11 +10,12 @@ use Rattle.witness_text.specs.declared.AagCounts.{AagCounts}
 use Rattle.composition.specs.Printing.{symbolLine}
 use Rattle.joint.specs.declared.Leaves.{Leaves}
 use Rattle.joint.specs.declared.Leaves.the-variants as leaf
+use Rattle.gathering.specs.Counts.{leafCounts, namesBefore}
 use Rattle.gathering.specs.Gathered.{wordsFor}
 use Rattle.naming.specs.declared.Places.{Places}
 use Rattle.naming.specs.declared.Printed.{Printed}
 use Rattle.naming.specs.Names.{kindOf, ownName, nameFor}
-use Rattle.naming.specs.Symbols.{rowAt, rowsFrom, RowWords, CanPrintNames, PrintsNew, nameStart, nameCount, rowsIn, CanPrintWitness, passed}
+use Rattle.naming.specs.Symbols.{rowAt, rowsFrom, RowWords, CanPrintNames, PrintsNew, rowsIn, CanPrintWitness, passed}
 
 module _ (t : Bytes) (work : List ℕ) (p : Places) where
   -- each row of so many
@@ -37,7 +38,7 @@ module _ (t : Bytes) (work : List ℕ) (p : Places) where
 abbrev from : Places → ℕ → Places
 from p start = record { names = p .names + start; origins = p .origins; numbers = p .numbers }
 
-module _ (leaves : Leaves) (n : AagCounts) (p : Places) (start count : ℕ) (a : start ≡ nameStart leaves n) (c : count ≡ nameCount leaves n) (t : Bytes) (work : List ℕ) (first next : ℕ) where
+module _ (leaves : Leaves) (n : AagCounts) (p : Places) (start count : ℕ) (a : start ≡ namesBefore leaves n) (c : count ≡ leafCounts leaves n) (t : Bytes) (work : List ℕ) (first next : ℕ) where
   -- the names may be printed from their start on
   pub witness-can : CanPrintWitness t n work leaves p first next → CanPrintNames t work (from p start) count first next
   witness-can k = rw (a, c) (k .can)
@@ -48,14 +49,6 @@ module _ (leaves : Leaves) (n : AagCounts) (p : Places) (start count : ℕ) (a :
   witness-prints w o at o′ r k = rw (← a, ← c) k
 
 -- the places of the next witness
-pub passed-is : (leaves : Leaves) (n : AagCounts) (p : Places) (names count : ℕ) → names ≡ p .names + wordsFor n → count ≡ nameCount leaves n
+pub passed-is : (leaves : Leaves) (n : AagCounts) (p : Places) (names count : ℕ) → names ≡ p .names + wordsFor n → count ≡ leafCounts leaves n
     → _≡_ {A = Places} (record { names = names; origins = p .origins + count; numbers = p .numbers + count }) (passed leaves n p)
 passed-is leaves n p names count e c = rw (e, c) refl
-
--- the start of the names, by kind
-module _ (leaves : Leaves) (n : AagCounts) where
-  pub start-inputs : leaves ≡ leaf.Inputs → 0 ≡ nameStart leaves n
-  start-inputs e = rw e refl
-
-  pub start-latches : leaves ≡ leaf.Latches → 2 * n .inputs ≡ nameStart leaves n
-  start-latches e = rw e refl

@@ -17,6 +17,7 @@ use Rattle.composition.specs.Calling.{textsIn}
 use Rattle.joint.specs.declared.Leaves.{Leaves}
 use Rattle.joint.specs.declared.Leaves.the-variants as leaf
 use Rattle.joint.specs.Joint.{totalOf, origins}
+use Rattle.gathering.specs.Counts.{leafCounts, namesBefore}
 use Rattle.gathering.specs.Gathered.{wordsFor, Blocks, wordTotal, Readable, leafCountOf}
 use Rattle.naming.specs.declared.Places.{Places}
 use Rattle.naming.specs.declared.Printed.{Printed}
@@ -73,37 +74,28 @@ pub record PrintsNew (leaf : Leaves) (first next : ℕ) (rows : List Row) (o : B
   pub prints : Prints o at (textOf (newLines (kindOf leaf) first next rows)) o′ (r .at)
   pub after : r .next ≡ nextAfter next rows
 
--- where the words of the names begin behind the first word of a text with these counts, and how many names there are
-abbrev pub nameStart : Leaves → AagCounts → ℕ
-nameStart leaf.Inputs n = 0
-nameStart leaf.Latches n = 2 * n .inputs
-
-abbrev pub nameCount : Leaves → AagCounts → ℕ
-nameCount leaf.Inputs n = n .inputs
-nameCount leaf.Latches n = n .latches
-
 -- the places of a witness whose words begin at `names`, with that of its inputs' or latches' names
 abbrev pub namesAt : Leaves → AagCounts → Places → Places
-namesAt leaf n p = record { names = p .names + nameStart leaf n; origins = p .origins; numbers = p .numbers }
+namesAt leaf n p = record { names = p .names + namesBefore leaf n; origins = p .origins; numbers = p .numbers }
 
 -- the rows of witness w, whose words begin at `names`
 abbrev pub rowsIn : Bytes → AagCounts → List ℕ → Leaves → ℕ → Places → List Row
-rowsIn t n work leaf w p = rowsFrom (rowAt t work leaf w (namesAt leaf n p)) 0 (nameCount leaf n)
+rowsIn t n work leaf w p = rowsFrom (rowAt t work leaf w (namesAt leaf n p)) 0 (leafCounts leaf n)
 
 -- its names may be printed
 pub record CanPrintWitness (t : Bytes) (n : AagCounts) (work : List ℕ) (leaf : Leaves) (p : Places) (first next : ℕ) : Type 0 where
   pub words : wordsFor n ≤ length work
-  pub can : CanPrintNames t work (namesAt leaf n p) (nameCount leaf n) first next
+  pub can : CanPrintNames t work (namesAt leaf n p) (leafCounts leaf n) first next
 
 -- the places of the next witness
 abbrev pub passed : Leaves → AagCounts → Places → Places
-passed leaf n p = record { names = p .names + wordsFor n; origins = p .origins + nameCount leaf n; numbers = p .numbers + nameCount leaf n }
+passed leaf n p = record { names = p .names + wordsFor n; origins = p .origins + leafCounts leaf n; numbers = p .numbers + leafCounts leaf n }
 
 -- they are within so many words
 pub record CanPass (leaf : Leaves) (n : AagCounts) (p : Places) (size : ℕ) : Type 0 where
   pub names : p .names + wordsFor n ≤ size
-  pub origins : p .origins + nameCount leaf n ≤ size
-  pub numbers : p .numbers + nameCount leaf n ≤ size
+  pub origins : p .origins + leafCounts leaf n ≤ size
+  pub numbers : p .numbers + leafCounts leaf n ≤ size
 
 -- ---- all witnesses
 

@@ -7,9 +7,9 @@ ghost use lib.ListN.{length};
 ghost use Rattle.printing.specs.Prints.{Prints};
 ghost use Rattle.composition.specs.Numbering.{orElse, privateName};
 ghost use Rattle.composition.specs.Printing.{symbolLine};
-ghost use Rattle.gathering.specs.Gathered.{wordsFor};
+ghost use Rattle.gathering.specs.Counts.{CountsListed};
 ghost use Rattle.naming.specs.Names.{kindOf, unnamedOf, ownName, nameFor};
-ghost use Rattle.naming.specs.Symbols.{rowAt, rowsFrom, RowWords, CanPrintNames, PrintsNew, nameStart, nameCount, CanPrintWitness, rowsIn, CanPass, passed, CanPrintSymbols, PrintsSymbols};
+ghost use Rattle.naming.specs.Symbols.{rowAt, rowsFrom, RowWords, CanPrintNames, PrintsNew, CanPrintWitness, rowsIn, CanPass, passed, CanPrintSymbols, PrintsSymbols};
 use joint::Leaves;
 use witness_text::AagCounts;
 
@@ -187,27 +187,6 @@ fn print_names(
     Printed { at: to, next: next }
 }
 
-// How many inputs, or latches, a text with these counts has.
-fn name_count(leaves: Leaves, n: AagCounts) -> usize
-    ensures { λ r. ⌜ r ≡ nameCount leaves n ⌝ }
-{
-    match leaves {
-        Leaves::Inputs => n.inputs,
-        Leaves::Latches => n.latches,
-    }
-}
-
-// Where the words of these names begin among those of a text with these counts.
-fn name_start(leaves: Leaves, n: AagCounts) -> usize
-    requires { ⌜ wordsFor n < 18446744073709551616 ⌝ }
-    ensures { λ r. ⌜ r ≡ nameStart leaves n ⌝ }
-{
-    match leaves {
-        Leaves::Inputs => 0,
-        Leaves::Latches => 2 * n.inputs,
-    }
-}
-
 // Prints the symbol lines of a witness with these counts, whose words begin at `names`.
 fn print_witness(
     out: &mut [u8],
@@ -224,8 +203,8 @@ fn print_witness(
     requires { ⌜ CanPrintWitness (now text) n (now work) leaves p first new ⌝ }
     ensures { λ r. ⌜ PrintsNew leaves first new (rowsIn (now (text .entry)) n (now (work .entry)) leaves w p) (now (out .entry)) at (now (out .exit)) r ⌝ }
 {
-    let count = name_count(leaves, n);
-    let start = name_start(leaves, n);
+    let count = gathering::counts::leaf_count(leaves, n);
+    let start = gathering::counts::names_before(leaves, n);
     let q = Places {
         names: p.names + start,
         origins: p.origins,
@@ -239,7 +218,7 @@ fn pass(leaves: Leaves, n: AagCounts, p: Places, size: usize) -> Places
     requires { ⌜ CanPass leaves n p size ⌝ }
     ensures { λ r. ⌜ r ≡ passed leaves n p ⌝ }
 {
-    let count = name_count(leaves, n);
+    let count = gathering::counts::leaf_count(leaves, n);
     Places {
         names: gathering::after_words(n, p.names, size),
         origins: p.origins + count,
@@ -254,6 +233,7 @@ pub fn print_symbols(
     at: usize,
     witnesses: &[u8],
     pairs: &[u64],
+    counts: &[u64],
     work: &[u64],
     leaves: Leaves,
     origins: usize,
@@ -261,6 +241,7 @@ pub fn print_symbols(
     first: u64,
 ) -> usize
     requires { ⌜ CanPrintSymbols leaves (now witnesses) (now pairs) (now work) origins numbers first ⌝ }
+    requires { ⌜ CountsListed (now witnesses) (now pairs) (now counts) ⌝ }
     ensures { λ r. ⌜ PrintsSymbols leaves (now (witnesses .entry)) (now (pairs .entry)) (now (work .entry)) origins numbers first (now (out .entry)) at (now (out .exit)) r ⌝ }
 {
     let count = pairs.len() / 2;
@@ -276,7 +257,7 @@ pub fn print_symbols(
     let mut w = 0;
     while w < count {
         let text = gathering::text_at(witnesses, pairs, w);
-        let n = gathering::counts_of(text);
+        let n = gathering::counts::counts_at(counts, w);
         done = print_witness(out, done.at, text, n, work, leaves, w, p, first, done.next);
         p = pass(leaves, n, p, work.len());
         w += 1;

@@ -1,17 +1,16 @@
 -- Laws of the origins of all witnesses.
 use Prim.Native.Nat.{ℕ, _+_, _/_, _≤_, _<_}
-use mathlib.Core.Bool.{Bool, true, false, _&&_}
+use mathlib.Core.Bool.{Bool, false, _&&_}
 use mathlib.Core.List.{List, []}
-use mathlib.Core.Path.{_≡_, refl, sym, ap, _∙_, subst}
+use mathlib.Core.Path.{_≡_, sym, ap, _∙_, subst}
 use native.Mathlib.Omega.{arith}
-use lib.ListN.{length, drop, getD, length-map}
+use lib.ListN.{length, drop, getD}
 use Rattle.lists.specs.Parts.{Bytes}
 use Rattle.lists.specs.Tests.{all}
 use Rattle.lists.proofs.AnswerLaws.{got-same}
-use Rattle.text.specs.Texts.{limited}
 use Rattle.witness_text.specs.declared.AagCounts.{AagCounts}
 use Rattle.witness.specs.Sections.{Sections}
-use Rattle.witness.specs.Reading.{readAag, countsIn}
+use Rattle.witness.specs.Reading.{countsIn}
 use Rattle.witness_words.specs.Loaded.{wordCount}
 use Rattle.composition.specs.declared.ModelLeaves.{ModelLeaves}
 use Rattle.composition.specs.Mapping.{mapsByName}
@@ -20,20 +19,17 @@ use Rattle.joint.specs.declared.Before.{Before}
 use Rattle.joint.specs.declared.Leaves.{Leaves}
 use Rattle.joint.specs.declared.Leaves.the-variants as leaf
 use Rattle.joint.specs.Joint.{nothingBefore, beyond, namesOf}
-use Rattle.gathering.specs.Gathered.{CountsOf, wordsFor, Block, Readable, leafCountOf}
+use Rattle.joint.proofs.AmountLaws.{origin-words}
+use Rattle.gathering.specs.Counts.{countsAt, leafCounts, CountsListed}
+use Rattle.gathering.specs.Gathered.{wordsFor, Block, Readable, leafCountOf}
 use Rattle.gathering.proofs.TextLaws.{FirstRead, Left, left-more, left-none}
+use Rattle.gathering.proofs.CountLaws.{counts-leaves}
 use Rattle.gathering.proofs.CheckLaws.{read-counted}
 use Rattle.gathering.proofs.BlockLaws.{words-for, block-kept}
 use Rattle.gathering.proofs.GatherLaws.{Gathering, Next, gathering-none, gathering-next, gathering-end}
 use Rattle.origins.specs.declared.Origins.{Origins}
 use Rattle.origins.specs.declared.Origins.the-variants as origins
-use Rattle.origins.specs.Mapped.{leafCounts, CanMapWitness, originsBy, rightBy, WitnessOrigins, MapsWitness, CanMapAll, MapsAll}
-use Rattle.origins.proofs.LoopLaws.{origins-length}
-
--- as many as the counts say
-counts-leaves : (leaves : Leaves) (s : Sections) → leafCounts leaves (countsIn s) ≡ leafCountOf leaves s
-counts-leaves leaf.Inputs s = refl
-counts-leaves leaf.Latches s = sym (length-map (s .latches) (λ q. q .name))
+use Rattle.origins.specs.Mapped.{CanMapWitness, originsBy, rightBy, WitnessOrigins, MapsWitness, CanMapAll, MapsAll}
 
 -- the witnesses before number w have right literals, and their origins stand there
 pub record Mapping (p : ModelLeaves) (leaves : Leaves) (buffer : Bytes) (pairs work₀ work : List ℕ) (to from at w : ℕ) : Type 0 where
@@ -58,12 +54,12 @@ module _ (p : ModelLeaves) (leaves : Leaves) (buffer : Bytes) (pairs work₀ wor
       let none : k .gathering .rest ≡ [] = left-none buffer pairs w (k .gathering .rest) (k .gathering .left) (omega arith) in
       (sym (k .right ws (k .gathering .rest) r (k .gathering .left)) ∙ ap (all (rightBy p leaves)) none, (g .0, g .1))
 
-  module _ (less : w < count) (t : Bytes) (is : t ≡ getD (textsIn buffer pairs) w []) (n : AagCounts) (c : CountsOf t n) where
+  module _ (less : w < count) (t : Bytes) (is : t ≡ getD (textsIn buffer pairs) w []) (listed : List ℕ) (d : CountsListed buffer pairs listed) (n : AagCounts) (c : n ≡ countsAt listed w) where
     next : Next (originsBy p leaves) (leafCountOf leaves) buffer pairs work₀ work to from at (k .b) w (k .gathering .ws)
     next = gathering-next (originsBy p leaves) (leafCountOf leaves) buffer pairs to work₀ work from at (k .b) w count (k .gathering) number less
 
     counts : n ≡ countsIn (next .first)
-    counts = c (next .first) (ap (readAag limited true) is ∙ next .reads)
+    counts = c ∙ d .before .each w (omega arith) (next .first) (next .reads)
 
     short : wordsFor n ≡ wordCount (next .first)
     short = ap wordsFor counts ∙ sym (words-for (next .first))
@@ -113,7 +109,7 @@ module _ (p : ModelLeaves) (leaves : Leaves) (buffer : Bytes) (pairs work₀ wor
       pub mapping-more : (e from' : ℕ) → r ≡ origins.Next e → from' ≡ from + wordsFor n → Mapping p leaves buffer pairs work₀ work' to from' e (w + 1)
       mapping-more e from' f g =
           let m : WitnessOrigins p leaves n w (next .first) work at work' (origins.Next e) = subst (WitnessOrigins p leaves n w (next .first) work at work') f mapped in
-          let long : length (originsBy p leaves w (k .b) (next .first)) ≡ leafCountOf leaves (next .first) = origins-length p w (mapsByName (next .first)) 0 (namesOf leaves (next .first)) in
+          let long : length (originsBy p leaves w (k .b) (next .first)) ≡ leafCountOf leaves (next .first) = origin-words p w (mapsByName (next .first)) 0 (namesOf leaves (next .first)) in
           let x : from + wordCount (next .first) ≡ from' = omega (arith, short, g) in
           let y : at + leafCountOf leaves (next .first) ≡ e = omega (arith, m .1 .1, leaves-same) in
           record {

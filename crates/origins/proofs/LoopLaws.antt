@@ -18,6 +18,7 @@ use Rattle.composition.specs.declared.ModelLeaves.{ModelLeaves}
 use Rattle.composition.specs.declared.Mapping.{Mapping}
 use Rattle.composition.specs.Mapping.{isMapped, mappingOf}
 use Rattle.composition.specs.Composing.{isRight, leavesRight}
+use Rattle.joint.proofs.AmountLaws.{origin-words}
 use Rattle.joint.specs.Joint.{originWord, originsFrom}
 use Rattle.origins.specs.Mapped.{MappedAt, MapsAt, SaysAt, TestsAt, SaysNames, SayNames, AnyMapped, CanMap, StoresOrigins}
 
@@ -68,10 +69,6 @@ module _ (t : Bytes) (words : List ℕ) (i count : ℕ) (all : count ≡ length 
 -- ---- the origins
 
 module _ (p : ModelLeaves) (w : ℕ) (named : Bool) where
-  pub origins-length : (k : ℕ) (names : List (Option Bytes)) → length (originsFrom p w named k names) ≡ length names
-  origins-length k [] = refl
-  origins-length k (name ∷ names) = ap suc (origins-length (suc k) names)
-
   pub origins-at : (j k : ℕ) (names : List (Option Bytes)) → k < length names → getD (originsFrom p w named j names) k 0 ≡ originWord w (mappingOf p named (j + k) (getD names k none))
   origins-at j k [] h = absurd (omega arith)
   origins-at j zero (name ∷ names) h = let z : j ≡ j + 0 = omega arith in ap (λ (n : ℕ). originWord w (mappingOf p named n name)) z
@@ -103,7 +100,7 @@ storing-none p t from count named w to work k =
             right = refl;
             copied =
                 copied-none work to (originsFrom p w named 0 names)
-                (omega (arith, origins-length p w named 0 names, names-count t (part work from (from + 2 * count)) names say, part-length work from (from + 2 * count) (omega (arith, k .behind, k .room)), k .room));
+                (omega (arith, origin-words p w named 0 names, names-count t (part work from (from + 2 * count)) names say, part-length work from (from + 2 * count) (omega (arith, k .behind, k .room)), k .room));
           };
     }
 
@@ -116,7 +113,7 @@ module _ (p : ModelLeaves) (t : Bytes) (from count : ℕ) (named : Bool) (w to :
       let f = s .each names say in
       let n : length names ≡ count = omega (arith, names-count t (part work₀ from (from + 2 * count)) names say, words-length) in (
         sym (f .right) ∙ ap (allFrom (λ j name. isRight (mappingOf p named j name)) k) (drop-of-length-le names {i = k} (omega arith)),
-        copied-done work₀ to (originsFrom p w named 0 names) work k (f .copied) (omega (arith, origins-length p w named 0 names)),
+        copied-done work₀ to (originsFrom p w named 0 names) work k (f .copied) (omega (arith, origin-words p w named 0 names)),
       )
 
   module _ (less : k < count) where
@@ -177,5 +174,5 @@ module _ (p : ModelLeaves) (t : Bytes) (from count : ℕ) (named : Bool) (w to :
                 g ∙ (ap (originWord w) (mapping-is names say ∙ ap (λ (j : ℕ). mappingOf p named j (getD names k none)) (omega arith)) ∙ sym (origins-at p w named 0 k names (omega arith))) in
                 record {
                   right = ap (λ (z : Bool). z && allFrom (λ j name. isRight (mappingOf p named j name)) (k + 1) (drop (k + 1) names)) (sym (sym q ∙ f)) ∙ tested-right names say;
-                  copied = rw z (copied-more work₀ to (originsFrom p w named 0 names) work k (s .each names say .copied) 0 (omega (arith, origins-length p w named 0 names)));
+                  copied = rw z (copied-more work₀ to (originsFrom p w named 0 names) work k (s .each names say .copied) 0 (omega (arith, origin-words p w named 0 names)));
                 }

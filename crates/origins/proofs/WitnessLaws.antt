@@ -20,10 +20,12 @@ use Rattle.composition.specs.Mapping.{mapsByName}
 use Rattle.joint.specs.declared.Leaves.{Leaves}
 use Rattle.joint.specs.declared.Leaves.the-variants as leaf
 use Rattle.joint.specs.Joint.{namesOf}
-use Rattle.gathering.specs.Gathered.{wordsFor, Block}
+use Rattle.gathering.specs.Counts.{leafCounts, namesBefore}
+use Rattle.gathering.specs.Gathered.{Block}
 use Rattle.origins.specs.declared.Origins.{Origins}
 use Rattle.origins.specs.declared.Origins.the-variants as origins
-use Rattle.origins.specs.Mapped.{SaysNames, SayNames, AnyMapped, CanMap, OriginsIf, StoresOrigins, leafCounts, namesBefore, CanTest, TestsWitness, CanMapWitness, WitnessOrigins, MapsWitness}
+use Rattle.gathering.proofs.CountLaws.{leaves-within}
+use Rattle.origins.specs.Mapped.{SaysNames, SayNames, AnyMapped, CanMap, OriginsIf, StoresOrigins, CanTest, TestsWitness, CanMapWitness, WitnessOrigins, MapsWitness}
 
 -- ---- the names among the words of a text
 
@@ -69,13 +71,6 @@ module _ (t : Bytes) (n : AagCounts) (work : List ℕ) (from : ℕ) where
 
 -- ---- where the names of its inputs, or latches, are
 
-module _ (leaves : Leaves) (n : AagCounts) (from : ℕ) where
-  pub at-inputs : leaves ≡ leaf.Inputs → from ≡ from + namesBefore leaves n
-  at-inputs e = rw e (omega arith)
-
-  pub at-latches : leaves ≡ leaf.Latches → from + 2 * n .inputs ≡ from + namesBefore leaves n
-  at-latches e = rw e refl
-
 leaves-say : (leaves : Leaves) (t : Bytes) (s : Sections) (work : List ℕ) (from : ℕ) → Block t s (drop from work)
     → SaysNames t (part work (from + namesBefore leaves (countsIn s)) (from + namesBefore leaves (countsIn s) + 2 * leafCounts leaves (countsIn s))) (namesOf leaves s)
 leaves-say leaf.Inputs t s work from b =
@@ -84,10 +79,6 @@ leaves-say leaf.Inputs t s work from b =
 leaves-say leaf.Latches t s work from b =
     ap (pairsOf (nameFrom t)) (front-part work (from + 2 * length (s .inputs)) (2 * length (s .latches)) ∙ ap (take (2 * length (s .latches))) (sym (drop-drop (2 * length (s .inputs)) from work)))
     ∙ latches-say t s (drop from work) b
-
-leaves-within : (leaves : Leaves) (n : AagCounts) → namesBefore leaves n + 2 * leafCounts leaves n ≤ wordsFor n
-leaves-within leaf.Inputs n = omega arith
-leaves-within leaf.Latches n = omega arith
 
 leaves-few : (leaves : Leaves) (n : AagCounts) → leafCounts leaves n ≤ n .inputs + n .latches
 leaves-few leaf.Inputs n = omega arith

@@ -20,6 +20,7 @@ use Rattle.joint.specs.declared.Before.{Before}
 use Rattle.joint.specs.declared.Leaves.{Leaves}
 use Rattle.joint.specs.declared.Leaves.the-variants as leaf
 use Rattle.joint.specs.Joint.{totalOf, gathered, namesOf, originsFrom}
+use Rattle.gathering.specs.Counts.{leafCounts}
 use Rattle.gathering.specs.Gathered.{wordsFor, Block, Readable, CanGather, leafCountOf}
 use Rattle.origins.specs.declared.Origins.{Origins}
 use Rattle.origins.specs.declared.Origins.the-variants as origins
@@ -88,15 +89,6 @@ StoresOrigins p t from count named w to work work' r =
     (names : List (Option Bytes)) → SaysNames t (part work from (from + 2 * count)) names → OriginsIf r p w named names work to work'
 
 -- ---- one witness
-
--- how many inputs, or latches, a text with these counts has, and where their names begin among its words
-abbrev pub leafCounts : Leaves → AagCounts → ℕ
-leafCounts leaf.Inputs n = n .inputs
-leafCounts leaf.Latches n = n .latches
-
-abbrev pub namesBefore : Leaves → AagCounts → ℕ
-namesBefore leaf.Inputs n = 0
-namesBefore leaf.Latches n = 2 * n .inputs
 
 -- the words of a text stand from a place on
 pub record CanTest (t : Bytes) (n : AagCounts) (work : List ℕ) (from : ℕ) : Type 0 where

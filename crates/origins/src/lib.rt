@@ -6,12 +6,13 @@ ghost use Rattle.text.specs.declared.Reader.the-variants.{Witness};
 ghost use Rattle.text.specs.Numbers.{numberOf};
 ghost use mathlib.Core.Bool.{cond};
 ghost use Prim.Native.Nat.{_+_, _≤_, _<_};
+ghost use Rattle.gathering.specs.Counts.{namesBefore, CountsListed};
 ghost use Rattle.gathering.specs.Gathered.{wordsFor};
 ghost use Rattle.origins.specs.declared.Origins.the-variants as origins;
 ghost use Rattle.composition.specs.Mapping.{ontoNumber, byName, byPosition};
 ghost use Rattle.composition.specs.Composing.{isRight};
 ghost use Rattle.joint.specs.Joint.{originWord};
-ghost use Rattle.origins.specs.Mapped.{FewLeaves, SaysName, MapsTo, MappedAt, MapsAt, TestsName, SaysAt, TestsAt, SayNames, AnyMapped, CanMap, StoresOrigins, leafCounts, namesBefore, CanTest, TestsWitness, CanMapWitness, MapsWitness, CanMapAll, MapsAll};
+ghost use Rattle.origins.specs.Mapped.{FewLeaves, SaysName, MapsTo, MappedAt, MapsAt, TestsName, SaysAt, TestsAt, SayNames, AnyMapped, CanMap, StoresOrigins, CanTest, TestsWitness, CanMapWitness, MapsWitness, CanMapAll, MapsAll};
 use composition::Mapping;
 use composition::ModelLeaves;
 use joint::Leaves;
@@ -203,24 +204,12 @@ fn store_origins(
     true
 }
 
-fn leaf_count(leaves: Leaves, n: AagCounts) -> usize
-    ensures { λ r. ⌜ r ≡ leafCounts leaves n ⌝ }
-{
-    match leaves {
-        Leaves::Inputs => n.inputs,
-        Leaves::Latches => n.latches,
-    }
-}
-
 // Where the names of the inputs, or latches, begin; the words of the text begin at a place.
 fn names_at(leaves: Leaves, n: AagCounts, from: usize, end: usize) -> usize
     requires { ⌜ from + wordsFor n ≤ end ⌝ }
     ensures { λ r. ⌜ r ≡ from + namesBefore leaves n ⌝ }
 {
-    match leaves {
-        Leaves::Inputs => from,
-        Leaves::Latches => from + 2 * n.inputs,
-    }
+    from + gathering::counts::names_before(leaves, n)
 }
 
 // Whether witness maps by name; its words begin at a place.
@@ -259,7 +248,7 @@ fn witness_origins(
 {
     let named = maps_by_name(text, n, work, from);
     let names = names_at(leaves, n, from, to);
-    let count = leaf_count(leaves, n);
+    let count = gathering::counts::leaf_count(leaves, n);
     let right = store_origins(text, work, names, count, named, p, w, to);
     stored(right, to, count, work.len())
 }
@@ -268,12 +257,14 @@ fn witness_origins(
 pub fn gather_origins(
     witnesses: &[u8],
     pairs: &[u64],
+    counts: &[u64],
     work: &mut [u64],
     leaves: Leaves,
     p: ModelLeaves,
     to: usize,
 ) -> Origins
     requires { ⌜ CanMapAll p leaves (now witnesses) (now pairs) (now work) to ⌝ }
+    requires { ⌜ CountsListed (now witnesses) (now pairs) (now counts) ⌝ }
     ensures { λ r. ⌜ MapsAll p leaves (now (witnesses .entry)) (now (pairs .entry)) (now (work .entry)) to (now (work .exit)) r ⌝ }
 {
     let count = pairs.len() / 2;
@@ -282,7 +273,7 @@ pub fn gather_origins(
     let mut w = 0;
     while w < count {
         let text = gathering::text_at(witnesses, pairs, w);
-        let n = gathering::counts_of(text);
+        let n = gathering::counts::counts_at(counts, w);
         let next = gathering::after_words(n, from, at);
         let Origins::Next(end) = witness_origins(text, n, work, from, leaves, p, w, at) else {
             return Origins::Wrong;

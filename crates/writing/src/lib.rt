@@ -1,4 +1,5 @@
 // The composition's text, printed from the work words: each function prints a part and goes on with the next. With an empty slice they only count.
+ghost use Rattle.gathering.specs.Counts.{CountsListed};
 ghost use Rattle.writing.specs.Written.{PrintableSome, PrintsText, fromLatchNames, fromInputNames, fromGates, fromConstraints, fromBads, fromLatches, fromInputs, fromHeader};
 use composed_text::Counts;
 use gathering::Totals;
@@ -12,12 +13,14 @@ fn print_latch_names(
     from: usize,
     witnesses: &[u8],
     pairs: &[u64],
+    counts: &[u64],
     work: &[u64],
     at: Places,
     c: Merged,
     t: Totals,
 ) -> usize
     requires { ⌜ PrintableSome (now witnesses) (now pairs) (now work) at c t ⌝ }
+    requires { ⌜ CountsListed (now witnesses) (now pairs) (now counts) ⌝ }
     ensures { λ r. ⌜ PrintsText fromLatchNames (now (witnesses .entry)) (now (pairs .entry)) (now (work .entry)) at c t (now (out .entry)) from (now (out .exit)) r ⌝ }
 {
     let numbers = at.vars + 1 + t.inputs;
@@ -27,6 +30,7 @@ fn print_latch_names(
         from,
         witnesses,
         pairs,
+        counts,
         work,
         Leaves::Latches,
         at.latch_origins,
@@ -42,12 +46,14 @@ fn print_input_names(
     from: usize,
     witnesses: &[u8],
     pairs: &[u64],
+    counts: &[u64],
     work: &[u64],
     at: Places,
     c: Merged,
     t: Totals,
 ) -> usize
     requires { ⌜ PrintableSome (now witnesses) (now pairs) (now work) at c t ⌝ }
+    requires { ⌜ CountsListed (now witnesses) (now pairs) (now counts) ⌝ }
     ensures { λ r. ⌜ PrintsText fromInputNames (now (witnesses .entry)) (now (pairs .entry)) (now (work .entry)) at c t (now (out .entry)) from (now (out .exit)) r ⌝ }
 {
     let next = naming::print_symbols(
@@ -55,13 +61,14 @@ fn print_input_names(
         from,
         witnesses,
         pairs,
+        counts,
         work,
         Leaves::Inputs,
         at.input_origins,
         at.vars + 1,
         1,
     );
-    print_latch_names(out, next, witnesses, pairs, work, at, c, t)
+    print_latch_names(out, next, witnesses, pairs, counts, work, at, c, t)
 }
 
 // From the gates on.
@@ -70,12 +77,14 @@ fn print_gates(
     from: usize,
     witnesses: &[u8],
     pairs: &[u64],
+    counts: &[u64],
     work: &[u64],
     at: Places,
     c: Merged,
     t: Totals,
 ) -> usize
     requires { ⌜ PrintableSome (now witnesses) (now pairs) (now work) at c t ⌝ }
+    requires { ⌜ CountsListed (now witnesses) (now pairs) (now counts) ⌝ }
     ensures { λ r. ⌜ PrintsText fromGates (now (witnesses .entry)) (now (pairs .entry)) (now (work .entry)) at c t (now (out .entry)) from (now (out .exit)) r ⌝ }
 {
     let first = c.inputs + c.latches + 1;
@@ -89,7 +98,7 @@ fn print_gates(
         t.gates + 1,
         c.gates,
     );
-    print_input_names(out, next, witnesses, pairs, work, at, c, t)
+    print_input_names(out, next, witnesses, pairs, counts, work, at, c, t)
 }
 
 // From the constraints on.
@@ -98,18 +107,20 @@ fn print_constraints(
     from: usize,
     witnesses: &[u8],
     pairs: &[u64],
+    counts: &[u64],
     work: &[u64],
     at: Places,
     c: Merged,
     t: Totals,
 ) -> usize
     requires { ⌜ PrintableSome (now witnesses) (now pairs) (now work) at c t ⌝ }
+    requires { ⌜ CountsListed (now witnesses) (now pairs) (now counts) ⌝ }
     ensures { λ r. ⌜ PrintsText fromConstraints (now (witnesses .entry)) (now (pairs .entry)) (now (work .entry)) at c t (now (out .entry)) from (now (out .exit)) r ⌝ }
 {
     let start = at.limits;
     let end = at.end;
     let next = printing::print_set(out, from, &work[start..end]);
-    print_gates(out, next, witnesses, pairs, work, at, c, t)
+    print_gates(out, next, witnesses, pairs, counts, work, at, c, t)
 }
 
 // From the bads on.
@@ -118,18 +129,20 @@ fn print_bads(
     from: usize,
     witnesses: &[u8],
     pairs: &[u64],
+    counts: &[u64],
     work: &[u64],
     at: Places,
     c: Merged,
     t: Totals,
 ) -> usize
     requires { ⌜ PrintableSome (now witnesses) (now pairs) (now work) at c t ⌝ }
+    requires { ⌜ CountsListed (now witnesses) (now pairs) (now counts) ⌝ }
     ensures { λ r. ⌜ PrintsText fromBads (now (witnesses .entry)) (now (pairs .entry)) (now (work .entry)) at c t (now (out .entry)) from (now (out .exit)) r ⌝ }
 {
     let start = at.bads;
     let end = at.limits;
     let next = printing::print_set(out, from, &work[start..end]);
-    print_constraints(out, next, witnesses, pairs, work, at, c, t)
+    print_constraints(out, next, witnesses, pairs, counts, work, at, c, t)
 }
 
 // From the latches on.
@@ -138,19 +151,21 @@ fn print_latches(
     from: usize,
     witnesses: &[u8],
     pairs: &[u64],
+    counts: &[u64],
     work: &[u64],
     at: Places,
     c: Merged,
     t: Totals,
 ) -> usize
     requires { ⌜ PrintableSome (now witnesses) (now pairs) (now work) at c t ⌝ }
+    requires { ⌜ CountsListed (now witnesses) (now pairs) (now counts) ⌝ }
     ensures { λ r. ⌜ PrintsText fromLatches (now (witnesses .entry)) (now (pairs .entry)) (now (work .entry)) at c t (now (out .entry)) from (now (out .exit)) r ⌝ }
 {
     let first = c.inputs + 1;
     let start = at.definitions;
     let end = start + 2 * c.latches;
     let next = printing::print_pairs(out, from, first as u64, &work[start..end]);
-    print_bads(out, next, witnesses, pairs, work, at, c, t)
+    print_bads(out, next, witnesses, pairs, counts, work, at, c, t)
 }
 
 // From the inputs on.
@@ -159,16 +174,18 @@ fn print_inputs(
     from: usize,
     witnesses: &[u8],
     pairs: &[u64],
+    counts: &[u64],
     work: &[u64],
     at: Places,
     c: Merged,
     t: Totals,
 ) -> usize
     requires { ⌜ PrintableSome (now witnesses) (now pairs) (now work) at c t ⌝ }
+    requires { ⌜ CountsListed (now witnesses) (now pairs) (now counts) ⌝ }
     ensures { λ r. ⌜ PrintsText fromInputs (now (witnesses .entry)) (now (pairs .entry)) (now (work .entry)) at c t (now (out .entry)) from (now (out .exit)) r ⌝ }
 {
     let next = printing::print_consecutive(out, from, 1, c.inputs);
-    print_latches(out, next, witnesses, pairs, work, at, c, t)
+    print_latches(out, next, witnesses, pairs, counts, work, at, c, t)
 }
 
 // The whole text.
@@ -176,15 +193,17 @@ pub fn print_composition(
     out: &mut [u8],
     witnesses: &[u8],
     pairs: &[u64],
+    counts: &[u64],
     work: &[u64],
     at: Places,
     c: Merged,
     t: Totals,
 ) -> usize
     requires { ⌜ PrintableSome (now witnesses) (now pairs) (now work) at c t ⌝ }
+    requires { ⌜ CountsListed (now witnesses) (now pairs) (now counts) ⌝ }
     ensures { λ r. ⌜ PrintsText fromHeader (now (witnesses .entry)) (now (pairs .entry)) (now (work .entry)) at c t (now (out .entry)) 0 (now (out .exit)) r ⌝ }
 {
-    let counts = Counts {
+    let head = Counts {
         variables: (c.inputs + c.latches + c.gates) as u64,
         inputs: c.inputs as u64,
         latches: c.latches as u64,
@@ -192,6 +211,6 @@ pub fn print_composition(
         bads: c.bads as u64,
         constraints: c.constraints as u64,
     };
-    let next = composed_text::print_header(out, 0, counts);
-    print_inputs(out, next, witnesses, pairs, work, at, c, t)
+    let next = composed_text::print_header(out, 0, head);
+    print_inputs(out, next, witnesses, pairs, counts, work, at, c, t)
 }

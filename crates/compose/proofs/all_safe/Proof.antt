@@ -7,10 +7,10 @@ use Prim.Native.Nat.{_-_, _/_}
 use mathlib.Core.Path.{_≡_}
 
 abbrev Inv-loop : tie.InvT-loop
-Inv-loop witnesses pairs count w₀ w = Safe witnesses pairs w × (count ≡ length pairs / 2)
+Inv-loop witnesses pairs counts count w₀ w = Safe witnesses pairs w × (count ≡ length pairs / 2)
 
 abbrev μ-loop : tie.MeasureT-loop
-μ-loop witnesses pairs count w₀ w = count - w
+μ-loop witnesses pairs counts count w₀ w = count - w
 
 loop-holds : tie.Need-loop-holds Inv-loop μ-loop
 loop-holds c = search (needs, safe-none)

@@ -4,7 +4,7 @@ use Rattle.compose.proofs.compose_fitting.Tie as tie
 use Rattle.compose.proofs.ChainLaws.{fitting-wrong, fitting-laid, fitting-composed}
 
 lay-requires : tie.Need-lay-requires
-lay-requires c κs = search needs
+lay-requires c κs = (search needs, search needs)
 
 enum-told : tie.Need-enum-told
 enum-told c = search needs
@@ -13,7 +13,7 @@ enum-known-laid : tie.Need-enum-known-laid
 enum-known-laid c = search needs
 
 compose-laid-requires : tie.Need-compose-laid-requires
-compose-laid-requires c κs = search fitting-laid
+compose-laid-requires c κs = (search fitting-laid, search needs)
 
 same-length : tie.Need-same-length
 same-length c = search needs

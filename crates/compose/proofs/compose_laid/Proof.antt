@@ -13,10 +13,10 @@ enum-known-merged-2 : tie.Need-enum-known-merged-2
 enum-known-merged-2 c = search needs
 
 all-safe-requires : tie.Need-all-safe-requires
-all-safe-requires c κs = search laid-pairs
+all-safe-requires c κs = (search laid-pairs, search needs)
 
 write-merged-requires : tie.Need-write-merged-requires
-write-merged-requires c κs = search laid-printable
+write-merged-requires c κs = (search laid-printable, search needs)
 
 same-length : tie.Need-same-length
 same-length c = search needs

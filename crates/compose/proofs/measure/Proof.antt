@@ -10,7 +10,7 @@ slice-aggregate-print-composition : tie.Need-slice-aggregate-print-composition
 slice-aggregate-print-composition c = search needs
 
 print-composition-requires : tie.Need-print-composition-requires
-print-composition-requires c κs = search needs
+print-composition-requires c κs = (search needs, search needs)
 
 same-length : tie.Need-same-length
 same-length c = search needs

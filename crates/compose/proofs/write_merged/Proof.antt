@@ -7,7 +7,7 @@ use Prim.Native.Nat.{_<_}
 use native.Mathlib.Omega.{arith}
 
 measure-requires : tie.Need-measure-requires
-measure-requires c κs = search needs
+measure-requires c κs = (search needs, search needs)
 
 same-length : tie.Need-same-length
 same-length c = search needs
@@ -16,13 +16,13 @@ returns : tie.Need-returns
 returns c = search too-long
 
 print-composition-requires : tie.Need-print-composition-requires
-print-composition-requires c κs = search needs
+print-composition-requires c κs = (search needs, search needs)
 
 same-length-2 : tie.Need-same-length-2
 same-length-2 c = search needs
 
 returns-2 : tie.Need-returns-2
-returns-2 c = let small : length (c .before .before .before .before .before .before .before .before .before .before .before .before .before .args .out .now) < 9223372036854775808 = omega arith in search written
+returns-2 c = let small : length (c .before .before .before .before .before .before .before .before .before .before .before .before .before .before .args .out .now) < 9223372036854775808 = omega (arith, c .before .before .before .before .before .before .before .before .before .before .before .before .before .before .good .1 .1 .1 .1 .1 .1 .1 .0) in search written
 
 pub write-merged-spec : {M : Type 1} → statement M
 write-merged-spec =

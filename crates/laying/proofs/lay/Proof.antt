@@ -4,10 +4,10 @@ use Rattle.laying.proofs.lay.Tie as tie
 use Rattle.laying.proofs.LayLaws.{lay-load, lay-staged, lay-goes}
 
 load-all-requires : tie.Need-load-all-requires
-load-all-requires c κs = search lay-load
+load-all-requires c κs = (search lay-load, search needs)
 
 lay-latches-requires : tie.Need-lay-latches-requires
-lay-latches-requires c κs = search lay-staged
+lay-latches-requires c κs = (search lay-staged, search needs)
 
 same-length : tie.Need-same-length
 same-length c = search needs

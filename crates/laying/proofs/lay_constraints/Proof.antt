@@ -4,10 +4,10 @@ use Rattle.laying.proofs.lay_constraints.Tie as tie
 use Rattle.laying.proofs.StageLaws.{stage-totals, turn-can, turn-next, turn-goes, roomy-constraints}
 
 gather-requires : tie.Need-gather-requires
-gather-requires c κs = (search (turn-can, roomy-constraints), stage-totals _ _ _ _ _ _ _ (c .before .before .before .before .pre))
+gather-requires c κs = (search (turn-can, roomy-constraints), (search needs, stage-totals _ _ _ _ _ _ _ (c .before .before .before .before .before .pre .0)))
 
 lay-inputs-requires : tie.Need-lay-inputs-requires
-lay-inputs-requires c κs = search (turn-next, roomy-constraints)
+lay-inputs-requires c κs = (search (turn-next, roomy-constraints), search needs)
 
 same-length : tie.Need-same-length
 same-length c = search needs

@@ -4,7 +4,7 @@ use Rattle.laying.proofs.lay_inputs.Tie as tie
 use Rattle.laying.proofs.LayLaws.{inputs-can, inputs-wrong, inputs-next, inputs-goes}
 
 gather-origins-requires : tie.Need-gather-origins-requires
-gather-origins-requires c κs = search inputs-can
+gather-origins-requires c κs = (search inputs-can, search needs)
 
 enum-known-b : tie.Need-enum-known-b
 enum-known-b c = search needs
@@ -19,7 +19,7 @@ returns : tie.Need-returns
 returns c = search inputs-wrong
 
 lay-leaves-requires : tie.Need-lay-leaves-requires
-lay-leaves-requires c κs = search inputs-next
+lay-leaves-requires c κs = (search inputs-next, search needs)
 
 same-length-2 : tie.Need-same-length-2
 same-length-2 c = search needs

@@ -4,10 +4,10 @@ use Rattle.laying.proofs.lay_latches.Tie as tie
 use Rattle.laying.proofs.StageLaws.{stage-totals, turn-can, turn-next, turn-goes, roomy-latches}
 
 gather-requires : tie.Need-gather-requires
-gather-requires c κs = (search (turn-can, roomy-latches), stage-totals _ _ _ _ _ _ _ (c .before .before .before .before .pre))
+gather-requires c κs = (search (turn-can, roomy-latches), (search needs, stage-totals _ _ _ _ _ _ _ (c .before .before .before .before .before .pre .0)))
 
 lay-operands-requires : tie.Need-lay-operands-requires
-lay-operands-requires c κs = search (turn-next, roomy-latches)
+lay-operands-requires c κs = (search (turn-next, roomy-latches), search needs)
 
 same-length : tie.Need-same-length
 same-length c = search needs

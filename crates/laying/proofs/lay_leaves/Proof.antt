@@ -4,7 +4,7 @@ use Rattle.laying.proofs.lay_leaves.Tie as tie
 use Rattle.laying.proofs.LayLaws.{latches-can, latches-wrong, places-fit, latches-laid}
 
 gather-origins-requires : tie.Need-gather-origins-requires
-gather-origins-requires c κs = search latches-can
+gather-origins-requires c κs = (search latches-can, search needs)
 
 enum-known-table : tie.Need-enum-known-table
 enum-known-table c = search needs

@@ -4,10 +4,10 @@ use Rattle.laying.proofs.lay_operands.Tie as tie
 use Rattle.laying.proofs.StageLaws.{stage-totals, turn-can, turn-next, turn-goes, roomy-operands}
 
 gather-requires : tie.Need-gather-requires
-gather-requires c κs = (search (turn-can, roomy-operands), stage-totals _ _ _ _ _ _ _ (c .before .before .before .before .pre))
+gather-requires c κs = (search (turn-can, roomy-operands), (search needs, stage-totals _ _ _ _ _ _ _ (c .before .before .before .before .before .pre .0)))
 
 lay-safety-requires : tie.Need-lay-safety-requires
-lay-safety-requires c κs = search (turn-next, roomy-operands)
+lay-safety-requires c κs = (search (turn-next, roomy-operands), search needs)
 
 same-length : tie.Need-same-length
 same-length c = search needs

@@ -4,10 +4,10 @@ use Rattle.laying.proofs.lay_safety.Tie as tie
 use Rattle.laying.proofs.StageLaws.{stage-totals, turn-can, turn-next, turn-goes, roomy-safety}
 
 gather-requires : tie.Need-gather-requires
-gather-requires c κs = (search (turn-can, roomy-safety), stage-totals _ _ _ _ _ _ _ (c .before .before .before .before .pre))
+gather-requires c κs = (search (turn-can, roomy-safety), (search needs, stage-totals _ _ _ _ _ _ _ (c .before .before .before .before .before .pre .0)))
 
 lay-constraints-requires : tie.Need-lay-constraints-requires
-lay-constraints-requires c κs = search (turn-next, roomy-safety)
+lay-constraints-requires c κs = (search (turn-next, roomy-safety), search needs)
 
 same-length : tie.Need-same-length
 same-length c = search needs

@@ -3,8 +3,8 @@ use borrow.Author.Needs.{needs}
 use Rattle.naming.proofs.pass.Statement.{statement}
 use Rattle.naming.proofs.pass.Tie as tie
 
-name-count-requires : tie.Need-name-count-requires
-name-count-requires c κs = search needs
+leaf-count-requires : tie.Need-leaf-count-requires
+leaf-count-requires c κs = search needs
 
 after-words-requires : tie.Need-after-words-requires
 after-words-requires c κs = search needs
@@ -19,4 +19,4 @@ returns : tie.Need-returns
 returns c = search passed-is
 
 pub pass-spec : {M : Type 1} → statement M
-pass-spec = tie.close (tie.spec name-count-requires after-words-requires add-t7 add-t8 returns)
+pass-spec = tie.close (tie.spec leaf-count-requires after-words-requires add-t7 add-t8 returns)

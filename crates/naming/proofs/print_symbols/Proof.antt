@@ -9,11 +9,11 @@ use Rattle.naming.proofs.print_symbols.Statement.{statement}
 use Rattle.naming.proofs.print_symbols.Tie as tie
 
 abbrev Inv-loop : tie.InvT-loop
-Inv-loop out₀ at witnesses pairs work leaves origins numbers first count p₀ done₀ w₀ out p done w =
+Inv-loop out₀ at witnesses pairs counts work leaves origins numbers first count p₀ done₀ w₀ out p done w =
     Walking leaves witnesses pairs work origins numbers first out₀ at out p done w × (count ≡ length pairs / 2)
 
 abbrev μ-loop : tie.MeasureT-loop
-μ-loop out₀ at witnesses pairs work leaves origins numbers first count p₀ done₀ w₀ out p done w = count - w
+μ-loop out₀ at witnesses pairs counts work leaves origins numbers first count p₀ done₀ w₀ out p done w = count - w
 
 loop-holds : tie.Need-loop-holds Inv-loop μ-loop
 loop-holds c = (walking-none _ _ _ _ _ _ _ _ _ (search needs) (omega arith) (omega arith), search needs)
@@ -21,8 +21,8 @@ loop-holds c = (walking-none _ _ _ _ _ _ _ _ _ (search needs) (omega arith) (ome
 text-at-requires : tie.Need-text-at-requires Inv-loop μ-loop
 text-at-requires c κs = search needs
 
-counts-of-requires : tie.Need-counts-of-requires Inv-loop μ-loop
-counts-of-requires c κs = search needs
+counts-at-requires : tie.Need-counts-at-requires Inv-loop μ-loop
+counts-at-requires c κs = search needs
 
 print-witness-requires : tie.Need-print-witness-requires Inv-loop μ-loop
 print-witness-requires c κs = search walking-can
@@ -38,13 +38,14 @@ loop-less c = search needs
 
 loop-again : tie.Need-loop-again Inv-loop μ-loop
 loop-again c =
+    let start = c .before .before .before .before .before .before .before .before .before .before .before .before .before .before in
     let loop = c .before .before .before .before .before .before .before .before .loop in
     let less = c .before .before .before .before .before .before .before .loop-test in
     let text = c .before .before .before .before .before .before .text-at in
-    let counts = c .before .before .before .before .before .counts-of in
+    let counts = c .before .before .before .before .before .counts-at in
     let lines = c .before .before .before .print-witness in
     let places = c .pass in
-    (walking-more _ _ _ _ _ _ _ _ _ _ _ _ _ _ (loop .inv .0) (loop .inv .1) (omega (arith, less)) _ (text .ensures) _ (counts .ensures) _ _ (omega (arith, lines .kept .0)) (lines .ensures) _ (places .ensures), search needs)
+    (walking-more _ _ _ _ _ _ _ _ _ _ _ _ _ _ (loop .inv .0) (loop .inv .1) (omega (arith, less)) _ (text .ensures) _ (start .pre .1) _ (counts .ensures) _ _ (omega (arith, lines .kept .0)) (lines .ensures) _ (places .ensures), search needs)
 
 same-length : tie.Need-same-length Inv-loop μ-loop
 same-length c = search needs
@@ -60,7 +61,7 @@ print-symbols-spec =
     μ-loop
     loop-holds
     text-at-requires
-    counts-of-requires
+    counts-at-requires
     print-witness-requires
     pass-requires
     add-w

@@ -3,11 +3,11 @@ use borrow.Author.Needs.{needs}
 use Rattle.naming.proofs.print_witness.Statement.{statement}
 use Rattle.naming.proofs.print_witness.Tie as tie
 
-name-count-requires : tie.Need-name-count-requires
-name-count-requires c κs = search needs
+leaf-count-requires : tie.Need-leaf-count-requires
+leaf-count-requires c κs = search needs
 
-name-start-requires : tie.Need-name-start-requires
-name-start-requires c κs = search needs
+names-before-requires : tie.Need-names-before-requires
+names-before-requires c κs = search needs
 
 add-t14 : tie.Need-add-t14
 add-t14 c = search needs
@@ -25,8 +25,8 @@ pub print-witness-spec : {M : Type 1} → statement M
 print-witness-spec =
     tie.close
     (tie.spec
-    name-count-requires
-    name-start-requires
+    leaf-count-requires
+    names-before-requires
     add-t14
     print-names-requires
     same-length

@@ -7,10 +7,10 @@ use Prim.Native.Nat.{_-_, _/_}
 use mathlib.Core.Path.{_≡_}
 
 abbrev Inv-loop : tie.InvT-loop
-Inv-loop witnesses pairs work₀ leaves p to count from₀ at₀ w₀ work from at w = Mapping p leaves witnesses pairs work₀ work to from at w × (count ≡ length pairs / 2) × (length work ≡ length work₀)
+Inv-loop witnesses pairs counts work₀ leaves p to count from₀ at₀ w₀ work from at w = Mapping p leaves witnesses pairs work₀ work to from at w × (count ≡ length pairs / 2) × (length work ≡ length work₀)
 
 abbrev μ-loop : tie.MeasureT-loop
-μ-loop witnesses pairs work₀ leaves p to count from₀ at₀ w₀ work from at w = count - w
+μ-loop witnesses pairs counts work₀ leaves p to count from₀ at₀ w₀ work from at w = count - w
 
 loop-holds : tie.Need-loop-holds Inv-loop μ-loop
 loop-holds c = search (needs, mapping-none)
@@ -18,8 +18,8 @@ loop-holds c = search (needs, mapping-none)
 text-at-requires : tie.Need-text-at-requires Inv-loop μ-loop
 text-at-requires c κs = search needs
 
-counts-of-requires : tie.Need-counts-of-requires Inv-loop μ-loop
-counts-of-requires c κs = search needs
+counts-at-requires : tie.Need-counts-at-requires Inv-loop μ-loop
+counts-at-requires c κs = search needs
 
 after-words-requires : tie.Need-after-words-requires Inv-loop μ-loop
 after-words-requires c κs = search mapping-behind
@@ -62,7 +62,7 @@ gather-origins-spec =
     μ-loop
     loop-holds
     text-at-requires
-    counts-of-requires
+    counts-at-requires
     after-words-requires
     witness-origins-requires
     enum-known-end

@@ -1,25 +1,17 @@
+use native.Mathlib.Omega.{arith}
+use Rattle.gathering.proofs.CountLaws.{leaves-within}
 use borrow.Author.Needs.{needs}
 use Rattle.origins.proofs.names_at.Statement.{statement}
 use Rattle.origins.proofs.names_at.Tie as tie
-use Rattle.origins.proofs.WitnessLaws.{at-inputs, at-latches}
 
-enum-told : tie.Need-enum-told
-enum-told c = search needs
-
-enum-told-2 : tie.Need-enum-told-2
-enum-told-2 c = search needs
-
-mul-result : tie.Need-mul-result
-mul-result c = search needs
+names-before-requires : tie.Need-names-before-requires
+names-before-requires c κs = search needs
 
 add-result : tie.Need-add-result
-add-result c = search needs
+add-result c = omega (arith, c .names-before .ensures, leaves-within (c .before .args .leaves) (c .before .args .n))
 
 returns : tie.Need-returns
-returns c = search at-inputs
-
-returns-2 : tie.Need-returns-2
-returns-2 c = search at-latches
+returns c = search needs
 
 pub names-at-spec : {M : Type 1} → statement M
-names-at-spec = tie.close (tie.spec enum-told enum-told-2 mul-result add-result returns returns-2)
+names-at-spec = tie.close (tie.spec names-before-requires add-result returns)

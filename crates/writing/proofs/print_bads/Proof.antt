@@ -16,19 +16,19 @@ part-print-set-start : tie.Need-part-print-set-start
 part-print-set-start c = search needs
 
 part-print-set-end : tie.Need-part-print-set-end
-part-print-set-end c = omega (arith, bads-end _ _ _ _ _ _ (c .before .before .before .before .before .pre))
+part-print-set-end c = omega (arith, bads-end _ _ _ _ _ _ (c .before .before .before .before .before .before .pre .0))
 
 print-set-requires : tie.Need-print-set-requires
 print-set-requires c κs = search bads-small
 
 print-constraints-requires : tie.Need-print-constraints-requires
-print-constraints-requires c κs = search needs
+print-constraints-requires c κs = (search needs, search needs)
 
 same-length : tie.Need-same-length
 same-length c = search needs
 
 returns : tie.Need-returns
-returns c = let small : Word (length (c .before .before .before .before .before .before .before .before .before .before .before .before .before .args .out .now)) = omega arith in search bads-printed
+returns c = let small : Word (length (c .before .before .before .before .before .before .before .before .before .before .before .before .before .before .args .out .now)) = omega arith in search bads-printed
 
 pub print-bads-spec : {M : Type 1} → statement M
 print-bads-spec =

@@ -22,13 +22,13 @@ print-set-requires : tie.Need-print-set-requires
 print-set-requires c κs = search limits-small
 
 print-gates-requires : tie.Need-print-gates-requires
-print-gates-requires c κs = search needs
+print-gates-requires c κs = (search needs, search needs)
 
 same-length : tie.Need-same-length
 same-length c = search needs
 
 returns : tie.Need-returns
-returns c = let small : Word (length (c .before .before .before .before .before .before .before .before .before .before .before .before .before .args .out .now)) = omega arith in search constraints-printed
+returns c = let small : Word (length (c .before .before .before .before .before .before .before .before .before .before .before .before .before .before .args .out .now)) = omega arith in search constraints-printed
 
 pub print-constraints-spec : {M : Type 1} → statement M
 print-constraints-spec =

@@ -10,16 +10,16 @@ add-print-symbols : tie.Need-add-print-symbols
 add-print-symbols c = search needs
 
 print-symbols-requires : tie.Need-print-symbols-requires
-print-symbols-requires c κs = search input-symbols
+print-symbols-requires c κs = (search input-symbols, search needs)
 
 print-latch-names-requires : tie.Need-print-latch-names-requires
-print-latch-names-requires c κs = search needs
+print-latch-names-requires c κs = (search needs, search needs)
 
 same-length : tie.Need-same-length
 same-length c = search needs
 
 returns : tie.Need-returns
-returns c = let small : Word (length (c .before .before .before .before .before .before .before .before .before .before .before .before .before .args .out .now)) = omega arith in search input-names-printed
+returns c = let small : Word (length (c .before .before .before .before .before .before .before .before .before .before .before .before .before .before .args .out .now)) = omega arith in search input-names-printed
 
 pub print-input-names-spec : {M : Type 1} → statement M
 print-input-names-spec =

@@ -10,13 +10,13 @@ print-consecutive-requires : tie.Need-print-consecutive-requires
 print-consecutive-requires c κs = search inputs-small
 
 print-latches-requires : tie.Need-print-latches-requires
-print-latches-requires c κs = search needs
+print-latches-requires c κs = (search needs, search needs)
 
 same-length : tie.Need-same-length
 same-length c = search needs
 
 returns : tie.Need-returns
-returns c = let small : Word (length (c .before .before .before .before .before .before .before .before .before .before .before .before .args .out .now)) = omega arith in search inputs-printed
+returns c = let small : Word (length (c .before .before .before .before .before .before .before .before .before .before .before .before .before .args .out .now)) = omega arith in search inputs-printed
 
 pub print-inputs-spec : {M : Type 1} → statement M
 print-inputs-spec =

@@ -16,7 +16,7 @@ add-first : tie.Need-add-first
 add-first c = search needs
 
 print-symbols-requires : tie.Need-print-symbols-requires
-print-symbols-requires c κs = search latch-symbols
+print-symbols-requires c κs = (search latch-symbols, search needs)
 
 print-closing-requires : tie.Need-print-closing-requires
 print-closing-requires c κs = search needs
@@ -25,7 +25,7 @@ same-length : tie.Need-same-length
 same-length c = search needs
 
 returns : tie.Need-returns
-returns c = let small : Word (length (c .before .before .before .before .before .before .before .before .before .before .before .before .before .before .before .args .out .now)) = omega arith in search latch-names-printed
+returns c = let small : Word (length (c .before .before .before .before .before .before .before .before .before .before .before .before .before .before .before .before .args .out .now)) = omega arith in search latch-names-printed
 
 pub print-latch-names-spec : {M : Type 1} → statement M
 print-latch-names-spec =

@@ -25,19 +25,19 @@ part-print-pairs-start : tie.Need-part-print-pairs-start
 part-print-pairs-start c = search needs
 
 part-print-pairs-end : tie.Need-part-print-pairs-end
-part-print-pairs-end c = omega (arith, definitions-end _ _ _ _ _ _ (c .before .before .before .before .before .before .before .pre))
+part-print-pairs-end c = omega (arith, definitions-end _ _ _ _ _ _ (c .before .before .before .before .before .before .before .before .pre .0))
 
 print-pairs-requires : tie.Need-print-pairs-requires
 print-pairs-requires c κs = search latches-small
 
 print-bads-requires : tie.Need-print-bads-requires
-print-bads-requires c κs = search needs
+print-bads-requires c κs = (search needs, search needs)
 
 same-length : tie.Need-same-length
 same-length c = search needs
 
 returns : tie.Need-returns
-returns c = let small : Word (length (c .before .before .before .before .before .before .before .before .before .before .before .before .before .before .before .args .out .now)) = omega arith in search latches-printed
+returns c = let small : Word (length (c .before .before .before .before .before .before .before .before .before .before .before .before .before .before .before .before .args .out .now)) = omega arith in search latches-printed
 
 pub print-latches-spec : {M : Type 1} → statement M
 print-latches-spec =
