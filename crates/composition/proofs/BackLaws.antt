@@ -22,7 +22,8 @@ use Rattle.text.specs.Literals.{numbersOf}
 use Rattle.text.specs.Texts.{free, goodText}
 use Rattle.decimal.specs.Decimal.{decimal}
 use Rattle.decimal.specs.Printed.{textOf}
-use Rattle.decimal.proofs.BackLaws.{IsField, fields-back, decimal-field, number-line-back, lines-back, text-all, text-ends}
+use Rattle.text.proofs.FieldLaws.{IsField}
+use Rattle.decimal.proofs.BackLaws.{fields-back, decimal-field, number-line-back, lines-back, text-all, text-ends}
 use Rattle.witness_text.specs.declared.AagCounts.{AagCounts}
 use Rattle.witness_text.specs.declared.Kind.{Kind}
 use Rattle.witness_text.specs.declared.Kind.the-variants.{Input, Latch}

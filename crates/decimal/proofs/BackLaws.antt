@@ -1,60 +1,26 @@
 -- Printed fields, numbers and lines read back: items 1 and 2 of 01 find what was printed.
 use Prim.Native.Nat.{ℕ, _^_, _<_}
 use mathlib.Core.Path.{_≡_, refl, ap, _∙_}
-use mathlib.Core.Bool.{Bool, true, false}
+use mathlib.Core.Bool.{Bool, true}
 use mathlib.Core.List.{List, [], _∷_, _++_, map}
 use mathlib.Core.Option.{some}
-use borrow.Author.Tests.{not-true}
-use lib.Dec.{eqb}
 use Rattle.lists.specs.Parts.{Bytes}
 use Rattle.lists.specs.Tests.{all, Each}
-use Rattle.lists.proofs.BoolLaws.{and-left, and-right}
 use Rattle.lists.proofs.TestLaws.{all-append, each-map}
 use Rattle.scan.specs.Spans.{inLine}
 use Rattle.scan.specs.Allowed.{endsIn10}
 use Rattle.text.specs.declared.Reader.{Reader}
-use Rattle.text.specs.Lines.{linesOf, consHead}
-use Rattle.text.specs.Fields.{isBlank, inField, fieldsOf}
+use Rattle.text.specs.Lines.{linesOf}
+use Rattle.text.specs.Fields.{fieldsOf}
 use Rattle.text.specs.Literals.{numbersOf}
+use Rattle.text.proofs.FieldLaws.{IsField, field-in-front, field-alone}
+use Rattle.text.proofs.LineLaws.{line-in-front}
 use Rattle.decimal.specs.Decimal.{decimal}
 use Rattle.decimal.specs.Printed.{spaced, numberLine, textOf}
 use Rattle.decimal.proofs.DecimalLaws.{decimal-not-empty}
 use Rattle.decimal.proofs.ReadLaws.{decimal-in-field, decimal-in-line, decimal-read}
 
 -- ---- fields
-
--- a field: at least one byte, no blank
-pub record IsField (f : Bytes) : Type 0 where
-  pub some-byte : f ≡ [] → ⊥
-  pub unblank : all inField f ≡ true
-
-module _ (b : ℕ) (bs : Bytes) (h : all inField (b ∷ bs) ≡ true) where
-  first-unblank : isBlank b ≡ false
-  first-unblank = not-true (isBlank b) (and-left (inField b) (all inField bs) h)
-
-  others-unblank : all inField bs ≡ true
-  others-unblank = and-right (inField b) (all inField bs) h
-
-field-then : (b : ℕ) (bs rest : Bytes) → all inField (b ∷ bs) ≡ true → fieldsOf ((b ∷ bs) ++ 32 ∷ rest) ≡ (b ∷ bs) ∷ fieldsOf rest
-field-then b [] rest h = rw (first-unblank b [] h)
-field-then b (c ∷ cs) rest h =
-    let o = others-unblank b (c ∷ cs) h in
-    rw (first-unblank b (c ∷ cs) h, first-unblank c cs o) (rw (first-unblank c cs o) at (ap (consHead b) (field-then c cs rest o)))
-
-field-last : (b : ℕ) (bs : Bytes) → all inField (b ∷ bs) ≡ true → fieldsOf (b ∷ bs) ≡ (b ∷ bs) ∷ []
-field-last b [] h = rw (first-unblank b [] h)
-field-last b (c ∷ cs) h =
-    let o = others-unblank b (c ∷ cs) h in
-    rw (first-unblank b (c ∷ cs) h, first-unblank c cs o) (rw (first-unblank c cs o) at (ap (consHead b) (field-last c cs o)))
-
--- a field in front of others
-pub field-in-front : (f rest : Bytes) → IsField f → fieldsOf (f ++ 32 ∷ rest) ≡ f ∷ fieldsOf rest
-field-in-front [] rest w = absurd (w .some-byte refl)
-field-in-front (b ∷ bs) rest w = field-then b bs rest (w .unblank)
-
-pub field-alone : (f : Bytes) → IsField f → fieldsOf f ≡ f ∷ []
-field-alone [] w = absurd (w .some-byte refl)
-field-alone (b ∷ bs) w = field-last b bs (w .unblank)
 
 pub fields-back : (fs : List Bytes) → Each IsField fs → fieldsOf (spaced fs) ≡ fs
 fields-back [] e = refl
@@ -80,15 +46,9 @@ number-line-back reader ns e = ap (numbersOf reader) (fields-back (map decimal n
 
 -- ---- lines
 
-line-then : (l rest : Bytes) → all inLine l ≡ true → linesOf (l ++ 10 ∷ rest) ≡ l ∷ linesOf rest
-line-then [] rest h = refl
-line-then (b ∷ bs) rest h =
-    let e : eqb b 10 ≡ false = not-true (eqb b 10) (and-left (inLine b) (all inLine bs) h) in
-    rw e (ap (consHead b) (line-then bs rest (and-right (inLine b) (all inLine bs) h)))
-
 pub lines-back : (ls : List Bytes) → Each (λ l. all inLine l ≡ true) ls → linesOf (textOf ls) ≡ ls
 lines-back [] e = refl
-lines-back (l ∷ ls) e = line-then l (textOf ls) (e .0) ∙ ap (λ (x : List Bytes). l ∷ x) (lines-back ls (e .1))
+lines-back (l ∷ ls) e = line-in-front l (textOf ls) (e .0) ∙ ap (λ (x : List Bytes). l ∷ x) (lines-back ls (e .1))
 
 -- a test that bytes 32 and 10 pass is passed by what is printed, where the fields and lines pass it
 module _ (p : ℕ → Bool) where

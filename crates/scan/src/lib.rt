@@ -20,7 +20,7 @@ fn larger(a: u8, b: u8) -> u8
 }
 
 // Where a block of at most n elements from a place on ends.
-fn block_end(size: usize, at: usize, n: usize) -> usize
+pub fn block_end(size: usize, at: usize, n: usize) -> usize
     ensures { λ r. ⌜ r ≡ min (at + n) size ⌝ }
 {
     if size <= at {

@@ -2,10 +2,10 @@
 use Prim.Native.Nat.{ℕ, _+_, _≤_, _<_}
 use mathlib.Core.Path.{_≡_, refl, ap, sym, _∙_}
 use mathlib.Core.Bool.{and-false, or-false, Bool, true, false}
-use mathlib.Core.List.{List, [], _∷_}
+use mathlib.Core.List.{List, [], _∷_, _++_}
 use native.Mathlib.Omega.{arith}
 use native.Mathlib.Nat.{add-sub-cancel-left, add-zero}
-use borrow.Author.Tests.{lt-ltb, le-ltb, le-leb, lt-leb, ne-eqb, ltb-true, ltb-false}
+use borrow.Author.Tests.{lt-ltb, le-ltb, le-leb, lt-leb, ne-eqb, ltb-true, ltb-false, not-true}
 use lib.ListN.{length, getD, take, drop, length-drop, drop-of-length-le}
 use lib.Seq.{drop-drop, getD-drop}
 use lib.Dec.{leb, ltb}
@@ -14,8 +14,9 @@ use Rattle.text.specs.declared.Field.{Field}
 use Rattle.text.specs.declared.Field.the-variants.{At, None}
 use Rattle.scan.specs.Spans.{span}
 use Rattle.text.specs.Lines.{consHead}
-use Rattle.lists.specs.Parts.{part}
+use Rattle.lists.specs.Parts.{Bytes, part}
 use Rattle.lists.specs.Tests.{all}
+use Rattle.lists.proofs.BoolLaws.{and-left, and-right}
 use Rattle.text.specs.Fields.{isBlank, inField, fieldFrom, fieldAt, fieldsOf, headOf, firstField}
 
 -- a byte's test: the blanks are 9 to 13 and 32
@@ -149,3 +150,37 @@ module _ (l : List ℕ) (at : ℕ) (r : Field) (q : r ≡ fieldAt l at) where
 
   pub first-none : at ≡ 0 → r ≡ None → [] ≡ firstField l
   first-none z k = sym (ap headOf (rw z at (fields-none k)))
+
+-- ---- a field in front of others, as lists
+
+-- a field: at least one byte, no blank
+pub record IsField (f : Bytes) : Type 0 where
+  pub some-byte : f ≡ [] → ⊥
+  pub unblank : all inField f ≡ true
+
+module _ (b : ℕ) (bs : Bytes) (h : all inField (b ∷ bs) ≡ true) where
+  first-unblank : isBlank b ≡ false
+  first-unblank = not-true (isBlank b) (and-left (inField b) (all inField bs) h)
+
+  others-unblank : all inField bs ≡ true
+  others-unblank = and-right (inField b) (all inField bs) h
+
+field-then : (b : ℕ) (bs rest : Bytes) → all inField (b ∷ bs) ≡ true → fieldsOf ((b ∷ bs) ++ 32 ∷ rest) ≡ (b ∷ bs) ∷ fieldsOf rest
+field-then b [] rest h = rw (first-unblank b [] h)
+field-then b (c ∷ cs) rest h =
+    let o = others-unblank b (c ∷ cs) h in
+    rw (first-unblank b (c ∷ cs) h, first-unblank c cs o) (rw (first-unblank c cs o) at (ap (consHead b) (field-then c cs rest o)))
+
+field-last : (b : ℕ) (bs : Bytes) → all inField (b ∷ bs) ≡ true → fieldsOf (b ∷ bs) ≡ (b ∷ bs) ∷ []
+field-last b [] h = rw (first-unblank b [] h)
+field-last b (c ∷ cs) h =
+    let o = others-unblank b (c ∷ cs) h in
+    rw (first-unblank b (c ∷ cs) h, first-unblank c cs o) (rw (first-unblank c cs o) at (ap (consHead b) (field-last c cs o)))
+
+pub field-in-front : (f rest : Bytes) → IsField f → fieldsOf (f ++ 32 ∷ rest) ≡ f ∷ fieldsOf rest
+field-in-front [] rest w = absurd (w .some-byte refl)
+field-in-front (b ∷ bs) rest w = field-then b bs rest (w .unblank)
+
+pub field-alone : (f : Bytes) → IsField f → fieldsOf f ≡ f ∷ []
+field-alone [] w = absurd (w .some-byte refl)
+field-alone (b ∷ bs) w = field-last b bs (w .unblank)

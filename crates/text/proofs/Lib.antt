@@ -4,5 +4,6 @@ pub mod LineLaws
 pub mod FieldLaws
 pub mod LiteralLaws
 pub mod PlainLaws
+pub mod PlainLineLaws
 pub mod TextLaws
 pub mod Examples

@@ -1,11 +1,11 @@
 -- Laws of `lineAt`: its cases for the code that finds lines, and what it says of `linesOf`.
 use Prim.Native.Nat.{ℕ, suc, _+_, _-_, _≤_, _<_}
-use mathlib.Core.Path.{_≡_, refl, ap}
-use mathlib.Core.List.{List, [], _∷_}
+use mathlib.Core.Path.{_≡_, refl, ap, _∙_}
+use mathlib.Core.List.{List, [], _∷_, _++_, append-nil}
 use mathlib.Core.Bool.{Bool, true, false, cond}
 use native.Mathlib.Omega.{arith}
 use native.Mathlib.Nat.{add-sub-cancel-left}
-use borrow.Author.Tests.{lt-ltb, le-ltb, ltb-true, ltb-false}
+use borrow.Author.Tests.{lt-ltb, le-ltb, ltb-true, ltb-false, not-true}
 use lib.ListN.{length, take, drop, length-drop, drop-of-length-le}
 use lib.Seq.{drop-drop}
 use lib.Dec.{eqb, ltb}
@@ -15,8 +15,9 @@ use Rattle.text.specs.declared.Line.{Line}
 use Rattle.text.specs.declared.Line.the-variants.{At, None}
 use Rattle.scan.specs.Spans.{span, inLine}
 use Rattle.text.specs.Lines.{consHead, linesOf, lineFrom, lineAt}
-use Rattle.lists.specs.Parts.{part}
+use Rattle.lists.specs.Parts.{Bytes, part}
 use Rattle.lists.specs.Tests.{all}
+use Rattle.lists.proofs.BoolLaws.{and-left, and-right}
 
 pub line-none : (s : List ℕ) (at : ℕ) → length s ≤ at → None ≡ lineAt s at
 line-none s at h = simp (le-ltb at (length s) h)
@@ -130,3 +131,16 @@ module _ (s : List ℕ) (at : ℕ) (r : Line) (q : r ≡ lineAt s at) where
     -- so less of the text is left, for a loop over lines
     pub line-less : length s - n .at < length s - at
     line-less = omega (arith, line-moves, line-next-within)
+
+-- ---- bytes of a line in front of others, as lists
+
+-- the first line of t is l, and the bytes in front of t belong to it
+pub line-front : (f t : Bytes) → all inLine f ≡ true → (l : Bytes) (ls : List Bytes) → linesOf t ≡ l ∷ ls → linesOf (f ++ t) ≡ (f ++ l) ∷ ls
+line-front [] t h l ls k = k
+line-front (b ∷ bs) t h l ls k =
+    let e : eqb b 10 ≡ false = not-true (eqb b 10) (and-left (inLine b) (all inLine bs) h) in
+    rw e (ap (consHead b) (line-front bs t (and-right (inLine b) (all inLine bs) h) l ls k))
+
+-- a line in front of others
+pub line-in-front : (l rest : Bytes) → all inLine l ≡ true → linesOf (l ++ 10 ∷ rest) ≡ l ∷ linesOf rest
+line-in-front l rest h = line-front l (10 ∷ rest) h [] (linesOf rest) refl ∙ rw (append-nil l)

@@ -1,13 +1,15 @@
 // Lines and fields of a text of bytes: item 2 of 01, and the checks of reason 3. The numbers of item 1 are in `numbers`.
 ghost use mathlib.Core.Path.{_≡_};
-ghost use mathlib.Core.Bool.{true};
+ghost use mathlib.Core.Bool.{true, false};
 ghost use Prim.Native.Nat.{_+_, _<_};
 ghost use lib.ListN.{length, drop};
+ghost use Rattle.lists.specs.Parts.{part};
 ghost use Rattle.scan.specs.Spans.{span};
 ghost use Rattle.text.specs.Lines.{lineAt};
 ghost use Rattle.text.specs.Fields.{isBlank, inField, fieldFrom, fieldAt, firstField, isHeaderWord, hasHeaderWord};
+ghost use Rattle.text.specs.Numbers.{longZero};
 ghost use Rattle.text.specs.Literals.{takenField, takenAt, literalAt};
-ghost use Rattle.text.specs.Inner.{IsRun};
+ghost use Rattle.text.specs.Inner.{IsRun, ReadsPlain};
 ghost use Rattle.text.specs.Texts.{limited, goodBytes, goodEnd, goodText};
 
 pub mod numbers;
@@ -46,6 +48,12 @@ pub enum Taken {
     Got { value: u64, next: usize },
     Unreadable,
     Missing,
+}
+
+// A number of plain digits, and the place after the byte behind them; or something else, which the longer way reads.
+pub enum Plain {
+    Got { value: u64, next: usize },
+    Other,
 }
 
 // Where digits of a line end, and the number that they write.
@@ -186,13 +194,14 @@ fn any_number(reader: Reader, l: &[u8], start: usize) -> Taken
     }
 }
 
-// The digits from a place on, as long as their number leaves room for one more, and that number.
+// The digits from a place on and the number that they write: at most 18 of them, so that no digit needs a test for room.
 fn digits_run(l: &[u8], at: usize) -> Run
     ensures { λ r. ⌜ IsRun (now (l .entry)) at (r .end) (r .value) ⌝ }
 {
+    let last = scan::block_end(l.len(), at, 18);
     let mut v: u64 = 0;
     let mut i = at;
-    while i < l.len() {
+    while i < last {
         let b = l[i];
         if b < 48 {
             return Run { end: i, value: v };
@@ -200,13 +209,49 @@ fn digits_run(l: &[u8], at: usize) -> Run
         if 57 < b {
             return Run { end: i, value: v };
         }
-        if 1000000000000000000 < v {
-            return Run { end: i, value: v };
-        }
         v = v * 10 + (numbers::wide(b) - 48);
         i += 1;
     }
     Run { end: i, value: v }
+}
+
+// Whether the bytes between two places begin with '0' and are more than one. Zeros in front may be many, and the readers differ on
+// them, so they are left to the longer way.
+fn long_zero(l: &[u8], at: usize, end: usize) -> bool
+    ensures { λ r. ⌜ (r ≡ false → longZero (part (now (l .entry)) at end) ≡ false) ⌝ }
+{
+    if l.len() <= at {
+        return false;
+    }
+    if l[at] == 48 {
+        return at + 1 < end;
+    }
+    false
+}
+
+// The number that plain digits from a place on write, where the byte `stop` follows them: one pass over the bytes, for texts in the
+// form in which circuits are printed.
+pub fn plain_number(s: &[u8], at: usize, stop: u8) -> Plain
+    ensures { λ r. ⌜ ReadsPlain (now (s .entry)) at stop r ⌝ }
+{
+    let run = digits_run(s, at);
+    let end = run.end;
+    if s.len() <= end {
+        return Plain::Other;
+    }
+    if end <= at {
+        return Plain::Other;
+    }
+    if long_zero(s, at, end) {
+        return Plain::Other;
+    }
+    if s[end] == stop {
+        return Plain::Got {
+            value: run.value,
+            next: end + 1,
+        };
+    }
+    Plain::Other
 }
 
 // Whether no field goes on at a place of a line.
@@ -220,7 +265,7 @@ fn ends_field(l: &[u8], at: usize) -> bool
 }
 
 // The number of the next field at or after a position of a line. Most fields are short and plain digits, which are read while
-// their end is looked for. Zeros in front may be many, and the readers differ on them, so they are left to the longer way.
+// their end is looked for.
 pub fn next_number(reader: Reader, l: &[u8], at: usize) -> Taken
     ensures { λ r. ⌜ r ≡ takenAt reader (now (l .entry)) at ⌝ }
 {
@@ -228,10 +273,10 @@ pub fn next_number(reader: Reader, l: &[u8], at: usize) -> Taken
     if l.len() <= start {
         return Taken::Missing;
     }
-    if l[start] == 48 {
+    let run = digits_run(l, start);
+    if long_zero(l, start, run.end) {
         return any_number(reader, l, start);
     }
-    let run = digits_run(l, start);
     if ends_field(l, run.end) {
         return Taken::Got {
             value: run.value,
@@ -241,8 +286,8 @@ pub fn next_number(reader: Reader, l: &[u8], at: usize) -> Taken
     any_number(reader, l, start)
 }
 
-// The number of the line at a cursor, which has nothing else; the line is passed also when it is refused.
-pub fn take_literal(reader: Reader, s: &[u8], c: Cursor) -> Literal
+// The number of the line at a cursor, which has nothing else, in whatever form; the line is passed also when it is refused.
+fn any_literal(reader: Reader, s: &[u8], c: Cursor) -> Literal
     ensures { λ r. ⌜ r ≡ literalAt reader (now (s .entry)) c ⌝ }
 {
     let Line::At { start, end, next } = next_line(s, c) else {
@@ -262,6 +307,19 @@ pub fn take_literal(reader: Reader, s: &[u8], c: Cursor) -> Literal
         }
         Taken::Unreadable => Literal::Refused { next: next },
         Taken::Missing => Literal::Refused { next: next },
+    }
+}
+
+// The number of the line at a cursor: nearly always plain digits alone.
+pub fn take_literal(reader: Reader, s: &[u8], c: Cursor) -> Literal
+    ensures { λ r. ⌜ r ≡ literalAt reader (now (s .entry)) c ⌝ }
+{
+    let Plain::Got { value, next } = plain_number(s, c.at, 10) else {
+        return any_literal(reader, s, c);
+    };
+    Literal::Got {
+        value: value,
+        next: Cursor { at: next },
     }
 }
 

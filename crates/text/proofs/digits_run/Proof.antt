@@ -1,34 +1,32 @@
 use Prim.Native.Nat.{_-_}
-use lib.ListN.{length}
 use borrow.Author.Needs.{needs}
-use Rattle.text.proofs.PlainLaws.{run-none, run-more}
-use Rattle.text.specs.Inner.{IsRun}
+use Rattle.text.proofs.PlainLaws.{Running, running-none, running-run, running-inside, running-mul, running-add, running-more}
 use Rattle.text.proofs.digits_run.Statement.{statement}
 use Rattle.text.proofs.digits_run.Tie as tie
 
 abbrev Inv-loop : tie.InvT-loop
-Inv-loop l at v₀ i₀ v i = IsRun l at i v
+Inv-loop l at last v₀ i₀ v i = Running l at last i v
 
 abbrev μ-loop : tie.MeasureT-loop
-μ-loop l at v₀ i₀ v i = length l - i
+μ-loop l at last v₀ i₀ v i = last - i
+
+block-end-requires : tie.Need-block-end-requires Inv-loop μ-loop
+block-end-requires c κs = search needs
 
 loop-holds : tie.Need-loop-holds Inv-loop μ-loop
-loop-holds c = search run-none
+loop-holds c = search running-none
 
 shared-slice-read-b : tie.Need-shared-slice-read-b Inv-loop μ-loop
-shared-slice-read-b c = search needs
+shared-slice-read-b c = search running-inside
 
 returns : tie.Need-returns Inv-loop μ-loop
-returns c = search needs
+returns c = search running-run
 
 returns-2 : tie.Need-returns-2 Inv-loop μ-loop
-returns-2 c = search needs
-
-returns-3 : tie.Need-returns-3 Inv-loop μ-loop
-returns-3 c = search needs
+returns-2 c = search running-run
 
 mul-v : tie.Need-mul-v Inv-loop μ-loop
-mul-v c = search needs
+mul-v c = search running-mul
 
 wide-requires : tie.Need-wide-requires Inv-loop μ-loop
 wide-requires c κs = search needs
@@ -37,19 +35,19 @@ sub-v : tie.Need-sub-v Inv-loop μ-loop
 sub-v c = search needs
 
 add-v : tie.Need-add-v Inv-loop μ-loop
-add-v c = search needs
+add-v c = search running-add
 
 add-i : tie.Need-add-i Inv-loop μ-loop
-add-i c = search needs
+add-i c = search (needs, running-inside)
 
 loop-less : tie.Need-loop-less Inv-loop μ-loop
 loop-less c = search needs
 
 loop-again : tie.Need-loop-again Inv-loop μ-loop
-loop-again c = search run-more
+loop-again c = search running-more
 
-returns-4 : tie.Need-returns-4 Inv-loop μ-loop
-returns-4 c = search needs
+returns-3 : tie.Need-returns-3 Inv-loop μ-loop
+returns-3 c = search running-run
 
 pub digits-run-spec : {M : Type 1} → statement M
 digits-run-spec =
@@ -57,11 +55,11 @@ digits-run-spec =
     (tie.spec
     Inv-loop
     μ-loop
+    block-end-requires
     loop-holds
     shared-slice-read-b
     returns
     returns-2
-    returns-3
     mul-v
     wide-requires
     sub-v
@@ -69,4 +67,4 @@ digits-run-spec =
     add-i
     loop-less
     loop-again
-    returns-4)
+    returns-3)

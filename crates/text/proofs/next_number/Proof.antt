@@ -10,17 +10,17 @@ blanks-end-requires c κs = search needs
 returns : tie.Need-returns
 returns c = search taken-missing
 
-shared-slice-read-if2 : tie.Need-shared-slice-read-if2
-shared-slice-read-if2 c = search needs
+digits-run-requires : tie.Need-digits-run-requires
+digits-run-requires c κs = search needs
+
+long-zero-requires : tie.Need-long-zero-requires
+long-zero-requires c κs = search needs
 
 any-number-requires : tie.Need-any-number-requires
 any-number-requires c κs = search needs
 
 returns-2 : tie.Need-returns-2
 returns-2 c = search taken-from
-
-digits-run-requires : tie.Need-digits-run-requires
-digits-run-requires c κs = search needs
 
 ends-field-requires : tie.Need-ends-field-requires
 ends-field-requires c κs = search needs
@@ -40,10 +40,10 @@ next-number-spec =
     (tie.spec
     blanks-end-requires
     returns
-    shared-slice-read-if2
+    digits-run-requires
+    long-zero-requires
     any-number-requires
     returns-2
-    digits-run-requires
     ends-field-requires
     returns-3
     any-number-requires-2
