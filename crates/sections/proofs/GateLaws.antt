@@ -9,15 +9,22 @@ use Rattle.lists.specs.Answer.{got, refused}
 use Rattle.lists.specs.Parts.{Bytes, part}
 use Rattle.text.specs.declared.Cursor.{Cursor}
 use Rattle.text.specs.declared.Line.{Line}
+use Rattle.text.specs.declared.Plain.{Plain}
+use Rattle.text.specs.declared.Plain.the-variants as plain
 use Rattle.text.specs.declared.Reader.{Reader}
 use Rattle.text.specs.Lines.{lineAt}
+use Rattle.text.specs.Inner.{ReadsPlain}
 use Rattle.text.proofs.LiteralLaws.{numbersFrom}
+use Rattle.text.proofs.PlainLineLaws.{PlainLine, plain-last, plain-more}
 use Rattle.aiger.specs.declared.Gate.{Gate}
 use Rattle.aiger.specs.Gates.{gateFrom}
+use Rattle.aiger.specs.Sections.{section}
 use Rattle.sections.specs.declared.Numbers.{Numbers}
 use Rattle.sections.specs.declared.ReadGate.{ReadGate}
+use Rattle.sections.specs.declared.PlainGate.{PlainGate}
+use Rattle.sections.specs.declared.PlainGate.the-variants as fast
 use Rattle.sections.specs.SectionLines.{gateNumbers, gateLine}
-use Rattle.sections.specs.Places.{TakesGate}
+use Rattle.sections.specs.Places.{TakesGate, TakesPlain}
 use Rattle.sections.specs.Inner.{atMost, Stored, Stores, gateAnswer}
 use Rattle.sections.proofs.NumbersLaws.{stored-all, stored-length}
 use Rattle.sections.proofs.PlaceLaws.{one-none, one-bad, one-got}
@@ -66,7 +73,7 @@ module _ (reader : Reader) (l : Bytes) (ns : List ℕ) (r : Numbers) (q : Stores
     pub gate-other : (n ≡ 3 → ⊥) → gateAnswer read.Bad ≡ gateLine reader l
     gate-other h = not-three (stored .numbers) (λ e. h (stored .count ∙ e)) ∙ ap gateNumbers (sym (stored .are))
 
--- ---- take_gate
+-- ---- any_gate
 
 module _ (reader : Reader) (s : Bytes) (c : Cursor) (r : Line) (q : r ≡ lineAt s (c .at)) where
   pub gate-missing : r ≡ line.None → TakesGate reader s c taken.Bad
@@ -78,3 +85,20 @@ module _ (reader : Reader) (s : Bytes) (c : Cursor) (r : Line) (q : r ≡ lineAt
 
     pub gate-got : (g : Gate) → x ≡ read.Got g → TakesGate reader s c (taken.Got g n)
     gate-got g u = one-got (gateLine reader) s c r q a e n k g (sym p ∙ ap gateAnswer u)
+
+-- ---- plain_gate: its three numbers, and the places between them
+
+module _ (s : Bytes) (c : Cursor) (x : Plain) (q₁ : ReadsPlain s (c .at) 32 x) (o i : ℕ) (u₁ : x ≡ plain.Got o i)
+    (y : Plain) (q₂ : ReadsPlain s i 32 y) (a j : ℕ) (u₂ : y ≡ plain.Got a j)
+    (z : Plain) (q₃ : ReadsPlain s j 10 z) (b n : ℕ) (u₃ : z ≡ plain.Got b n) where
+  line-of : PlainLine s (c .at) (o ∷ a ∷ b ∷ []) n
+  line-of =
+      plain-more s (c .at) o i (rw u₁ at q₁) (a ∷ b ∷ []) n (plain-more s i a j (rw u₂ at q₂) (b ∷ []) n (plain-last s j b n (rw u₃ at q₃)))
+
+  pub plain-got : (reader : Reader) → TakesGate reader s c (taken.Got (gateFrom o a b) (record { at = n }))
+  plain-got reader = ap (section (gateLine reader) 1) (line-of .lines) ∙ rw (line-of .numbers reader)
+
+-- ---- take_gate
+
+pub gate-plain : (reader : Reader) (s : Bytes) (c : Cursor) (x : PlainGate) → TakesPlain s c x → (g : Gate) (n : Cursor) → x ≡ fast.Got g n → TakesGate reader s c (taken.Got g n)
+gate-plain reader s c x q g n u = let all : TakesPlain s c (fast.Got g n) = rw u at q in all reader

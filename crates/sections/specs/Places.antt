@@ -14,6 +14,8 @@ use Rattle.sections.specs.declared.Place.{Place}
 use Rattle.sections.specs.declared.Place.the-variants as place
 use Rattle.sections.specs.declared.TakenGate.{TakenGate}
 use Rattle.sections.specs.declared.TakenGate.the-variants as gate
+use Rattle.sections.specs.declared.PlainGate.{PlainGate}
+use Rattle.sections.specs.declared.PlainGate.the-variants as plain
 use Rattle.sections.specs.declared.Header.{Header}
 use Rattle.sections.specs.declared.Header.the-variants as header
 use Rattle.sections.specs.Inner.{atMost, Stored}
@@ -43,3 +45,8 @@ module _ {A : Type 0} where
 abbrev pub TakesGate : Reader → Bytes → Cursor → TakenGate → Type 0
 TakesGate reader s c (gate.Got g n) = Takes (gateLine reader) s c 1 (place.At n) (g ∷ [])
 TakesGate reader s c gate.Bad = Takes (gateLine reader) s c 1 place.Bad []
+
+-- one gate for both readers, where it was read the fast way; nothing is said where it was not
+abbrev pub TakesPlain : Bytes → Cursor → PlainGate → Type 0
+TakesPlain s c (plain.Got g n) = (reader : Reader) → TakesGate reader s c (gate.Got g n)
+TakesPlain s c plain.Other = Unit {0}

@@ -4,13 +4,14 @@ ghost use lib.ListN.{length, drop};
 ghost use Rattle.text.specs.Fields.{fieldsOf};
 ghost use Rattle.text.specs.Literals.{numbersOf};
 ghost use Rattle.sections.specs.SectionLines.{headerNumbers, literalLine, gateLine};
-ghost use Rattle.sections.specs.Places.{TakesHeader, Takes, TakesGate};
+ghost use Rattle.sections.specs.Places.{TakesHeader, Takes, TakesGate, TakesPlain};
 ghost use Rattle.sections.specs.Inner.{Stores, gateAnswer};
 use aiger::Gate;
 use text::Cursor;
 use text::Field;
 use text::Line;
 use text::Literal;
+use text::Plain;
 use text::Reader;
 use text::Taken;
 
@@ -41,6 +42,12 @@ pub enum Header {
 enum ReadGate {
     Got(Gate),
     Bad,
+}
+
+// A gate that was read the fast way and the place of the next line; or a line that the longer way reads.
+enum PlainGate {
+    Got { gate: Gate, next: Cursor },
+    Other,
 }
 
 // The fields of a line from a place on, as numbers in front of `out`: all of them, or they are refused.
@@ -113,8 +120,8 @@ fn gate_line(reader: Reader, l: &[u8]) -> ReadGate
     ReadGate::Bad
 }
 
-// The gate of the line at a cursor.
-pub fn take_gate(reader: Reader, s: &[u8], c: Cursor) -> TakenGate
+// The gate of the line at a cursor, in whatever form: the line's end first, and then its fields.
+fn any_gate(reader: Reader, s: &[u8], c: Cursor) -> TakenGate
     ensures { λ r. ⌜ TakesGate reader (now (s .entry)) c r ⌝ }
 {
     let Line::At { start, end, next } = text::next_line(s, c) else {
@@ -122,6 +129,50 @@ pub fn take_gate(reader: Reader, s: &[u8], c: Cursor) -> TakenGate
     };
     let ReadGate::Got(gate) = gate_line(reader, &s[start..end]) else {
         return TakenGate::Bad;
+    };
+    TakenGate::Got {
+        gate: gate,
+        next: next,
+    }
+}
+
+// The gate of a line of three plain numbers, each with one byte behind it: the form in which circuits are printed.
+fn plain_gate(s: &[u8], c: Cursor) -> PlainGate
+    ensures { λ r. ⌜ TakesPlain (now (s .entry)) c r ⌝ }
+{
+    let Plain::Got {
+        value: output,
+        next: second,
+    } = text::plain_number(s, c.at, 32)
+    else {
+        return PlainGate::Other;
+    };
+    let Plain::Got {
+        value: left,
+        next: third,
+    } = text::plain_number(s, second, 32)
+    else {
+        return PlainGate::Other;
+    };
+    let Plain::Got { value: right, next } = text::plain_number(s, third, 10) else {
+        return PlainGate::Other;
+    };
+    PlainGate::Got {
+        gate: Gate {
+            output: output,
+            left: left,
+            right: right,
+        },
+        next: Cursor { at: next },
+    }
+}
+
+// The gate of the line at a cursor: nearly always three plain numbers.
+pub fn take_gate(reader: Reader, s: &[u8], c: Cursor) -> TakenGate
+    ensures { λ r. ⌜ TakesGate reader (now (s .entry)) c r ⌝ }
+{
+    let PlainGate::Got { gate, next } = plain_gate(s, c) else {
+        return any_gate(reader, s, c);
     };
     TakenGate::Got {
         gate: gate,
