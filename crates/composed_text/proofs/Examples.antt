@@ -2,8 +2,8 @@
 use mathlib.Core.List.{[], _∷_}
 use mathlib.Core.Path.{_≡_, refl}
 use Rattle.decimal.specs.Decimal.{decimal}
+use Rattle.composition.specs.Sharing.{keyOf}
 use Rattle.composed_text.specs.Header.{headerOf}
-use Rattle.composed_text.specs.GateText.{keyOf}
 
 -- `aag 3 1 1 0 1 2 0 0 0`
 pub a-header :

@@ -7,22 +7,20 @@ use lib.ListN.{length, length-map}
 use Rattle.lists.specs.Parts.{Bytes}
 use Rattle.lists.specs.Words.{wordsOf}
 use Rattle.decimal.specs.Printed.{textOf}
+use Rattle.decimal.proofs.PrintedLaws.{text-append}
 use Rattle.printing.specs.Lines as lines
 use Rattle.witness.specs.Sections.{NamedLatch, Sections, latchNames}
 use Rattle.witness_words.specs.Loaded.{latchWords}
 use Rattle.composition.specs.Numbering.{Entry, inputFirsts, latchFirsts, leafCount}
-use Rattle.composition.specs.Sharing.{Operands, gatesFrom}
+use Rattle.composition.specs.Sharing.{gatesFrom}
 use Rattle.composition.specs.Composing.{Defined, safety, literalsOf, whole, allDefined, composedGates, composedLatches, composed}
 use Rattle.composition.specs.Printing.{inputLines, latchLines, gateLines, literalLines, symbolLines, closing, tailLines, printed}
+use Rattle.composition.proofs.KeepLaws.{composed-latches-length}
+use Rattle.composition.proofs.PrintableLaws.{gates-length}
 use Rattle.composed_text.specs.declared.Counts.{Counts}
 use Rattle.composed_text.specs.Header.{headerOf, countsOf}
 use Rattle.composed_text.specs.Text.{closingText, textWith, partsOf, latchesOf, composedCounts, entryNames, composedText}
 use Rattle.composed_text.proofs.HeaderLaws.{header-is}
-
--- lines one list after the other
-text-append : (ls ms : List Bytes) → textOf (ls ++ ms) ≡ textOf ls ++ textOf ms
-text-append [] ms = refl
-text-append (l ∷ ls) ms = ap (λ (x : Bytes). l ++ 10 ∷ x) (text-append ls ms) ∙ sym (append-assoc l (10 ∷ textOf ls) (textOf ms))
 
 -- what comes behind some lines
 then : (ls ms : List Bytes) (rest : Bytes) → textOf ms ≡ rest → textOf (ls ++ ms) ≡ textOf ls ++ rest
@@ -72,17 +70,7 @@ module _ (s : Sections) where
 
 -- ---- the composition
 
--- there are as many gates as operands
-gates-length : (n : ℕ) (gs : List Operands) → length (gatesFrom n gs) ≡ length gs
-gates-length n [] = refl
-gates-length n (g ∷ gs) = ap suc (gates-length (suc n) gs)
-
--- a latch for each entry, with its name
-latches-length : (x : ℕ) (es : List Entry) (ds : List Defined) → length (composedLatches x es ds) ≡ length es
-latches-length x [] ds = refl
-latches-length x (e ∷ es) ds = ap suc (latches-length (suc x) es ds)
-
--- and their names
+-- the latches have the names of the entries
 latches-names : (x : ℕ) (es : List Entry) (ds : List Defined) → map (λ (q : NamedLatch). q .name) (composedLatches x es ds) ≡ entryNames es
 latches-names x [] ds = refl
 latches-names x (e ∷ es) ds = ap (λ (l : List (Option Bytes)). some (e .name) ∷ l) (latches-names (suc x) es ds)
@@ -104,7 +92,7 @@ module _ (m : Sections) (ws : List Sections) where
   counts-are : countsOf (composed m ws) ≡ composedCounts m ws
   counts-are =
       ap₂ (λ (i : ℕ) (q : ℕ). countsWith i q (length (gatesFrom (suc (leafCount m ws)) (composedGates m ws)))) (length-map (inputFirsts m ws) (λ e. some (e .name)))
-      (latches-length (suc (length (inputFirsts m ws))) (latchFirsts m ws) (allDefined (whole m ws)))
+      (composed-latches-length (suc (length (inputFirsts m ws))) (latchFirsts m ws) (allDefined (whole m ws)))
       ∙ ap (countsWith (length (inputFirsts m ws)) (length (latchFirsts m ws))) (gates-length (suc (leafCount m ws)) (composedGates m ws))
 
   -- what is printed of the composition

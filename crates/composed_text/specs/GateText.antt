@@ -1,5 +1,5 @@
 -- For the contract of the function that prints gates: gates as keys of a table.
-use Prim.Native.Nat.{ℕ, _+_, _*_, _<_}
+use Prim.Native.Nat.{ℕ, _+_, _<_}
 use mathlib.Core.List.{List, map}
 use mathlib.Core.Path.{_≡_}
 use lib.ListN.{length}
@@ -8,12 +8,8 @@ use Rattle.lists.specs.Tests.{Each}
 use Rattle.decimal.specs.Printed.{textOf}
 use Rattle.printing.specs.Prints.{Prints}
 use Rattle.sharing.specs.Table.{Held}
-use Rattle.composition.specs.Sharing.{Operands, gatesFrom}
+use Rattle.composition.specs.Sharing.{Operands, keyOf, gatesFrom}
 use Rattle.composition.specs.Printing.{gateLines}
-
--- both operands as one number
-abbrev pub keyOf : Operands → ℕ
-keyOf g = g .left + 4294967296 * g .right
 
 -- the operand in the lower half of a key is small
 abbrev pub Narrow : Operands → Type 0

@@ -101,7 +101,7 @@ module _ (m : ℕ) where
 -- ---- sizes
 
 -- as many gates as operands
-gates-length : (n : ℕ) (gs : List Operands) → length (gatesFrom n gs) ≡ length gs
+pub gates-length : (n : ℕ) (gs : List Operands) → length (gatesFrom n gs) ≡ length gs
 gates-length n [] = refl
 gates-length n (g ∷ gs) = ap suc (gates-length (suc n) gs)
 

@@ -3,5 +3,6 @@ pub mod DecimalLaws
 pub mod FigureLaws
 pub mod ReadLaws
 pub mod WritingLaws
+pub mod PrintedLaws
 pub mod BackLaws
 pub mod Examples

@@ -1,8 +1,8 @@
 -- The set bits of a word, printed from the lowest on, and the words of a set, one after the other.
 use Prim.Native.Nat.{ℕ, zero, suc, _+_, _-_, _*_, _/_, _%_, _^_, _≤_, _<_}
-use mathlib.Core.Path.{_≡_, refl, sym, ap, _∙_}
+use mathlib.Core.Path.{_≡_, refl, ap, _∙_}
 use mathlib.Core.Bool.{true, false}
-use mathlib.Core.List.{List, [], _∷_, _++_, append-assoc, map-append}
+use mathlib.Core.List.{List, [], _∷_, _++_, map-append}
 use mathlib.Core.Logic.{⊎-elim}
 use native.Mathlib.Nat.{add-zero, div-one, div-div-eq-div-mul, pow-succ', mul-assoc, mul-zero}
 use native.Mathlib.Numerals.{add-one}
@@ -15,6 +15,7 @@ use Rattle.lists.specs.Parts.{Bytes}
 use Rattle.lists.specs.Sets.{holds}
 use Rattle.lists.proofs.BoolLaws.{below-or}
 use Rattle.decimal.specs.Printed.{numberLine, textOf}
+use Rattle.decimal.proofs.PrintedLaws.{text-append}
 use Rattle.printing.specs.Elements.{passing, elements, elementsIn}
 use Rattle.printing.specs.Lines.{literalLines}
 use Rattle.printing.specs.Prints.{Prints}
@@ -147,10 +148,6 @@ module _ (ws : List ℕ) (e : ℕ) (o₀ : Bytes) (at : ℕ) (all o : Bytes) (to
       printing-done o₀ at all o to (linesOf (passing (holds ws) k (w .left))) (w .printing) (ap linesOf none)
 
 -- ---- the loop over the words
-
-text-append : (ls ms : List Bytes) → textOf (ls ++ ms) ≡ textOf ls ++ textOf ms
-text-append [] ms = refl
-text-append (l ∷ ls) ms = rw (text-append ls ms) (sym (append-assoc l (10 ∷ textOf ls) (textOf ms)))
 
 lines-append : (ns ms : List ℕ) → linesOf (ns ++ ms) ≡ linesOf ns ++ linesOf ms
 lines-append ns ms = ap textOf (map-append (λ (n : ℕ). numberLine (n ∷ [])) ns ms) ∙ text-append (literalLines ns) (literalLines ms)
