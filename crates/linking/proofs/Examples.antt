@@ -1,10 +1,10 @@
 -- Worked examples of the definitions.
 use mathlib.Core.List.{[], _∷_}
 use mathlib.Core.Path.{_≡_, refl}
-use Rattle.composition.specs.Sharing.{unordered}
+use Rattle.composition.specs.Sharing.{unordered, keyOf}
 use Rattle.linking.specs.declared.SharedGates.the-variants as gates
 use Rattle.linking.specs.declared.DefinedLatches.the-variants as latches
-use Rattle.linking.specs.Linked.{keyOf, sharedIn, sharedAnswer}
+use Rattle.linking.specs.Linked.{sharedIn, sharedAnswer}
 use Rattle.linking.specs.Latches.{metIn, definedAt, definitionsFrom, definedAnswer}
 
 -- the operands 6 and 4 in either order: 4 + 6 * 2 ^ 32

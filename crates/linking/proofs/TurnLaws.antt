@@ -1,5 +1,5 @@
 -- The loop that shares gates: its invariant, and one turn.
-use Prim.Native.Nat.{ℕ, suc, _+_, _*_, _%_, _≤_, _<_, max}
+use Prim.Native.Nat.{ℕ, suc, _+_, _-_, _*_, _%_, _≤_, _<_, max}
 use mathlib.Core.Bool.{true, false}
 use mathlib.Core.List.{List, [], map}
 use mathlib.Core.Path.{_≡_, refl, sym, ap, subst, _∙_}
@@ -7,25 +7,26 @@ use native.Mathlib.Nat.{add-zero}
 use native.Mathlib.Omega.{arith}
 use lib.Dec.{eqb}
 use lib.ListN.{length, getD, take, drop, set, length-map, length-set}
-use lib.Seq.{getD-drop, getD-set-same}
+use lib.Seq.{take-take, getD-drop, getD-set-same}
 use Rattle.lists.specs.Firsts.{place, joined}
 use Rattle.lists.specs.Parts.{part}
 use Rattle.lists.specs.Tests.{Each}
 use Rattle.lists.specs.Words.{pairsOf}
 use Rattle.lists.proofs.BoolLaws.{true-false}
+use Rattle.lists.proofs.KeptLaws.{take-kept, at-kept, part-kept}
 use Rattle.lists.proofs.PartLaws.{part-length, part-at, part-next}
 use Rattle.lists.proofs.TestLaws.{each-append, each-at}
 use Rattle.lists.proofs.WordLaws.{pairs-more, pairs-end}
 use Rattle.aiger.specs.Gates.{variable, gateFrom}
 use Rattle.sharing.specs.Table.{Held}
 use Rattle.sharing.proofs.HeldLaws.{held-none, holding}
-use Rattle.composition.specs.Sharing.{translate, Operands, sameOperands, translated, Shared, shareGates}
+use Rattle.composition.specs.Sharing.{translate, Operands, sameOperands, keyOf, translated, Shared, shareGates}
 use Rattle.composition.specs.Composing.{gatesFit}
 use Rattle.linking.specs.declared.SharedGates.the-variants as answer
-use Rattle.linking.specs.Linked.{Translatable, keyOf, TwoLiterals, keyAt, tableEnd, tableIn, Findable, FindsIn, Sharable, sharedIn, sharedAnswer, Linked, Shares}
+use Rattle.linking.specs.Linked.{Translatable, TwoLiterals, keyAt, tableEnd, tableIn, Findable, FindsIn, Sharable, sharedIn, sharedAnswer, Linked, Shares}
 use Rattle.linking.proofs.FirstLaws.{joined-length}
 use Rattle.linking.proofs.KeyLaws.{Small, unordered-small, literal-small, place-keys, joined-keys, joined-small}
-use Rattle.linking.proofs.KeptLaws.{take-kept, at-kept, part-kept, set-take, set-drop}
+use Rattle.linking.proofs.KeptLaws.{set-take, set-drop}
 use Rattle.linking.proofs.ShareLaws.{withGate, gates-grow, fit-true, fit-false}
 
 -- i gates are shared, and `state` are the composed gates and variables so far
@@ -50,6 +51,13 @@ answer-none : (leaves : ℕ) (t : Shared) → gatesFit leaves (t .gates) ≡ fal
 answer-none leaves t f = rw f
 
 module _ (operands count vars known table leaves : ℕ) (work₀ : List ℕ) (pre : Sharable operands count vars known table leaves work₀) where
+  -- the heads of the table are 0
+  no-keys : Held (count + 1) [] (tableIn table count work₀)
+  no-keys =
+      let n : table + (count + 1) - table ≡ count + 1 = omega arith in
+      held-none (count + 1) (tableIn table count work₀) (omega (arith, part-length work₀ table (tableEnd table count) (pre .third)))
+      (take-take (count + 1) (tableEnd table count - table) (drop table work₀) (omega arith) ∙ rw n at (pre .empty))
+
   pub sharing-none : Sharing operands count vars known table leaves work₀ work₀ 0 0
   sharing-none =
       record {
@@ -62,7 +70,7 @@ module _ (operands count vars known table leaves : ℕ) (work₀ : List ℕ) (pr
         variables = rw (add-zero (vars + known));
         low = pre .small;
         small = tt;
-        held = rw (pre .empty) (held-none (count + 1) (4 * count + 1) (omega arith));
+        held = no-keys;
         before = refl;
         behind = refl;
       }
@@ -90,10 +98,10 @@ module _ (operands count vars known table leaves : ℕ) (work₀ : List ℕ) (pr
 
       -- the operands of the gate are as they were
       left-kept : getD work (operands + 2 * i) 0 ≡ l
-      left-kept = at-kept work work₀ (vars + known) (s .before) (operands + 2 * i) (omega (arith, pre .first))
+      left-kept = at-kept work work₀ (vars + known) (s .before) (operands + 2 * i) 0 (omega (arith, pre .first))
 
       right-kept : getD work (operands + 2 * i + 1) 0 ≡ r
-      right-kept = at-kept work work₀ (vars + known) (s .before) (operands + 2 * i + 1) (omega (arith, pre .first))
+      right-kept = at-kept work work₀ (vars + known) (s .before) (operands + 2 * i + 1) 0 (omega (arith, pre .first))
 
       -- the variables in the words are those of the state
       variable-is : (x : ℕ) → x < known + i → getD (s .state .vars) x 0 ≡ getD work (vars + x) 0

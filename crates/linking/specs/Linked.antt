@@ -10,7 +10,7 @@ use Rattle.lists.specs.Words.{pairsOf}
 use Rattle.aiger.specs.declared.Gate.{Gate}
 use Rattle.aiger.specs.Gates.{variable, gateFrom}
 use Rattle.sharing.specs.Table.{Held, Holding, Finds}
-use Rattle.composition.specs.Sharing.{translate, Operands, unordered, Shared, shareGates}
+use Rattle.composition.specs.Sharing.{translate, unordered, keyOf, Shared, shareGates}
 use Rattle.composition.specs.Composing.{gatesFit}
 use Rattle.linking.specs.declared.SharedGates.{SharedGates}
 use Rattle.linking.specs.declared.SharedGates.the-variants as answer
@@ -21,10 +21,6 @@ use Rattle.linking.specs.declared.SharedGates.the-variants as answer
 pub record Translatable (vars : ℕ) (work : List ℕ) (l : ℕ) : Type 0 where
   pub within : vars + variable l < length work
   pub small : getD work (vars + variable l) 0 < 1073741824
-
--- the operands of a composed gate as one number
-abbrev pub keyOf : Operands → ℕ
-keyOf g = g .left + 4294967296 * g .right
 
 -- two words from place `at` on are literals that can be translated
 pub record TwoLiterals (at vars : ℕ) (work : List ℕ) : Type 0 where
@@ -68,13 +64,13 @@ pub record FindsIn (table count shared key : ℕ) (work work' : List ℕ) (r : �
 abbrev pub gatesAt : ℕ → ℕ → List ℕ → List Gate
 gatesAt operands count work = pairsOf (gateFrom 0) (part work operands (operands + 2 * count))
 
--- The words before the gates are shared: the operands of `count` gates, the composed variables of `known` joint ones, and an empty table.
+-- The words before the gates are shared: the operands of `count` gates, the composed variables of `known` joint ones, and a table whose heads are 0.
 pub record Sharable (operands count vars known table leaves : ℕ) (work : List ℕ) : Type 0 where
   pub first : operands + 2 * count ≤ vars
   pub second : vars + known + count ≤ table
   pub third : tableEnd table count ≤ length work
   pub few : leaves + count < 1073741824
-  pub empty : tableIn table count work ≡ zeros (4 * count + 1)
+  pub empty : part work table (table + (count + 1)) ≡ zeros (count + 1)
   pub small : Each (λ x. x < 1073741824) (part work vars (vars + known))
   -- the operands of a gate stand before it
   pub earlier : (i : ℕ) → i < count → (variable (getD work (operands + 2 * i) 0) < known + i) × (variable (getD work (operands + 2 * i + 1) 0) < known + i)

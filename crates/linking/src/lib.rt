@@ -2,8 +2,8 @@
 ghost use mathlib.Core.Path.{_≡_};
 ghost use Prim.Native.Nat.{_+_, _<_, max};
 ghost use lib.ListN.{length, drop};
-ghost use Rattle.composition.specs.Sharing.{translate, unordered};
-ghost use Rattle.linking.specs.Linked.{Translatable, keyOf, TwoLiterals, keyAt, Findable, FindsIn, Sharable, Shares};
+ghost use Rattle.composition.specs.Sharing.{translate, unordered, keyOf};
+ghost use Rattle.linking.specs.Linked.{Translatable, TwoLiterals, keyAt, Findable, FindsIn, Sharable, Shares};
 ghost use Rattle.linking.specs.Latches.{Slot, SlotIs, samePair, Storable, DefinesLatch, Definable, Defines};
 use lists::index;
 
@@ -19,8 +19,8 @@ pub enum DefinedLatches {
     Differs,
 }
 
-// The composed literal of a joint one.
-fn translate(work: &[u64], vars: usize, literal: u64) -> u64
+// The composed literal of a joint one. The composed variables of the joint ones stand from the place `vars` on.
+pub fn translate(work: &[u64], vars: usize, literal: u64) -> u64
     requires { ⌜ Translatable vars (now work) literal ⌝ }
     ensures { λ r. ⌜ r ≡ translate (drop vars (now (work .entry))) literal ⌝ }
 {

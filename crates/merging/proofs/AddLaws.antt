@@ -8,6 +8,7 @@ use lib.Seq.{getD-drop}
 use Rattle.lists.specs.Firsts.{setOf}
 use Rattle.lists.specs.Parts.{part, zeros}
 use Rattle.lists.specs.Tests.{Each}
+use Rattle.lists.proofs.KeptLaws.{take-kept, part-kept}
 use Rattle.lists.proofs.TestLaws.{each-so}
 use Rattle.aiger.specs.Gates.{variable}
 use Rattle.printing.specs.Elements.{elements}
@@ -23,7 +24,6 @@ use Rattle.joint.specs.Joint.{joint, listOf}
 use Rattle.joint.proofs.AmountLaws.{leaf-count-most}
 use Rattle.joint.proofs.GateLaws.{composed-gates-most}
 use Rattle.joint.proofs.VarsLaws.{joint-safety, joint-constraints}
-use Rattle.linking.proofs.KeptLaws.{take-kept, part-kept}
 use Rattle.marking.specs.Marked.{Addable, CanAdd, Added, literalsAt}
 use Rattle.marking.proofs.CallLaws.{each-word}
 use Rattle.laying.specs.declared.Places.{Places}
@@ -111,7 +111,7 @@ module _ (at : Places) (first next g : ℕ) (work : List ℕ) where
         (omega (arith, places .constraints, places .inputOrigins, places .latchOrigins, places .table, places .vars))
         (omega (arith, places .definitions, places .bads))
         (omega (arith, places .limits, places .end, k .base .fits))
-        (clean-part work (at .bads) (at .end) (k .behind) (at .bads) (at .bits) (omega arith) (omega (arith, places .limits, places .end)))
+        (clean-part work (at .bads) (at .end) (k .bits) (at .bads) (at .bits) (omega arith) (omega (arith, places .limits, places .end)))
 
   -- as the code asks for it
   pub bads-can : Some (LatchesDefined at first next g work) → CanBads
@@ -142,7 +142,7 @@ module _ (at : Places) (first next g : ℕ) (work : List ℕ) where
       -- so does the empty set of constraints
       clean' : Clean work' (at .limits) (at .end)
       clean' =
-          clean-behind work (at .bads) (at .end) (k .behind) work' (at .bads + at .bits) (at .limits) (added .behind)
+          clean-behind work (at .bads) (at .end) (k .bits) work' (at .bads + at .bits) (at .limits) (added .behind)
           (omega (arith, places m ws k .limits)) (omega (arith, places m ws k .limits)) (omega (arith, places m ws k .end))
 
       -- it holds of the stage

@@ -8,6 +8,7 @@ use lib.ListN.{length, take}
 use Rattle.lists.specs.Answer.{got, refused, unless}
 use Rattle.lists.specs.Parts.{Bytes, part}
 use Rattle.lists.specs.Tests.{all, Each}
+use Rattle.lists.proofs.KeptLaws.{take-kept}
 use Rattle.lists.proofs.TestLaws.{each-so}
 use Rattle.lists.proofs.WordLaws.{pairs-count}
 use Rattle.witness_text.specs.declared.AagCounts.{AagCounts}
@@ -18,7 +19,6 @@ use Rattle.composition.proofs.DemandLaws.{all-read}
 use Rattle.composition.proofs.NameLaws.{Granted}
 use Rattle.composition.proofs.RangeLaws.{InRange}
 use Rattle.joint.specs.Joint.{totalOf}
-use Rattle.linking.proofs.KeptLaws.{take-kept}
 use Rattle.gathering.specs.declared.Totals.{Totals}
 use Rattle.gathering.specs.Gathered.{wordTotal, Readable}
 use Rattle.gathering.proofs.BlockLaws.{blocks-same}

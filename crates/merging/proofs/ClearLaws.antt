@@ -1,10 +1,11 @@
--- Laws of the first pass: the regions that will be written are cleared.
-use Prim.Native.Nat.{ℕ, _-_, _≤_}
+-- Laws of the first pass: the words that are read before they are written are cleared.
+use Prim.Native.Nat.{ℕ, _+_, _-_, _≤_}
 use mathlib.Core.List.{List}
-use mathlib.Core.Path.{_≡_, ap, _∙_}
+use mathlib.Core.Path.{_≡_, ap, subst, _∙_}
 use native.Mathlib.Omega.{arith}
 use lib.ListN.{length, take}
 use Rattle.lists.specs.Parts.{part, put, zeros}
+use Rattle.lists.proofs.KeptLaws.{take-kept}
 use Rattle.lists.proofs.PartLaws.{put-length, put-take}
 use Rattle.lists.proofs.ZeroLaws.{zeros-length}
 use Rattle.witness_text.specs.declared.AagCounts.{AagCounts}
@@ -15,45 +16,89 @@ use Rattle.laying.specs.declared.Places.{Places}
 use Rattle.laying.specs.Laid.{Regions}
 use Rattle.merging.specs.declared.Merging.{Merging}
 use Rattle.merging.specs.Merged.{Mergeable, Some, Goes}
-use Rattle.merging.specs.Stages.{Cleared}
+use Rattle.merging.specs.Stages.{Clean, Clearable, Clears, Cleared}
+use Rattle.merging.proofs.WordLaws.{clean-before}
 use Rattle.merging.proofs.BaseLaws.{base-kept, Step, step-some, step-goes}
 
--- the regions that are written have their order
-pub table-first : (at : Places) (m : Sections) (ws : List Sections) → Regions m ws at → at .table ≤ at .end
-table-first at m ws r = omega (arith, r .vars, r .gates, r .definitions, r .bads, r .limits, r .end)
+-- ---- the three regions
+
+-- one region
+module _ (work work' : List ℕ) (from to : ℕ) (h : from ≤ to) (k : to ≤ length work) (is : work' ≡ put work from (zeros (to - from))) where
+  -- no word more or less
+  length-kept : length work' ≡ length work
+  length-kept = ap length is ∙ put-length work from (zeros (to - from)) (omega (arith, zeros-length (to - from)))
+
+  -- nothing in front of it is written
+  front-kept : take from work' ≡ take from work
+  front-kept = ap (take from) is ∙ put-take work from (zeros (to - from)) (omega arith) from (omega arith)
+
+  -- it is 0
+  now-clean : Clean work' from to
+  now-clean = record { is = ap (λ (w : List ℕ). part w from to) is ∙ cleared-part work from to h k }
+
+-- each of them, and those in front of it stay
+pub regions-cleared : (at : Places) (gates : ℕ) (work leaves heads bits : List ℕ) → Clearable at gates work → leaves ≡ put work (at .table) (zeros (at .vars + 1 - at .table))
+    → heads ≡ put leaves (at .gates) (zeros (at .gates + (gates + 1) - at .gates)) → bits ≡ put heads (at .bads) (zeros (at .end - at .bads)) → Clears at gates work bits
+regions-cleared at gates work leaves heads bits c a b d =
+    let tableEnd : ℕ = at .vars + 1 in
+    let headsEnd : ℕ = at .gates + (gates + 1) in
+    let i : at .table ≤ tableEnd = omega (arith, c .leaves) in
+    let j : tableEnd ≤ length work = omega (arith, c .heads, c .bits, c .ends, c .fits) in
+    let n : length leaves ≡ length work = length-kept work leaves (at .table) tableEnd i j a in
+    let k : headsEnd ≤ length leaves = omega (arith, n, c .bits, c .ends, c .fits) in
+    let l : at .gates ≤ headsEnd = omega arith in
+    let o : length heads ≡ length leaves = length-kept leaves heads (at .gates) headsEnd l k b in
+    let p : at .end ≤ length heads = omega (arith, n, o, c .fits) in
+    let first : take (at .gates) heads ≡ take (at .gates) leaves = front-kept leaves heads (at .gates) headsEnd l k b in
+    let second : take (at .bads) bits ≡ take (at .bads) heads = front-kept heads bits (at .bads) (at .end) (c .ends) p d in
+    record {
+      leaves =
+          clean-before heads (at .table) tableEnd
+          (clean-before leaves (at .table) tableEnd (now-clean work leaves (at .table) tableEnd i j a) heads (at .gates) first (c .heads))
+          bits (at .bads) second (omega (arith, c .heads, c .bits));
+      heads = clean-before heads (at .gates) headsEnd (now-clean leaves heads (at .gates) headsEnd l k b) bits (at .bads) second (c .bits);
+      bits = now-clean heads bits (at .bads) (at .end) (c .ends) p d;
+      before =
+          take-kept bits heads (at .bads) second (at .table) (omega (arith, c .leaves, c .heads, c .bits))
+          ∙ take-kept heads leaves (at .gates) first (at .table) (omega (arith, c .leaves, c .heads))
+          ∙ front-kept work leaves (at .table) tableEnd i j a;
+    }
+
+-- ---- the pass
 
 module _ (mc : AagCounts) (t : Totals) (at : Places) (work : List ℕ) where
+  -- the regions have their order
+  clearable : (m : Sections) (ws : List Sections) → Mergeable mc t at work m ws → Clearable at (t .gates) work
+  clearable m ws k =
+      let r : Regions m ws at = k .base .plan .regions in
+      record {
+        leaves = omega (arith, r .vars);
+        heads = omega (arith, r .gates);
+        bits = omega (arith, k .totals .gates, r .definitions, r .bads);
+        ends = omega (arith, r .limits, r .end);
+        fits = k .base .fits;
+      }
+
   -- as the code asks for it
-  pub clear-can : Some (Mergeable mc t at work) → (at .table ≤ at .end) × (at .end ≤ length work)
-  clear-can s = (table-first at (s .m) (s .ws) (s .holds .base .plan .regions), s .holds .base .fits)
+  pub clear-can : Some (Mergeable mc t at work) → Clearable at (t .gates) work
+  clear-can s = clearable (s .m) (s .ws) (s .holds)
 
-  module _ (work' : List ℕ) (is : work' ≡ put work (at .table) (zeros (at .end - at .table))) where
-    module _ (m : Sections) (ws : List Sections) (k : Mergeable mc t at work m ws) where
-      -- the regions have their order
-      order : at .table ≤ at .end
-      order = table-first at m ws (k .base .plan .regions)
-
-      -- no word more or less
-      same : length work' ≡ length work
-      same = ap length is ∙ put-length work (at .table) (zeros (at .end - at .table)) (omega (arith, zeros-length (at .end - at .table), order, k .base .fits))
-
-      -- nothing in front of the table is written
-      front : take (at .table) work' ≡ take (at .table) work
-      front = ap (take (at .table)) is ∙ put-take work (at .table) (zeros (at .end - at .table)) (omega (arith, order, k .base .fits)) (at .table) (omega arith)
-
-      -- the next stage
-      cleared : Cleared mc t at work' m ws
-      cleared =
-          record {
-            model = k .model;
-            totals = k .totals;
-            base = base-kept at work work' m ws front same (k .base);
-            clean = record { is = ap (λ (w : List ℕ). part w (at .table) (at .end)) is ∙ cleared-part work (at .table) (at .end) order (k .base .fits) };
-          }
+  module _ (work' : List ℕ) (same : length work' ≡ length work) (post : Clears at (t .gates) work work') where
+    -- the next stage
+    cleared : (m : Sections) (ws : List Sections) → Mergeable mc t at work m ws → Cleared mc t at work' m ws
+    cleared m ws k =
+        record {
+          model = k .model;
+          totals = k .totals;
+          base = base-kept at work work' m ws (post .before) same (k .base);
+          leaves = post .leaves;
+          heads = subst (λ (n : ℕ). Clean work' (at .gates) (at .gates + (n + 1))) (k .totals .gates) (post .heads);
+          bits = post .bits;
+        }
 
     -- the pass as a step
     step : Step (Mergeable mc t at work) (Cleared mc t at work') at work work'
-    step = record { next = cleared; kept = front }
+    step = record { next = cleared; kept = λ m ws k. post .before }
 
     -- the next stage holds
     pub clear-next : Some (Mergeable mc t at work) → Some (Cleared mc t at work')

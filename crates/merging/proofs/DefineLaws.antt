@@ -10,6 +10,7 @@ use Rattle.lists.specs.Parts.{part, put}
 use Rattle.lists.specs.Tests.{Each}
 use Rattle.lists.specs.Words.{pairsOf}
 use Rattle.lists.proofs.FirstLaws.{appearing-length}
+use Rattle.lists.proofs.KeptLaws.{take-kept}
 use Rattle.lists.proofs.PartLaws.{part-length, put-take, put-drop-end}
 use Rattle.lists.proofs.TestLaws.{each-so}
 use Rattle.lists.proofs.WordLaws.{words-length}
@@ -29,7 +30,6 @@ use Rattle.linking.specs.declared.DefinedLatches.{DefinedLatches}
 use Rattle.linking.specs.declared.DefinedLatches.the-variants as answer
 use Rattle.linking.specs.Latches.{InTurn, metIn, latchFrom, definedAt, definitionsFrom, latchVariables, Definable, Defines}
 use Rattle.linking.proofs.CallLaws.{entries-in-turn, entries-met, composed-words}
-use Rattle.linking.proofs.KeptLaws.{take-kept}
 use Rattle.marking.proofs.CallLaws.{each-word}
 use Rattle.gathering.specs.declared.Totals.{Totals}
 use Rattle.laying.specs.declared.Places.{Places}
@@ -230,11 +230,11 @@ module _ (t : Totals) (at : Places) (first next g : ℕ) (work : List ℕ) where
               agrees = sym (ap agree (defs m ws k)) ∙ agreed;
               shared = shared-kept at work work' m ws (places m ws k) ahead-kept same (k .shared);
               definitions = subst (λ (w : List ℕ). Has w (at .definitions) (definitionWords m ws)) (sym is) (has-put work (at .definitions) (definitionWords m ws) fits);
-              behind =
-                  clean-behind work (at .definitions) (at .end) (k .behind) work' (at .bads) (at .bads)
+              bits =
+                  clean-behind work (at .bads) (at .end) (k .bits) work' (at .bads) (at .bads)
                   (ap (drop (at .bads)) is
                   ∙ put-drop-end work (at .definitions) (definitionWords m ws) (omega (arith, fits)) (at .bads) (omega (arith, definitions-long m ws, places m ws k .bads)))
-                  (omega arith) (omega (arith, places m ws k .bads)) (omega (arith, places m ws k .limits, places m ws k .end));
+                  (omega arith) (omega arith) (omega (arith, places m ws k .limits, places m ws k .end));
             }
 
       -- the pass as a step

@@ -8,22 +8,22 @@ use lib.ListN.{length, getD, take}
 use Rattle.lists.specs.Parts.{part}
 use Rattle.lists.specs.Tests.{Each}
 use Rattle.lists.specs.Words.{pairsOf}
+use Rattle.lists.proofs.KeptLaws.{take-kept}
 use Rattle.lists.proofs.TestLaws.{each-so}
 use Rattle.aiger.specs.Gates.{variable, gateFrom}
 use Rattle.witness.specs.Sections.{Sections}
 use Rattle.composition.specs.Numbering.{leafCount}
-use Rattle.composition.specs.Sharing.{Operands, Shared, shareGates}
+use Rattle.composition.specs.Sharing.{Operands, keyOf, Shared, shareGates}
 use Rattle.composition.specs.Composing.{composedGates, gatesFit}
 use Rattle.joint.specs.declared.Literals.the-variants as literals
-use Rattle.joint.specs.Joint.{totalOf, inputCount, latchCount, gateCount, joint, listOf}
+use Rattle.joint.specs.Joint.{totalOf, inputCount, gateCount, joint, listOf}
 use Rattle.joint.specs.Numbers.{leafVars}
 use Rattle.joint.proofs.AmountLaws.{joint-operands-length, leaf-vars-length, leaf-vars-most, leaf-count-most}
 use Rattle.joint.proofs.GateLaws.{jointShared, joint-gates, joint-earlier, joint-vars-length}
 use Rattle.sharing.specs.Table.{Held}
 use Rattle.linking.specs.declared.SharedGates.{SharedGates}
 use Rattle.linking.specs.declared.SharedGates.the-variants as answer
-use Rattle.linking.specs.Linked.{keyOf, tableEnd, Sharable, sharedIn, Linked, Shares}
-use Rattle.linking.proofs.KeptLaws.{take-kept}
+use Rattle.linking.specs.Linked.{tableEnd, Sharable, sharedIn, Linked, Shares}
 use Rattle.gathering.specs.declared.Totals.{Totals}
 use Rattle.laying.specs.declared.Places.{Places}
 use Rattle.laying.specs.Laid.{Regions}
@@ -104,8 +104,7 @@ module _ (t : Totals) (at : Places) (first next : ℕ) (work : List ℕ) where
           third = omega (arith, k .totals .gates, room, k .base .fits);
           few = omega (arith, leaves-are, leaf-count-most m ws, k .totals .gates, plan .few);
           empty =
-              clean-part work (at .vars + 1 + totalOf inputCount ws + totalOf latchCount ws) (at .end) (k .behind) (at .gates) (4 * t .gates + 1)
-              (omega (arith, places .gates)) (omega (arith, k .totals .gates, room));
+              clean-part work (at .gates) (at .gates + (totalOf gateCount ws + 1)) (k .heads) (at .gates) (t .gates + 1) (omega arith) (omega (arith, k .totals .gates));
           small =
               subst (Each (λ x. x < 1073741824)) (sym vars-are)
               (each-so (λ x. x ≤ leafCount m ws) (λ x. x < 1073741824) (λ x h. omega (arith, leaf-count-most m ws, plan .few)) (leafVars m ws) (leaf-vars-most m ws));
@@ -203,10 +202,9 @@ module _ (t : Totals) (at : Places) (first next : ℕ) (work : List ℕ) where
               count = answered .1 ∙ ap length (gates-are m ws k);
               fits = sym (test-is m ws k) ∙ answered .0;
               shared = shared;
-              behind =
-                  clean-behind work (at .vars + 1 + totalOf inputCount ws + totalOf latchCount ws) (at .end) (k .behind) work' (tableEnd (at .gates) (t .gates)) (at .definitions) (linked .behind)
-                  (omega (arith, places m ws k .definitions, k .totals .gates)) (omega (arith, places m ws k .definitions, places m ws k .gates))
-                  (omega (arith, places m ws k .bads, places m ws k .limits, places m ws k .end));
+              bits =
+                  clean-behind work (at .bads) (at .end) (k .bits) work' (tableEnd (at .gates) (t .gates)) (at .bads) (linked .behind)
+                  (omega (arith, places m ws k .definitions, places m ws k .bads, k .totals .gates)) (omega arith) (omega (arith, places m ws k .limits, places m ws k .end));
             }
 
       -- the pass as a step

@@ -3,12 +3,12 @@ use Prim.Native.Nat.{ℕ, _+_, _≤_}
 use mathlib.Core.List.{List}
 use mathlib.Core.Path.{_≡_, refl, sym, ap, _∙_}
 use native.Mathlib.Omega.{arith}
-use lib.ListN.{length, take}
+use lib.ListN.{length, take, drop}
 use Rattle.lists.specs.Parts.{part, zeros}
 use Rattle.witness_text.specs.declared.AagCounts.{AagCounts}
 use Rattle.witness.specs.Sections.{Sections}
 use Rattle.joint.specs.declared.Leaves.the-variants as leaf
-use Rattle.joint.specs.Joint.{totalOf, inputCount, origins}
+use Rattle.joint.specs.Joint.{totalOf, inputCount, gateCount, origins}
 use Rattle.joint.specs.Numbers.{Numbers, numberAll}
 use Rattle.joint.proofs.AmountLaws.{input-origins-length}
 use Rattle.joint.proofs.NumberLaws.{input-numbers, input-next}
@@ -61,7 +61,7 @@ module _ (mc : AagCounts) (t : Totals) (at : Places) (work : List ℕ) where
     given : numbersIn (at .«input_origins») (t .inputs) (at .table) (mc .inputs) 0 1 work ≡ numberAll 0 1 (origins leaf.Inputs m ws) (zeros (length (m .inputs)))
     given =
         leaves-numbers leaf.Inputs m ws work (at .«input_origins») (t .inputs) 0 (mc .inputs) (k .base .stands .inputOrigins) counted refl (k .model .inputs) (at .table) 1
-        (clean-part work (at .table) (at .end) (k .clean) (at .table) (mc .inputs) (omega arith) (omega (arith, k .model .inputs, places .vars, room)))
+        (clean-part work (at .table) (at .vars + 1) (k .leaves) (at .table) (mc .inputs) (omega arith) (omega (arith, k .model .inputs, places .vars)))
 
   -- as the code asks for it
   pub inputs-can : Some (Cleared mc t at work) → Can
@@ -84,6 +84,10 @@ module _ (mc : AagCounts) (t : Totals) (at : Places) (work : List ℕ) where
           ∙ ap (λ (x : Numbers). x .numbers) (given m ws k)
           ∙ input-numbers m ws
 
+      -- nothing behind the numbers is written
+      rest : drop (at .vars + 1 + t .inputs) work' ≡ drop (at .vars + 1 + t .inputs) work
+      rest = numbered-behind (at .«input_origins») (t .inputs) (at .table) (mc .inputs) 0 (at .vars + 1) 1 work work' n (can m ws k) post
+
       -- the next stage
       numbered : InputsNumbered mc t at n work' m ws
       numbered =
@@ -95,14 +99,17 @@ module _ (mc : AagCounts) (t : Totals) (at : Places) (work : List ℕ) where
             inputs =
                 has-part work' (at .vars + 1) (t .inputs) (inputNumbers m ws) (k .totals .inputs ∙ sym (inputs-long m ws)) (omega (arith, same, can m ws k .third)) stored;
             between =
-                clean-kept work (at .table) (at .end) (k .clean) work' (at .table + length (m .inputs)) (at .vars + 1)
-                (omega arith) (omega (arith, places m ws k .vars)) (omega (arith, room m ws k))
+                clean-kept work (at .table) (at .vars + 1) (k .leaves) work' (at .table + length (m .inputs)) (at .vars + 1)
+                (omega arith) (omega (arith, places m ws k .vars)) (omega arith)
                 (numbered-between (at .«input_origins») (t .inputs) (at .table) (mc .inputs) 0 (at .vars + 1) 1 work work' n (can m ws k) post
                 (at .table + length (m .inputs)) (at .vars + 1) (omega (arith, k .model .inputs)) (omega arith));
-            behind =
-                clean-behind work (at .table) (at .end) (k .clean) work' (at .vars + 1 + t .inputs) (at .vars + 1 + totalOf inputCount ws)
-                (numbered-behind (at .«input_origins») (t .inputs) (at .table) (mc .inputs) 0 (at .vars + 1) 1 work work' n (can m ws k) post)
-                (omega (arith, k .totals .inputs)) (omega (arith, places m ws k .vars)) (room m ws k);
+            heads =
+                clean-behind work (at .gates) (at .gates + (totalOf gateCount ws + 1)) (k .heads) work' (at .vars + 1 + t .inputs) (at .gates) rest
+                (omega (arith, k .totals .inputs, places m ws k .gates)) (omega arith) (omega arith);
+            bits =
+                clean-behind work (at .bads) (at .end) (k .bits) work' (at .vars + 1 + t .inputs) (at .bads) rest
+                (omega (arith, k .totals .inputs, places m ws k .gates, places m ws k .definitions, places m ws k .bads)) (omega arith)
+                (omega (arith, places m ws k .limits, places m ws k .end));
           }
 
     -- the pass as a step

@@ -6,6 +6,7 @@ use native.Mathlib.Omega.{arith}
 use lib.ListN.{length, getD, take}
 use Rattle.lists.specs.Parts.{part}
 use Rattle.lists.specs.Tests.{Each}
+use Rattle.lists.proofs.KeptLaws.{part-kept}
 use Rattle.lists.proofs.TestLaws.{each-so, each-at}
 use Rattle.aiger.specs.Gates.{variable}
 use Rattle.witness.specs.Sections.{Sections}
@@ -16,7 +17,6 @@ use Rattle.joint.specs.declared.Literals.{Literals}
 use Rattle.joint.specs.Joint.{totalOf, inputCount, gateCount, joint, listOf}
 use Rattle.joint.proofs.AmountLaws.{leaf-count-most, joint-literals-most}
 use Rattle.joint.proofs.GateLaws.{jointShared, joint-vars-most, joint-vars-length, composed-gates-most}
-use Rattle.linking.proofs.KeptLaws.{part-kept}
 use Rattle.marking.specs.Marked.{literalsAt}
 use Rattle.marking.proofs.CallLaws.{literals-part}
 use Rattle.laying.specs.declared.Places.{Places}

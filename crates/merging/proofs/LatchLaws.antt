@@ -3,17 +3,17 @@ use Prim.Native.Nat.{ℕ, suc, _+_, _≤_}
 use mathlib.Core.List.{List, [], _∷_, _++_}
 use mathlib.Core.Path.{_≡_, refl, sym, ap, _∙_}
 use native.Mathlib.Omega.{arith}
-use lib.ListN.{length, take}
+use lib.ListN.{length, take, drop}
 use Rattle.lists.specs.Parts.{part, zeros}
+use Rattle.lists.proofs.KeptLaws.{take-kept}
 use Rattle.witness_text.specs.declared.AagCounts.{AagCounts}
 use Rattle.witness.specs.Sections.{Sections}
 use Rattle.composition.specs.Numbering.{inputFirsts}
 use Rattle.joint.specs.declared.Leaves.the-variants as leaf
-use Rattle.joint.specs.Joint.{totalOf, inputCount, latchCount, origins}
+use Rattle.joint.specs.Joint.{totalOf, inputCount, latchCount, gateCount, origins}
 use Rattle.joint.specs.Numbers.{Numbers, numberAll}
 use Rattle.joint.proofs.AmountLaws.{latch-origins-length, leaf-count-most}
 use Rattle.joint.proofs.NumberLaws.{latch-numbers, latch-next}
-use Rattle.linking.proofs.KeptLaws.{take-kept}
 use Rattle.marking.specs.Marked.{CanNumber, Numbered, numbersIn}
 use Rattle.marking.proofs.CallLaws.{numbers-stored, numbered-before, numbered-between, numbered-behind}
 use Rattle.gathering.specs.declared.Totals.{Totals}
@@ -98,6 +98,11 @@ module _ (mc : AagCounts) (t : Totals) (at : Places) (first : ℕ) (work : List 
           numbered-between (at .«latch_origins») (t .latches) (at .table + mc .inputs) (mc .latches) (mc .inputs) (at .vars + 1 + t .inputs) first work work' next (can m ws k) post
           a e (omega (arith, k .model .inputs, k .model .latches, places m ws k .vars)) i
 
+      -- nothing behind the numbers is written
+      rest : drop (at .vars + 1 + t .inputs + t .latches) work' ≡ drop (at .vars + 1 + t .inputs + t .latches) work
+      rest =
+          numbered-behind (at .«latch_origins») (t .latches) (at .table + mc .inputs) (mc .latches) (mc .inputs) (at .vars + 1 + t .inputs) first work work' next (can m ws k) post
+
       -- there is room for the numbers
       size : at .vars + 1 + t .inputs + t .latches ≤ length work'
       size = omega (arith, same, can m ws k .third)
@@ -135,11 +140,13 @@ module _ (mc : AagCounts) (t : Totals) (at : Places) (first : ℕ) (work : List 
             vars =
                 has-join work' (at .vars) (0 ∷ []) constant (at .vars + 1) (inputNumbers m ws ++ latchNumbers m ws) refl
                 (has-join work' (at .vars + 1) (inputNumbers m ws) inputs (at .vars + 1 + t .inputs) (latchNumbers m ws) (omega (arith, inputs-long m ws, k .totals .inputs)) latches);
-            behind =
-                clean-behind work (at .vars + 1 + totalOf inputCount ws) (at .end) (k .behind) work' (at .vars + 1 + t .inputs + t .latches)
-                (at .vars + 1 + totalOf inputCount ws + totalOf latchCount ws)
-                (numbered-behind (at .«latch_origins») (t .latches) (at .table + mc .inputs) (mc .latches) (mc .inputs) (at .vars + 1 + t .inputs) first work work' next (can m ws k) post)
-                (omega (arith, k .totals .inputs, k .totals .latches)) (omega arith) (room m ws k);
+            heads =
+                clean-behind work (at .gates) (at .gates + (totalOf gateCount ws + 1)) (k .heads) work' (at .vars + 1 + t .inputs + t .latches) (at .gates) rest
+                (omega (arith, k .totals .inputs, k .totals .latches, places m ws k .gates)) (omega arith) (omega arith);
+            bits =
+                clean-behind work (at .bads) (at .end) (k .bits) work' (at .vars + 1 + t .inputs + t .latches) (at .bads) rest
+                (omega (arith, k .totals .inputs, k .totals .latches, places m ws k .gates, places m ws k .definitions, places m ws k .bads)) (omega arith)
+                (omega (arith, places m ws k .limits, places m ws k .end));
           }
 
     -- the pass as a step

@@ -6,6 +6,7 @@ use native.Mathlib.Omega.{arith}
 use lib.ListN.{length, getD, take, drop, length-append}
 use lib.Seq.{drop-drop}
 use Rattle.lists.specs.Parts.{part, zeros}
+use Rattle.lists.proofs.KeptLaws.{part-kept}
 use Rattle.lists.proofs.PartLaws.{part-at, part-of-part, part-join}
 use Rattle.lists.proofs.ZeroLaws.{zeros-take}
 use Rattle.laying.specs.Laid.{Has}
@@ -72,6 +73,10 @@ module _ (work : List ℕ) (a e : ℕ) (k : Clean work a e) where
   -- words that are kept
   pub clean-kept : (work' : List ℕ) (b c : ℕ) → a ≤ b → b ≤ c → c ≤ e → part work' b c ≡ part work b c → Clean work' b c
   clean-kept work' b c h i j p = record { is = p ∙ clean-within b c h i j .is }
+
+  -- what stands in front of a place is kept
+  pub clean-before : (work' : List ℕ) (p : ℕ) → take p work' ≡ take p work → e ≤ p → Clean work' a e
+  clean-before work' p d h = record { is = part-kept work' work p d a e h ∙ k .is }
 
   -- what stands behind a place is kept
   pub clean-behind : (work' : List ℕ) (p b : ℕ) → drop p work' ≡ drop p work → p ≤ b → a ≤ b → b ≤ e → Clean work' b e

@@ -13,14 +13,13 @@ use Rattle.witness_text.specs.declared.AagCounts.{AagCounts}
 use Rattle.witness.specs.Sections.{Sections}
 use Rattle.witness_words.specs.Loaded.{latchWords}
 use Rattle.composition.specs.Numbering.{inputEntries, latchEntries, inputFirsts, latchFirsts, numbered, leafCount}
-use Rattle.composition.specs.Sharing.{Operands}
+use Rattle.composition.specs.Sharing.{Operands, keyOf}
 use Rattle.composition.specs.Composing.{composedGates, whole, gatesFit, allDefined, agree, composedLatches, safety, literalsOf}
 use Rattle.composition.proofs.RangeLaws.{InRange}
 use Rattle.joint.specs.declared.Literals.the-variants as literals
 use Rattle.joint.specs.declared.Leaves.the-variants as leaf
 use Rattle.joint.specs.Joint.{totalOf, inputCount, latchCount, gateCount, joint, listOf, origins}
 use Rattle.sharing.specs.Table.{Held}
-use Rattle.linking.specs.Linked.{keyOf}
 use Rattle.gathering.specs.declared.Totals.{Totals}
 use Rattle.laying.specs.declared.Places.{Places}
 use Rattle.laying.specs.Laid.{Has, variableTotal, Regions}

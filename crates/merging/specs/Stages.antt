@@ -1,19 +1,19 @@
 -- For the contracts of the composer's inner functions: what stands in the work words after each pass.
-use Prim.Native.Nat.{ℕ, suc, _+_, _-_, _*_}
+use Prim.Native.Nat.{ℕ, suc, _+_, _-_, _*_, _≤_}
 use mathlib.Core.Bool.{true}
 use mathlib.Core.List.{List, map}
 use mathlib.Core.Path.{_≡_}
-use lib.ListN.{length}
+use lib.ListN.{length, take}
 use Rattle.lists.specs.Parts.{part, zeros}
 use Rattle.witness_text.specs.declared.AagCounts.{AagCounts}
 use Rattle.witness.specs.Sections.{Sections}
 use Rattle.composition.specs.Numbering.{inputFirsts, leafCount}
+use Rattle.composition.specs.Sharing.{keyOf}
 use Rattle.composition.specs.Composing.{composedGates, whole, gatesFit, allDefined, agree}
-use Rattle.joint.specs.Joint.{totalOf, inputCount, latchCount, gateCount}
+use Rattle.joint.specs.Joint.{totalOf, inputCount, gateCount}
 use Rattle.joint.specs.Numbers.{leafVars}
 use Rattle.joint.proofs.GateLaws.{jointShared}
 use Rattle.sharing.specs.Table.{Held}
-use Rattle.linking.specs.Linked.{keyOf}
 use Rattle.gathering.specs.declared.Totals.{Totals}
 use Rattle.laying.specs.declared.Places.{Places}
 use Rattle.laying.specs.Laid.{Has}
@@ -23,12 +23,30 @@ use Rattle.merging.specs.Merged.{Summed, Base, Model, inputNumbers, latc
 pub record Clean (work : List ℕ) (a e : ℕ) : Type 0 where
   pub is : part work a e ≡ zeros (e - a)
 
--- all regions that are written are cleared
+-- the regions that must be 0 stand one behind the other, within the words; there are so many gates
+pub record Clearable (at : Places) (gates : ℕ) (work : List ℕ) : Type 0 where
+  pub leaves : at .table ≤ at .vars
+  pub heads : at .vars + 1 ≤ at .gates
+  pub bits : at .gates + (gates + 1) ≤ at .bads
+  pub ends : at .bads ≤ at .end
+  pub fits : at .end ≤ length work
+
+-- They are 0: the table of the model's inputs and latches, with the composed variable of the constant behind it; the heads of the table of gates; both sets of
+-- bits. Nothing in front of them is written.
+pub record Clears (at : Places) (gates : ℕ) (work work' : List ℕ) : Type 0 where
+  pub leaves : Clean work' (at .table) (at .vars + 1)
+  pub heads : Clean work' (at .gates) (at .gates + (gates + 1))
+  pub bits : Clean work' (at .bads) (at .end)
+  pub before : take (at .table) work' ≡ take (at .table) work
+
+-- the words that are read before they are written are 0
 pub record Cleared (mc : AagCounts) (t : Totals) (at : Places) (work : List ℕ) (m : Sections) (ws : List Sections) : Type 0 where
   pub model : Model mc m
   pub totals : Summed t ws
   pub base : Base at work m ws
-  pub clean : Clean work (at .table) (at .end)
+  pub leaves : Clean work (at .table) (at .vars + 1)
+  pub heads : Clean work (at .gates) (at .gates + (totalOf gateCount ws + 1))
+  pub bits : Clean work (at .bads) (at .end)
 
 -- the inputs have their numbers, and the next number is n
 pub record InputsNumbered (mc : AagCounts) (t : Totals) (at : Places) (n : ℕ) (work : List ℕ) (m : Sections) (ws : List Sections) : Type 0 where
@@ -38,7 +56,8 @@ pub record InputsNumbered (mc : AagCounts) (t : Totals) (at : Places) (n : ℕ) 
   pub next : n ≡ suc (length (inputFirsts m ws))
   pub inputs : Has work (at .vars + 1) (inputNumbers m ws)
   pub between : Clean work (at .table + length (m .inputs)) (at .vars + 1)
-  pub behind : Clean work (at .vars + 1 + totalOf inputCount ws) (at .end)
+  pub heads : Clean work (at .gates) (at .gates + (totalOf gateCount ws + 1))
+  pub bits : Clean work (at .bads) (at .end)
 
 -- the numbers of inputs and latches stand in their places
 pub record Leaves (at : Places) (work : List ℕ) (m : Sections) (ws : List Sections) : Type 0 where
@@ -53,7 +72,8 @@ pub record LeavesNumbered (t : Totals) (at : Places) (n k : ℕ) (work : List �
   pub next : k ≡ suc (leafCount m ws)
   pub leaves : Leaves at work m ws
   pub vars : Has work (at .vars) (leafVars m ws)
-  pub behind : Clean work (at .vars + 1 + totalOf inputCount ws + totalOf latchCount ws) (at .end)
+  pub heads : Clean work (at .gates) (at .gates + (totalOf gateCount ws + 1))
+  pub bits : Clean work (at .bads) (at .end)
 
 -- what stands once gates are shared: all composed variables, and the composed gates by their keys
 pub record Shared (at : Places) (work : List ℕ) (m : Sections) (ws : List Sections) : Type 0 where
@@ -70,7 +90,7 @@ pub record GatesShared (t : Totals) (at : Places) (n k g : ℕ) (work : List ℕ
   pub count : g ≡ length (composedGates m ws)
   pub fits : gatesFit (leafCount m ws) (composedGates m ws) ≡ true
   pub shared : Shared at work m ws
-  pub behind : Clean work (at .definitions) (at .end)
+  pub bits : Clean work (at .bads) (at .end)
 
 -- the latches are defined, and 18 does not apply
 pub record LatchesDefined (at : Places) (n k g : ℕ) (work : List ℕ) (m : Sections) (ws : List Sections) : Type 0 where
@@ -82,4 +102,4 @@ pub record LatchesDefined (at : Places) (n k g : ℕ) (work : List ℕ) (m : Sec
   pub agrees : agree (allDefined (whole m ws)) ≡ true
   pub shared : Shared at work m ws
   pub definitions : Has work (at .definitions) (definitionWords m ws)
-  pub behind : Clean work (at .bads) (at .end)
+  pub bits : Clean work (at .bads) (at .end)

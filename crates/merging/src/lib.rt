@@ -1,6 +1,6 @@
 // The witnesses, laid out in the work words, are merged into the composition: its variables, gates, latches, bads and constraints.
 ghost use Rattle.merging.specs.Merged.{Mergeable, Some, Goes};
-ghost use Rattle.merging.specs.Stages.{Cleared, InputsNumbered, LeavesNumbered, GatesShared, LatchesDefined};
+ghost use Rattle.merging.specs.Stages.{Clearable, Clears, Cleared, InputsNumbered, LeavesNumbered, GatesShared, LatchesDefined};
 use gathering::Totals;
 use laying::Places;
 use linking::DefinedLatches;
@@ -140,11 +140,22 @@ fn merge_inputs(work: &mut [u64], at: Places, m: AagCounts, t: Totals) -> Mergin
     merge_latches(work, at, m, t, first)
 }
 
+// Clears the words that are read before they are written: the table of the model's leaves and the constant's variable behind it, the heads of the table of
+// gates, and both sets of bits.
+fn clear_regions(work: &mut [u64], at: Places, gates: usize)
+    requires { ⌜ Clearable at gates (now work) ⌝ }
+    ensures { λ _. ⌜ Clears at gates (now (work .entry)) (now (work .exit)) ⌝ }
+{
+    marking::regions_clear(work, at.table, at.vars + 1);
+    marking::regions_clear(work, at.gates, at.gates + (gates + 1));
+    marking::regions_clear(work, at.bads, at.end);
+}
+
 // Merges the witnesses that are laid out in the work words, whose totals are t, for a model with the counts m.
 pub fn merge(work: &mut [u64], at: Places, m: AagCounts, t: Totals) -> Merging
     requires { ⌜ Some (Mergeable m t at (now work)) ⌝ }
     ensures { λ r. ⌜ Goes (Mergeable m t at (now (work .entry))) at (now (work .entry)) (now (work .exit)) r ⌝ }
 {
-    marking::regions_clear(work, at.table, at.end);
+    clear_regions(work, at, t.gates);
     merge_inputs(work, at, m, t)
 }

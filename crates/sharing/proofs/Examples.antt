@@ -3,7 +3,6 @@ use mathlib.Core.Path.{_≡_, refl}
 use mathlib.Core.List.{[], _∷_}
 use lib.Dec.{eqb}
 use Rattle.lists.specs.Firsts.{place, joined}
-use Rattle.lists.specs.Parts.{zeros}
 use Rattle.sharing.specs.Table.{mixOf, headOf, codeOf, linkFrom}
 use Rattle.sharing.proofs.AddLaws.{withNode}
 
@@ -18,12 +17,12 @@ shared-once = refl
 pub next : place eqb 25769803778 (17179869186 ∷ []) ≡ 1
 next = refl
 
--- one head and the first key: the head leads to node 0
-pub first-key : withNode 1 0 17179869186 (zeros 7) (headOf 1 (mixOf 17179869186)) ≡ 1 ∷ 17179869187 ∷ 0 ∷ 0 ∷ 0 ∷ 0 ∷ 0 ∷ []
+-- one head and the first key: the head leads to node 0, whose links lead nowhere, whatever stood behind the head
+pub first-key : withNode 1 0 17179869186 (0 ∷ 9 ∷ 9 ∷ 9 ∷ 9 ∷ 9 ∷ 9 ∷ []) (headOf 1 (mixOf 17179869186)) ≡ 1 ∷ 17179869187 ∷ 0 ∷ 0 ∷ 9 ∷ 9 ∷ 9 ∷ []
 unfolding headOf mixOf
 first-key = refl
 
 -- the second key has an odd code: the link of node 0 for a 1 leads to node 1
-pub second-key : withNode 1 1 25769803778 (1 ∷ 17179869187 ∷ 0 ∷ 0 ∷ 0 ∷ 0 ∷ 0 ∷ []) (linkFrom 1 (1 ∷ []) 0 (codeOf (mixOf 25769803778))) ≡ 1 ∷ 17179869187 ∷ 0 ∷ 2 ∷ 25769803779 ∷ 0 ∷ 0 ∷ []
+pub second-key : withNode 1 1 25769803778 (1 ∷ 17179869187 ∷ 0 ∷ 0 ∷ 9 ∷ 9 ∷ 9 ∷ []) (linkFrom 1 (1 ∷ []) 0 (codeOf (mixOf 25769803778))) ≡ 1 ∷ 17179869187 ∷ 0 ∷ 2 ∷ 25769803779 ∷ 0 ∷ 0 ∷ []
 unfolding codeOf mixOf
 second-key = refl

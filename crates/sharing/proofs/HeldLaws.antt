@@ -1,14 +1,13 @@
--- Laws of `Held`: an empty table, where a search can be, and the keys read back. (That the nodes fit into the words is its field `fits`.)
+-- Laws of `Held`: an empty table, where a search can be, a search in a table with more words, and the keys read back. (That the nodes fit into the words is its field `fits`.)
 use Prim.Native.Nat.{ℕ, zero, suc, _+_, _-_, _/_, _%_, _≤_, _<_}
 use mathlib.Core.Path.{_≡_, sym, ap, _∙_}
-use mathlib.Core.Logic.{⊎-elim}
 use mathlib.Core.List.{List, []}
 use native.Mathlib.Omega.{arith}
-use lib.ListN.{length, getD}
+use lib.ListN.{length, getD, take}
+use lib.Seq.{getD-take}
 use Rattle.lists.specs.Parts.{zeros}
-use Rattle.lists.proofs.BoolLaws.{below-or}
-use Rattle.lists.proofs.ZeroLaws.{zeros-length, zeros-at}
-use Rattle.sharing.specs.Table.{mixOf, headOf, codeOf, nodeAt, nodeFrom, linkFrom, Path, Comes, Leads, Held, Searchable, Walked, Holding, Keeping, ReadsKey}
+use Rattle.lists.proofs.ZeroLaws.{zeros-at}
+use Rattle.sharing.specs.Table.{mixOf, headOf, codeOf, nodeAt, nodeFrom, linkFrom, Passes, Path, Comes, Leads, Held, Searchable, Walked, Holding, Keeping, ReadsKey}
 use Rattle.sharing.proofs.HashLaws.{head-below}
 use Rattle.sharing.proofs.PathLaws.{path-more}
 
@@ -16,16 +15,15 @@ use Rattle.sharing.proofs.PathLaws.{path-more}
 pub leads-none : (heads count : ℕ) (t : List ℕ) (a : ℕ) → getD t a 0 ≡ 0 → Leads heads count t a
 leads-none heads count t a e = record { low = omega (arith, e); onward = λ h. absurd (omega (arith, e)) }
 
--- words that are all 0 hold no keys
-pub held-none : (heads n : ℕ) → heads ≤ n → Held heads [] (zeros n)
-held-none heads n h =
+-- words whose heads are 0 hold no keys, whatever stands behind the heads
+pub held-none : (heads : ℕ) (t : List ℕ) → heads ≤ length t → take heads t ≡ zeros heads → Held heads [] t
+held-none heads t h e =
     record {
-      fits = omega (arith, zeros-length n);
-      head = λ a k. leads-none heads 0 (zeros n) a (zeros-at n a);
+      fits = omega arith;
+      head = λ a k. leads-none heads 0 t a (sym (getD-take heads t a 0 k) ∙ ap (λ (l : List ℕ). getD l a 0) e ∙ zeros-at heads a);
       link = λ j b k. absurd (omega arith);
       key = λ j k. absurd (omega arith);
       found = λ j k. absurd (omega arith);
-      free = λ i k. zeros-at n i;
     }
 
 -- what a caller has to know to look for a key
@@ -39,6 +37,10 @@ pub record Stands (heads count : ℕ) (t : List ℕ) (a : ℕ) : Type 0 where
   pub leads : Leads heads count t a
   pub low : a < nodeAt heads count
 
+-- before place n, words that are not 0 stay as they are
+abbrev pub Extends : ℕ → (t t′ : List ℕ) → Type 0
+Extends n t t′ = (i : ℕ) → i < n → 0 < getD t i 0 → getD t′ i 0 ≡ getD t i 0
+
 module _ (heads : ℕ) (keys t : List ℕ) (held : Held heads keys t) where
   stands-more : (a c : ℕ) → Stands heads (length keys) t a → 0 < getD t a 0 → Stands heads (length keys) t (linkFrom heads t a c)
   stands-more a c s h =
@@ -51,12 +53,32 @@ module _ (heads : ℕ) (keys t : List ℕ) (held : Held heads keys t) where
   stands-after key zero a c z d p s = rw (p .0) at s
   stands-after key (suc n) a c z d p s = stands-after key n (linkFrom heads t a c) (c / 2) z d (p .1) (stands-more a c s (p .0 .some))
 
+  -- a search in a table whose words are the same, where they are not 0 and stand before the end of the nodes
+  module _ (key : ℕ) (t′ : List ℕ) (x : Extends (nodeAt heads (length keys)) t t′) where
+    passes-kept : (a : ℕ) → Stands heads (length keys) t a → Passes heads key t a → Passes heads key t′ a
+    passes-kept a s p =
+        let e = x a (s .low) (p .some) in
+        let f = x (nodeFrom heads t a) (omega (arith, s .leads .low, p .some)) (p .used) in
+        record { some = rw e (p .some); used = rw (e, f) (p .used); other = rw (e, f) (p .other) }
+
+    path-kept : (n a c z d : ℕ) → Stands heads (length keys) t a → Path heads key t n a c z d → Path heads key t′ n a c z d
+    path-kept zero a c z d s p = p
+    path-kept (suc n) a c z d s p = (
+      passes-kept a s (p .0),
+      rw (x a (s .low) (p .0 .some)) (path-kept n (linkFrom heads t a c) (c / 2) z d (stands-more a c s (p .0 .some)) (p .1)),
+    )
+
   module _ (some : 0 < heads) (key at code : ℕ) (m : Comes heads key t at code) where
-    pub comes-stands : Stands heads (length keys) t at
-    comes-stands =
+    start : Stands heads (length keys) t (headOf heads (mixOf key))
+    start =
         let h = head-below heads (mixOf key) some in
-        stands-after key (m .steps) (headOf heads (mixOf key)) (codeOf (mixOf key)) at code (m .path)
-        (record { leads = held .head (headOf heads (mixOf key)) h; low = omega (arith, h) })
+        record { leads = held .head (headOf heads (mixOf key)) h; low = omega (arith, h) }
+
+    pub comes-stands : Stands heads (length keys) t at
+    comes-stands = stands-after key (m .steps) (headOf heads (mixOf key)) (codeOf (mixOf key)) at code (m .path) start
+
+    pub comes-kept : (t′ : List ℕ) → Extends (nodeAt heads (length keys)) t t′ → Comes heads key t′ at code
+    comes-kept t′ x = record { steps = m .steps; path = path-kept key t′ x (m .steps) (headOf heads (mixOf key)) (codeOf (mixOf key)) at code start (m .path) }
 
     -- a word that is not 0 leads to a node
     pub node-used : 0 < getD t at 0 → 0 < getD t (nodeFrom heads t at) 0
@@ -117,8 +139,9 @@ module _ (heads k : ℕ) (t : List ℕ) (q : Keeping heads k t) where
   pub key-some : 0 < getD t (nodeAt heads k) 0
   key-some = omega (arith, q .held .key k (q .low))
 
-  -- whichever keys are held, its word says key k of them
+  -- whichever keys are held, its word says key k of them: the search for the key of node k comes to it
   pub key-read : ReadsKey heads k t (getD t (nodeAt heads k) 0 - 1)
   key-read keys held =
-      ⊎-elim (λ h. omega (arith, held .key k h)) (λ h. absurd (omega (arith, held .free (nodeAt heads k) (omega arith), key-some)))
-      (below-or k (length keys))
+      let r = q .held .found k (q .low) in
+      let s = comes-stands heads keys t held (q .some) (getD (q .keys) k 0) (r .at) (r .code) (r .comes) in
+      omega (arith, held .key k (omega (arith, r .word, s .leads .low)))

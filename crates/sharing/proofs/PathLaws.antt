@@ -1,9 +1,8 @@
--- Laws of `Path`: one node more, two searches for the same key, and a search in a table with more words.
-use Prim.Native.Nat.{ℕ, zero, suc, _/_, _<_}
+-- Laws of `Path`: one node more, and two searches for the same key.
+use Prim.Native.Nat.{ℕ, zero, suc, _/_}
 use mathlib.Core.Path.{_≡_, refl, sym, subst, _∙_}
 use mathlib.Core.List.{List}
-use lib.ListN.{getD}
-use Rattle.sharing.specs.Table.{Passes, Path, nodeFrom, linkFrom}
+use Rattle.sharing.specs.Table.{Passes, Path, linkFrom}
 
 module _ (heads key : ℕ) (t : List ℕ) where
   pub path-more : (n a c z d : ℕ) → Path heads key t n a c z d → Passes heads key t z → Path heads key t (suc n) a c (linkFrom heads t z d) (d / 2)
@@ -16,18 +15,3 @@ module _ (heads key : ℕ) (t : List ℕ) where
   path-same zero (suc m) a c z d z′ d′ p q s s′ = absurd (s (subst (Passes heads key t) (p .0) (q .0)))
   path-same (suc n) zero a c z d z′ d′ p q s s′ = absurd (s′ (subst (Passes heads key t) (q .0) (p .0)))
   path-same (suc n) (suc m) a c z d z′ d′ p q s s′ = path-same n m (linkFrom heads t a c) (c / 2) z d z′ d′ (p .1) (q .1) s s′
-
--- words that are not 0 stay as they are
-abbrev pub Extends : (t t′ : List ℕ) → Type 0
-Extends t t′ = (i : ℕ) → 0 < getD t i 0 → getD t′ i 0 ≡ getD t i 0
-
-module _ (heads key : ℕ) (t t′ : List ℕ) (x : Extends t t′) where
-  passes-kept : (a : ℕ) → Passes heads key t a → Passes heads key t′ a
-  passes-kept a p =
-      let e = x a (p .some) in
-      let f = x (nodeFrom heads t a) (p .used) in
-      record { some = rw e (p .some); used = rw (e, f) (p .used); other = rw (e, f) (p .other) }
-
-  pub path-kept : (n a c z d : ℕ) → Path heads key t n a c z d → Path heads key t′ n a c z d
-  path-kept zero a c z d p = p
-  path-kept (suc n) a c z d p = (passes-kept a (p .0), rw (x a (p .0 .some)) (path-kept n (linkFrom heads t a c) (c / 2) z d (p .1)))

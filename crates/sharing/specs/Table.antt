@@ -2,7 +2,7 @@
 -- the number found is the key's `place` and that the keys held are `joined`.
 use Prim.Native.Nat.{ℕ, zero, suc, _+_, _-_, _*_, _/_, _%_, _≤_, _<_}
 use mathlib.Core.Path.{_≡_}
-use mathlib.Core.List.{List}
+use mathlib.Core.List.{List, [], _∷_}
 use lib.Dec.{eqb}
 use lib.ListN.{length, getD}
 use Rattle.lists.specs.Firsts.{place, joined}
@@ -22,6 +22,10 @@ codeOf mixed = mixed / 16777216 + mixed % 16777216 * 1099511627776
 -- where node n stands: its key + 1, its link for a 0, its link for a 1
 abbrev pub nodeAt : ℕ → ℕ → ℕ
 nodeAt heads n = heads + 3 * n
+
+-- the words of a node whose links lead nowhere
+abbrev pub nodeOf : ℕ → List ℕ
+nodeOf key = (key + 1) ∷ 0 ∷ 0 ∷ []
 
 -- the node that the word at place a leads to: words are numbers of nodes + 1
 abbrev pub nodeFrom : ℕ → List ℕ → ℕ → ℕ
@@ -59,14 +63,13 @@ pub record Leads (heads count : ℕ) (t : List ℕ) (a : ℕ) : Type 0 where
   pub low : getD t a 0 ≤ count
   pub onward : 0 < getD t a 0 → a < nodeFrom heads t a
 
--- the words t hold exactly these keys, in this order
+-- the words t hold exactly these keys, in this order; behind their nodes may stand anything
 pub record Held (heads : ℕ) (keys t : List ℕ) : Type 0 where
   pub fits : nodeAt heads (length keys) ≤ length t
   pub head : (a : ℕ) → a < heads → Leads heads (length keys) t a
   pub link : (n b : ℕ) → n < length keys → b < 2 → Leads heads (length keys) t (nodeAt heads n + 1 + b)
   pub key : (n : ℕ) → n < length keys → getD t (nodeAt heads n) 0 ≡ getD keys n 0 + 1
   pub found : (n : ℕ) → n < length keys → Reached heads (getD keys n 0) t n
-  pub free : (i : ℕ) → nodeAt heads (length keys) ≤ i → getD t i 0 ≡ 0
 
 -- where a key may be searched for: some keys are held, there are heads, and a word can hold the key + 1
 pub record Searchable (heads key : ℕ) (t : List ℕ) : Type 0 where
@@ -92,10 +95,11 @@ pub record Holding (heads count key : ℕ) (t : List ℕ) : Type 0 where
 abbrev pub Finds : (heads count key : ℕ) (t t′ : List ℕ) (r : ℕ) → Type 0
 Finds heads count key t t′ r = (keys : List ℕ) → Held heads keys t → length keys ≡ count → (r ≡ place eqb key keys) × Held heads (joined eqb key keys) t′
 
--- more than k keys are held
+-- more than k keys are held, and there are heads
 pub record Keeping (heads k : ℕ) (t : List ℕ) : Type 0 where
   pub keys : List ℕ
   pub held : Held heads keys t
+  pub some : 0 < heads
   pub low : k < length keys
 
 -- r is key k of those held

@@ -3,7 +3,8 @@
 ghost use mathlib.Core.Path.{_≡_};
 ghost use Prim.Native.Nat.{_+_, _<_, _≤_};
 ghost use lib.ListN.{length, set};
-ghost use Rattle.sharing.specs.Table.{mixOf, headOf, codeOf, Searchable, Walked, Holding, Finds, Keeping, ReadsKey};
+ghost use Rattle.lists.specs.Parts.{put};
+ghost use Rattle.sharing.specs.Table.{mixOf, headOf, codeOf, nodeOf, Searchable, Walked, Holding, Finds, Keeping, ReadsKey};
 use lists::index;
 
 // The halves of a key, mixed.
@@ -52,12 +53,15 @@ fn walk(table: &[u64], heads: usize, key: u64) -> usize
     }
 }
 
-// Stores a key at `node`, the place of the node with the given number, and at `at` the word that leads to it.
+// Stores a key at `node`, the place of the node with the given number, and at `at` the word that leads to it. The links of the node are 0:
+// what stood there before does not matter.
 fn add(table: &mut [u64], node: usize, key: u64, at: usize, number: usize)
-    requires { ⌜ (node < length (now table)) × (at < length (now table)) × (key + 1 < 18446744073709551616) × (number + 1 < 18446744073709551616) ⌝ }
-    ensures { λ _. ⌜ now (table .exit) ≡ set (set (now (table .entry)) node (key + 1)) at (number + 1) ⌝ }
+    requires { ⌜ (node + 2 < length (now table)) × (at < length (now table)) × (key + 1 < 18446744073709551616) × (number + 1 < 18446744073709551616) ⌝ }
+    ensures { λ _. ⌜ now (table .exit) ≡ set (put (now (table .entry)) node (nodeOf key)) at (number + 1) ⌝ }
 {
     table[node] = key + 1;
+    table[node + 1] = 0;
+    table[node + 2] = 0;
     table[at] = (number + 1) as u64;
 }
 

@@ -1,5 +1,5 @@
 -- Laws of printing the composition part by part.
-use Prim.Native.Nat.{ℕ, suc, _+_, _-_, _*_, _≤_, _<_}
+use Prim.Native.Nat.{ℕ, suc, _+_, _*_, _≤_, _<_}
 use mathlib.Core.List.{List, [], _∷_, _++_, map}
 use mathlib.Core.Path.{_≡_, refl, sym, ap, _∙_, subst}
 use native.Mathlib.Omega.{arith}
@@ -17,7 +17,7 @@ use Rattle.printing.proofs.PrintsLaws.{Word, prints-then}
 use Rattle.witness.specs.Sections.{Sections}
 use Rattle.witness_words.specs.Loaded.{latchWords}
 use Rattle.composition.specs.Numbering.{inputEntries, latchEntries, inputFirsts, latchFirsts, numbered, leafCount}
-use Rattle.composition.specs.Sharing.{gatesFrom}
+use Rattle.composition.specs.Sharing.{keyOf, gatesFrom}
 use Rattle.composition.specs.Composing.{safety, literalsOf, whole, allDefined, composedGates}
 use Rattle.composition.specs.Printing.{gateLines, symbolLines}
 use Rattle.composition.proofs.KeepLaws.{composed-latches-length}
@@ -28,7 +28,6 @@ use Rattle.gathering.specs.Gathered.{leafCountOf}
 use Rattle.laying.specs.declared.Places.{Places}
 use Rattle.laying.specs.Laid.{Has}
 use Rattle.merging.specs.declared.Merged.{Merged}
-use Rattle.linking.specs.Linked.{keyOf}
 use Rattle.sharing.specs.Table.{Held}
 use Rattle.merging.specs.Merged.{SmallOperands, inputNumbers, latchNumbers, definitionWords}
 use Rattle.naming.specs.Symbols.{SymbolWords, CanPrintSymbols, PrintsSymbols}

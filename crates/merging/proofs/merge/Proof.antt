@@ -3,8 +3,8 @@ use Rattle.merging.proofs.ClearLaws.{clear-can, clear-next, clear-goes}
 use Rattle.merging.proofs.merge.Statement.{statement}
 use Rattle.merging.proofs.merge.Tie as tie
 
-regions-clear-requires : tie.Need-regions-clear-requires
-regions-clear-requires c κs = search clear-can
+clear-regions-requires : tie.Need-clear-regions-requires
+clear-regions-requires c κs = search clear-can
 
 merge-inputs-requires : tie.Need-merge-inputs-requires
 merge-inputs-requires c κs = search clear-next
@@ -16,4 +16,4 @@ returns : tie.Need-returns
 returns c = search clear-goes
 
 pub merge-spec : {M : Type 1} → statement M
-merge-spec = tie.close (tie.spec regions-clear-requires merge-inputs-requires same-length returns)
+merge-spec = tie.close (tie.spec clear-regions-requires merge-inputs-requires same-length returns)
