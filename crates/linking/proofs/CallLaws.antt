@@ -55,12 +55,12 @@ pub record Within (size : ℕ) (q : NamedLatch) : Type 0 where
   pub next : variable (q .next) < size
   pub reset : variable (q .reset) < size
 
--- latches that name variables of a part of the words alone
+-- literals and latches that name variables of a part of the words alone
 module _ (work : List ℕ) (vars size : ℕ) where
   variable-part : (x : ℕ) → x < size → getD (drop vars work) x 0 ≡ getD (part work vars (vars + size)) x 0
   variable-part x h = sym (getD-take (vars + size - vars) (drop vars work) x 0 (omega arith))
 
-  translate-part : (l : ℕ) → variable l < size → translate (drop vars work) l ≡ translate (part work vars (vars + size)) l
+  pub translate-part : (l : ℕ) → variable l < size → translate (drop vars work) l ≡ translate (part work vars (vars + size)) l
   translate-part l h = ap (λ (y : ℕ). 2 * y + l % 2) (variable-part (variable l) h)
 
   pub defined-part : (x : ℕ) (qs : List NamedLatch) → x + length qs ≤ size → Each (Within size) qs

@@ -1,28 +1,16 @@
--- Words that stay where others are stored, and the table lent to the search for a key.
+-- Words that stay where one is stored, and the table lent to the search for a key.
 use Prim.Native.Nat.{ℕ, _+_, _-_, _*_, _≤_, _<_}
 use mathlib.Core.List.{List, [], _∷_, append-nil}
 use mathlib.Core.Path.{_≡_, sym, ap, _∙_}
 use native.Mathlib.Omega.{arith}
 use borrow.Rule.Slice.PartMut.{putMid}
 use lib.Dec.{eqb}
-use lib.ListN.{length, getD, take, drop, set, drop-of-length-le}
-use lib.Seq.{take-take, getD-take}
+use lib.ListN.{length, take, drop, set, drop-of-length-le}
 use Rattle.lists.specs.Parts.{part, put, front}
-use Rattle.lists.proofs.PartLaws.{drop-take, part-length, put-one, put-take, put-drop-end, put-part, put-back}
+use Rattle.lists.proofs.PartLaws.{part-length, put-one, put-take, put-drop-end, put-part, put-back}
 use Rattle.sharing.specs.Table.{Finds}
 use Rattle.linking.specs.Linked.{tableEnd, tableIn, Findable, FindsIn}
 use Rattle.linking.proofs.FirstLaws.{place-low}
-
--- lists that begin in the same way
-module _ (l k : List ℕ) (n : ℕ) (e : take n l ≡ take n k) where
-  pub take-kept : (m : ℕ) → m ≤ n → take m l ≡ take m k
-  take-kept m h = sym (take-take m n l h) ∙ ap (take m) e ∙ take-take m n k h
-
-  pub at-kept : (i : ℕ) → i < n → getD l i 0 ≡ getD k i 0
-  at-kept i h = sym (getD-take n l i 0 h) ∙ ap (λ (x : List ℕ). getD x i 0) e ∙ getD-take n k i 0 h
-
-  pub part-kept : (a m : ℕ) → m ≤ n → part l a m ≡ part k a m
-  part-kept a m h = sym (drop-take a m l) ∙ ap (drop a) (take-kept m h) ∙ drop-take a m k
 
 -- one word stored
 module _ (l : List ℕ) (at x : ℕ) (h : at < length l) where

@@ -13,6 +13,7 @@ use Rattle.lists.specs.Firsts.{setOf}
 use Rattle.lists.specs.Parts.{part, put}
 use Rattle.lists.specs.Sets.{holds, withBit}
 use Rattle.lists.proofs.BitSetLaws.{with-length}
+use Rattle.lists.proofs.KeptLaws.{at-kept}
 use Rattle.lists.proofs.MapLaws.{map-at}
 use Rattle.lists.proofs.PartLaws.{part-length, part-at, put-take, put-drop-end, put-part}
 use Rattle.lists.proofs.RestLaws.{take-next}
@@ -21,7 +22,6 @@ use Rattle.printing.specs.Elements.{elements}
 use Rattle.printing.proofs.SetLaws.{elements-zeros, elements-more, elements-new, elements-old}
 use Rattle.composition.specs.Sharing.{translate}
 use Rattle.linking.specs.Linked.{literalAt}
-use Rattle.linking.proofs.KeptLaws.{at-kept}
 use Rattle.marking.specs.Marked.{literalsAt, CanAddOne, AddedOne, CanAdd, Added}
 use Rattle.marking.proofs.StoreLaws.{given-back}
 
@@ -84,10 +84,10 @@ module _ (from count vars bits words : ℕ) (work₀ : List ℕ) (pre : CanAdd f
       l₀ = getD work₀ (from + i) 0
 
       literal-kept : getD work (from + i) 0 ≡ l₀
-      literal-kept = at-kept work work₀ bits (s .before) (from + i) (omega (arith, pre .first, pre .second))
+      literal-kept = at-kept work work₀ bits (s .before) (from + i) 0 (omega (arith, pre .first, pre .second))
 
       variable-kept : getD work (vars + variable l₀) 0 ≡ getD work₀ (vars + variable l₀) 0
-      variable-kept = at-kept work work₀ bits (s .before) (vars + variable l₀) (pre .literals i more .within)
+      variable-kept = at-kept work work₀ bits (s .before) (vars + variable l₀) 0 (pre .literals i more .within)
 
       -- the composed literal
       abbrev l : ℕ

@@ -1,5 +1,5 @@
 -- For callers: how to meet what the functions ask for, where numbers and table stand, what holds of each number, and that only the variables that a literal names count.
-use Prim.Native.Nat.{ℕ, zero, suc, _+_, _-_, _*_, _%_, _≤_, _<_}
+use Prim.Native.Nat.{ℕ, zero, suc, _+_, _-_, _≤_, _<_}
 use mathlib.Core.Bool.{Bool, true, false, cond}
 use mathlib.Core.List.{List, [], _∷_, map}
 use mathlib.Core.Path.{_≡_, refl, sym, ap, subst, _∙_}
@@ -7,10 +7,10 @@ use native.Mathlib.Omega.{arith}
 use borrow.Author.Tests.{eqb-false}
 use lib.Dec.{eqb}
 use lib.ListN.{length, getD, take, drop, set, length-set}
-use lib.Seq.{getD-take}
 use Rattle.lists.specs.Bits.{odd}
 use Rattle.lists.specs.Parts.{part, put, zeros}
 use Rattle.lists.specs.Tests.{Each}
+use Rattle.lists.proofs.KeptLaws.{take-kept, part-kept}
 use Rattle.lists.proofs.MapLaws.{each-maps}
 use Rattle.lists.proofs.PartLaws.{part-length, part-at, put-length, put-take, put-drop-end, put-part}
 use Rattle.lists.proofs.TestLaws.{each-at, each-so, each-any}
@@ -18,7 +18,7 @@ use Rattle.lists.proofs.ZeroLaws.{zeros-length}
 use Rattle.aiger.specs.Gates.{variable}
 use Rattle.composition.specs.Sharing.{translate}
 use Rattle.joint.specs.Numbers.{Numbers, withNumber, slot, numberAll}
-use Rattle.linking.proofs.KeptLaws.{take-kept, part-kept}
+use Rattle.linking.proofs.CallLaws.{translate-part}
 use Rattle.marking.specs.Marked.{CanNumber, numbersIn, Numbered, literalsAt}
 
 -- what holds of all words of a part, in the form that `CanNumber` and `CanAdd` ask for
@@ -148,15 +148,12 @@ module _
 -- ---- literals
 
 module _ (vars size : ℕ) (work : List ℕ) where
-  translate-part : (l : ℕ) → variable l < size → translate (drop vars work) l ≡ translate (part work vars (vars + size)) l
-  translate-part l h = ap (λ (y : ℕ). 2 * y + l % 2) (sym (getD-take (vars + size - vars) (drop vars work) (variable l) 0 (omega (arith, h))))
-
   -- only the variables that the literals name count
   pub literals-part : (from count : ℕ) → Each (λ l. variable l < size) (part work from (from + count))
       → literalsAt from count vars work ≡ map (translate (part work vars (vars + size))) (part work from (from + count))
   literals-part from count e =
       each-maps (translate (drop vars work)) (translate (part work vars (vars + size))) (part work from (from + count))
-      (each-so (λ l. variable l < size) (λ l. translate (drop vars work) l ≡ translate (part work vars (vars + size)) l) translate-part (part work from (from + count)) e)
+      (each-so (λ l. variable l < size) (λ l. translate (drop vars work) l ≡ translate (part work vars (vars + size)) l) (translate-part work vars size) (part work from (from + count)) e)
 
 -- a region that was cleared
 pub cleared-part : (work : List ℕ) (from to : ℕ) → from ≤ to → to ≤ length work → part (put work from (zeros (to - from))) from to ≡ zeros (to - from)

@@ -1,10 +1,8 @@
 // Leaves are numbered at their first appearance, and composed literals are collected in sets of bits, all in lent words.
 ghost use mathlib.Core.Path.{_≡_};
 ghost use Prim.Native.Nat.{_-_, _≤_};
-ghost use lib.ListN.{length, drop};
+ghost use lib.ListN.{length};
 ghost use Rattle.lists.specs.Parts.{put, zeros};
-ghost use Rattle.composition.specs.Sharing.{translate};
-ghost use Rattle.linking.specs.Linked.{Translatable};
 ghost use Rattle.marking.specs.Marked.{Listed, ListedAt, CanNumberOne, NumberedOne, CanNumber, Numbered, CanAddOne, AddedOne, CanAdd, Added};
 use lists::index;
 
@@ -67,14 +65,6 @@ pub fn number_leaves(
     after
 }
 
-// The composed literal of a joint one; `translate` of crate `linking` is the same.
-fn composed_literal(work: &[u64], vars: usize, literal: u64) -> u64
-    requires { ⌜ Translatable vars (now work) literal ⌝ }
-    ensures { λ r. ⌜ r ≡ translate (drop vars (now (work .entry))) literal ⌝ }
-{
-    2 * work[vars + index(literal / 2)] + literal % 2
-}
-
 // Adds the composed literal of the word at a place to a set of bits, and counts it where it is new.
 fn add_literal(
     work: &mut [u64],
@@ -87,7 +77,7 @@ fn add_literal(
     requires { ⌜ CanAddOne at vars bits end found (now work) ⌝ }
     ensures { λ r. ⌜ AddedOne at vars bits end found (now (work .entry)) (now (work .exit)) r ⌝ }
 {
-    let literal = composed_literal(work, vars, work[at]);
+    let literal = linking::translate(work, vars, work[at]);
     if lists::add(&mut work[bits..end], index(literal)) {
         return found + 1;
     }

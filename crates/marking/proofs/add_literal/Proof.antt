@@ -3,14 +3,14 @@ use Rattle.marking.proofs.AddLaws.{literal-new, literal-old}
 use Rattle.marking.proofs.add_literal.Statement.{statement}
 use Rattle.marking.proofs.add_literal.Tie as tie
 
-mul-composed-literal : tie.Need-mul-composed-literal
-mul-composed-literal c = search needs
+mul-translate : tie.Need-mul-translate
+mul-translate c = search needs
 
-slice-reshared-read-composed-literal : tie.Need-slice-reshared-read-composed-literal
-slice-reshared-read-composed-literal c = search needs
+slice-reshared-read-translate : tie.Need-slice-reshared-read-translate
+slice-reshared-read-translate c = search needs
 
-composed-literal-requires : tie.Need-composed-literal-requires
-composed-literal-requires c κs = search needs
+translate-requires : tie.Need-translate-requires
+translate-requires c κs = search needs
 
 mul-add : tie.Need-mul-add
 mul-add c = search needs
@@ -49,9 +49,9 @@ pub add-literal-spec : {M : Type 1} → statement M
 add-literal-spec =
     tie.close
     (tie.spec
-    mul-composed-literal
-    slice-reshared-read-composed-literal
-    composed-literal-requires
+    mul-translate
+    slice-reshared-read-translate
+    translate-requires
     mul-add
     sub-add
     part-add-start
