@@ -7,7 +7,7 @@ use lib.ListN.{length, getD, take}
 use lib.Seq.{getD-take}
 use Rattle.lists.specs.Parts.{zeros}
 use Rattle.lists.proofs.ZeroLaws.{zeros-at}
-use Rattle.sharing.specs.Table.{mixOf, headOf, codeOf, nodeAt, nodeFrom, linkFrom, Passes, Path, Comes, Leads, Held, Searchable, Walked, Holding, Keeping, ReadsKey}
+use Rattle.sharing.specs.Table.{mixOf, headOf, codeOf, nodeAt, nodeFrom, linkFrom, Passes, Path, Comes, Leads, Held, Searchable, Walked, Holding}
 use Rattle.sharing.proofs.HashLaws.{head-below}
 use Rattle.sharing.proofs.PathLaws.{path-more}
 
@@ -133,15 +133,3 @@ module _ (heads key : ℕ) (t : List ℕ) (at code : ℕ) (m : Comes heads key t
 
   pub walked-found : getD t (nodeAt heads (x - 1)) 0 ≡ key + 1 → Walked heads key t at
   walked-found f = record { code = code; comes = m; stops = λ h. rw e at f }
-
-module _ (heads k : ℕ) (t : List ℕ) (q : Keeping heads k t) where
-  -- node k has a key
-  pub key-some : 0 < getD t (nodeAt heads k) 0
-  key-some = omega (arith, q .held .key k (q .low))
-
-  -- whichever keys are held, its word says key k of them: the search for the key of node k comes to it
-  pub key-read : ReadsKey heads k t (getD t (nodeAt heads k) 0 - 1)
-  key-read keys held =
-      let r = q .held .found k (q .low) in
-      let s = comes-stands heads keys t held (q .some) (getD (q .keys) k 0) (r .at) (r .code) (r .comes) in
-      omega (arith, held .key k (omega (arith, r .word, s .leads .low)))

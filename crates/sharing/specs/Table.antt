@@ -94,14 +94,3 @@ pub record Holding (heads count key : ℕ) (t : List ℕ) : Type 0 where
 -- r is the key's number among those held in t, and t′ holds them and the key
 abbrev pub Finds : (heads count key : ℕ) (t t′ : List ℕ) (r : ℕ) → Type 0
 Finds heads count key t t′ r = (keys : List ℕ) → Held heads keys t → length keys ≡ count → (r ≡ place eqb key keys) × Held heads (joined eqb key keys) t′
-
--- more than k keys are held, and there are heads
-pub record Keeping (heads k : ℕ) (t : List ℕ) : Type 0 where
-  pub keys : List ℕ
-  pub held : Held heads keys t
-  pub some : 0 < heads
-  pub low : k < length keys
-
--- r is key k of those held
-abbrev pub ReadsKey : (heads k : ℕ) (t : List ℕ) (r : ℕ) → Type 0
-ReadsKey heads k t r = (keys : List ℕ) → Held heads keys t → r ≡ getD keys k 0

@@ -4,7 +4,7 @@ ghost use mathlib.Core.Path.{_≡_};
 ghost use Prim.Native.Nat.{_+_, _<_, _≤_};
 ghost use lib.ListN.{length, set};
 ghost use Rattle.lists.specs.Parts.{put};
-ghost use Rattle.sharing.specs.Table.{mixOf, headOf, codeOf, nodeOf, Searchable, Walked, Holding, Finds, Keeping, ReadsKey};
+ghost use Rattle.sharing.specs.Table.{mixOf, headOf, codeOf, nodeOf, Searchable, Walked, Holding, Finds};
 use lists::index;
 
 // The halves of a key, mixed.
@@ -77,12 +77,4 @@ pub fn find_or_add(table: &mut [u64], heads: usize, count: usize, key: u64) -> u
         return count;
     }
     x - 1
-}
-
-// Key k of those held.
-pub fn key_at(table: &[u64], heads: usize, k: usize) -> u64
-    requires { ⌜ Keeping heads k (now table) ⌝ }
-    ensures { λ r. ⌜ ReadsKey heads k (now (table .entry)) r ⌝ }
-{
-    table[heads + 3 * k] - 1
 }
