@@ -252,7 +252,7 @@ fn compose_texts(
     }
 }
 
-// The composition, with the work words left as they are.
+// The composition; the work words are not cleared here.
 fn compose_in(
     model: &[u8],
     witnesses: &[u8],

@@ -10,7 +10,8 @@ use Rattle.lists.specs.Tests.{Each}
 use Rattle.decimal.specs.Printed.{numberLine, textOf}
 use Rattle.printing.specs.Prints.{Prints}
 use Rattle.printing.proofs.PrintsLaws.{Word, Printing, printing-none, printing-more, printing-done}
-use Rattle.composition.specs.Sharing.{Operands, keyOf, gatesFrom}
+use Rattle.composition.specs.Sharing.{Operands, gatesFrom}
+use Rattle.composition.specs.Keys.{keyOf}
 use Rattle.composition.specs.Printing.{gateLines}
 use Rattle.naming.proofs.PieceLaws.{prints-as}
 use Rattle.composed_text.specs.GateText.{Narrow, CanPrintGates, PrintsGates}

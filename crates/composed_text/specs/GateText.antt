@@ -8,7 +8,8 @@ use Rattle.lists.specs.Tests.{Each}
 use Rattle.decimal.specs.Printed.{textOf}
 use Rattle.printing.specs.Prints.{Prints}
 use Rattle.sharing.specs.Table.{Held}
-use Rattle.composition.specs.Sharing.{Operands, keyOf, gatesFrom}
+use Rattle.composition.specs.Sharing.{Operands, gatesFrom}
+use Rattle.composition.specs.Keys.{keyOf}
 use Rattle.composition.specs.Printing.{gateLines}
 
 -- the operand in the lower half of a key is small

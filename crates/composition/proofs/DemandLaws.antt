@@ -41,8 +41,9 @@ all-read (t ∷ ts) ws e =
     let r = all-read ts (b .0) (b .1) in
     rw (← got-same (a .0 ∷ b .0) ws (b .2)) (record { count = ap suc (r .count); granted = (read-granted true t (a .0) (a .1), r .granted) })
 
--- what it means that sections were composed: 17 and 18 do not apply
+-- what it means that sections were composed: 16, 17 and 18 do not apply
 pub record Composed (m : Sections) (ws : List Sections) (s : Sections) : Type 0 where
+  pub mapped : all (mapsRight m) ws ≡ true
   pub fit : gatesFit (leafCount m ws) (composedGates m ws) ≡ true
   pub agreed : agree (allDefined (whole m ws)) ≡ true
   pub is : composed m ws ≡ s
@@ -61,6 +62,7 @@ compose-got m ws s e =
     let e18 = unless-got 17 r18 s fits e17 in
     let e19 = unless-got 18 r19 s agrees e18 in
     record {
+      mapped = unless-test 16 r17 s (all (mapsRight m) ws) e;
       fit = unless-test 17 r18 s fits e17;
       agreed = unless-test 18 r19 s agrees e18;
       is = got-same (composed m ws) s (unless-got 19 (got (composed m ws)) s some e19);
@@ -81,6 +83,7 @@ made model ts text m ws s rm rs few cs c e =
       modelRead = rm;
       witnessesRead = rs;
       textRead = λ witness. ap (readAag free witness) t ∙ read-printed (composed m ws) p witness;
+      mapped = c .mapped;
       composes = cs ∙ ap got (sym (c .is));
       textIs = t;
       means = composed-means m ws (each-so Granted InRange (λ w g. g .range) ws (a .granted)) (c .agreed);

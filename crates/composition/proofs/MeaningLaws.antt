@@ -14,10 +14,10 @@ use Rattle.witness.specs.Sections.{Sections, leaves}
 use Rattle.composition.specs.Numbering.{inputEntries, latchEntries, inputFirsts, latchFirsts, Placed, placed, leafCount}
 use Rattle.composition.specs.Sharing.{gatesAfter, wholeAfter}
 use Rattle.composition.specs.Composing.{Defined, allDefined, definitionOf, sameDefined, agree, composedGates, whole, composed}
-use Rattle.composition.specs.Meaning.{Valued, given, Solution, Takes, Keeps, InputsPlaced, Means}
+use Rattle.composition.specs.Meaning.{Fixed, Valued, given, Solution, Takes, Keeps, InputsPlaced, Means}
 use Rattle.composition.proofs.SolveLaws.{GatesFrom, sections-solved, sections-fixed}
 use Rattle.composition.proofs.ShareLaws.{OperandsFrom, operands-gates}
-use Rattle.composition.proofs.PlacedLaws.{firsts-apart, Seated, placed-seated, placed-everyone}
+use Rattle.composition.proofs.PlacedLaws.{firsts-apart, firsts-owned, Seated, placed-seated, placed-everyone}
 use Rattle.composition.proofs.RangeLaws.{InRange}
 use Rattle.composition.proofs.WholeLaws.{after-order, Matched, Both, Ready, match-all}
 use Rattle.composition.proofs.KeepLaws.{bads-kept, constraints-kept, composed-latches-length, composed-latch-at, Agreed, all-latches-kept}
@@ -115,8 +115,11 @@ module _ (m : Sections) (ws : List Sections) where
             inputs = inputs-placed;
             inputsApart = firsts-apart 1 (inputEntries m 0 ws);
             latchesApart = firsts-apart (suc I) (latchEntries m 0 ws);
+            inputsOwned = firsts-owned 1 (inputEntries m 0 ws) (length (composed m ws .inputs)) composed-inputs;
+            latchesOwned = firsts-owned (suc I) (latchEntries m 0 ws) (length (composed m ws .latches)) composed-latches;
             exist = sections-solved (composed m ws) composed-gates;
             unique = sections-fixed (composed m ws) composed-gates;
             solved = witnesses-solved;
+            solvedOnce = each-so (λ p. InRange (p .sections)) (λ p. Fixed (p .sections)) (λ p h. sections-fixed (p .sections) (h .gates)) (placed m ws) placed-range;
             keeps = composed-keeps;
           }

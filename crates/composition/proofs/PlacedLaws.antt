@@ -2,6 +2,7 @@
 use Prim.Native.Nat.{ℕ, zero, suc, _+_, _-_, _≤_, _<_}
 use mathlib.Core.Bool.{Bool, true, false}
 use mathlib.Core.List.{List, [], _∷_, _++_, map}
+use mathlib.Core.Logic.{⊎-elim}
 use mathlib.Core.Option.{Option}
 use mathlib.Core.Path.{_≡_, refl, ap, ap₂, _∙_}
 use native.Mathlib.Omega.{arith}
@@ -13,13 +14,13 @@ use Rattle.lists.specs.Firsts.{place, appearing}
 use Rattle.lists.specs.Parts.{Bytes}
 use Rattle.lists.specs.Tests.{any, Each}
 use Rattle.lists.proofs.BoolLaws.{true-false, and-left, and-right}
-use Rattle.lists.proofs.FirstLaws.{place-inside, appearing-any, place-apart}
-use Rattle.lists.proofs.TestLaws.{each-so, each-split}
+use Rattle.lists.proofs.FirstLaws.{place-inside, appearing-any, appearing-owned, place-apart}
+use Rattle.lists.proofs.TestLaws.{any-cong, each-so, each-split}
 use Rattle.witness.specs.Sections.{Sections, leaves, latchNames}
 use Rattle.composition.specs.declared.ModelLeaves.{ModelLeaves}
 use Rattle.composition.specs.Mapping.{mapsByName, modelInputs, modelLatches}
 use Rattle.composition.specs.Numbering.{Key, shared, alone, sameKey, Entry, sameEntry, private-input, private-latch, entriesFrom, inputsIn, latchesIn, inputEntries, latchEntries, inputFirsts, latchFirsts, numbered, Placed, placedFrom, placed}
-use Rattle.composition.specs.Meaning.{Apart}
+use Rattle.composition.specs.Meaning.{Apart, Owned}
 use Rattle.composition.proofs.ShareLaws.{Low}
 
 -- ---- which entries are the same
@@ -50,16 +51,17 @@ entry-alike x y z h = ap (λ (k : Key). sameKey k (z .key)) (key-same (x .key) (
 abbrev Among : List Entry → Entry → Type 0
 Among firsts e = any (sameEntry e) firsts ≡ true
 
+-- numbers from n on are the same exactly when they are so from 0 on
+eqb-shift : (n a b : ℕ) → eqb (n + a) (n + b) ≡ eqb a b
+eqb-shift n a b = go (eqb a b) refl
+  where
+    go : (q : Bool) → eqb a b ≡ q → eqb (n + a) (n + b) ≡ q
+    go true e = eq-eqb (n + a) (n + b) (omega (arith, eqb-true a b e))
+    go false e = let d : a ≡ b → ⊥ = eqb-false a b e in ne-eqb (n + a) (n + b) (λ s. d (omega arith))
+
 -- two of the first ones have one variable exactly when they are the same
 numbered-apart : (n : ℕ) (firsts : List Entry) (e f : Entry) → Among firsts e → Among firsts f → eqb (numbered n firsts e) (numbered n firsts f) ≡ sameEntry e f
-numbered-apart n firsts e f h k = go (place sameEntry e firsts) (place sameEntry f firsts) (place-apart sameEntry entry-self entry-alike e f firsts h k)
-  where
-    turn : (a b : ℕ) (q : Bool) → eqb a b ≡ q → eqb (n + a) (n + b) ≡ q
-    turn a b true e = eq-eqb (n + a) (n + b) (omega (arith, eqb-true a b e))
-    turn a b false e = let d : a ≡ b → ⊥ = eqb-false a b e in ne-eqb (n + a) (n + b) (λ s. d (omega arith))
-
-    go : (a b : ℕ) → eqb a b ≡ sameEntry e f → eqb (n + a) (n + b) ≡ sameEntry e f
-    go a b e = turn a b (eqb a b) refl ∙ e
+numbered-apart n firsts e f h k = eqb-shift n (place sameEntry e firsts) (place sameEntry f firsts) ∙ (place-apart sameEntry entry-self entry-alike e f firsts h k)
 
 -- the composed variables of two appearances are the same exactly when item 8 shares them
 pub firsts-apart : (n : ℕ) (es : List Entry) → Apart n (appearing sameEntry [] es) es
@@ -69,6 +71,14 @@ firsts-apart n es =
     each-so (Among firsts) (λ e. Each (λ f. eqb (numbered n firsts e) (numbered n firsts f) ≡ sameEntry e f) es)
     (λ e h. each-so (Among firsts) (λ f. eqb (numbered n firsts e) (numbered n firsts f) ≡ sameEntry e f) (λ f k. numbered-apart n firsts e f h k) es all)
     es all
+
+-- each composed variable is that of some appearance
+pub firsts-owned : (n : ℕ) (es : List Entry) (count : ℕ) → count ≡ length (appearing sameEntry [] es) → Owned n (appearing sameEntry [] es) es count
+firsts-owned n es count e k h =
+    let firsts : List Entry = appearing sameEntry [] es in
+    ⊎-elim (λ less. absurd (omega arith))
+    (λ some. any-cong (λ (x : Entry). eqb (n + place sameEntry x firsts) (n + k)) (λ (x : Entry). eqb (place sameEntry x firsts) k) (λ x. eqb-shift n (place sameEntry x firsts) k) es ∙ some)
+    (appearing-owned sameEntry entry-self [] es k (omega (arith, e)))
 
 -- ---- composed variables of a witness's inputs and latches
 

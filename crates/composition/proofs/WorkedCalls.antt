@@ -87,6 +87,11 @@ twenty-last = refl
 abbrev buffer : Bytes
 buffer = 13 ∷ 97 ∷ 97 ∷ 103 ∷ 32 ∷ 49 ∷ 32 ∷ 48 ∷ 32 ∷ 49 ∷ 32 ∷ 49 ∷ 32 ∷ 48 ∷ 10 ∷ 50 ∷ 32 ∷ 50 ∷ 10 ∷ 50 ∷ 10 ∷ 0 ∷ 127 ∷ 97 ∷ 97 ∷ 103 ∷ 32 ∷ 49 ∷ 32 ∷ 48 ∷ 32 ∷ 49 ∷ 32 ∷ 49 ∷ 32 ∷ 48 ∷ 10 ∷ 50 ∷ 32 ∷ 50 ∷ 10 ∷ 51 ∷ 10 ∷ 120 ∷ []
 
+-- 01's composing case as a call, its texts one behind the other
+pub composing-call : composeCall 1104 82 model (first ++ second) (0 ∷ 20 ∷ 20 ∷ 20 ∷ []) ≡ got together
+unfolding composeCall readAag goodText every numberOf counted withoutLiveness symbolsOf symbolOf latchNumbered gateNumbered wellNumbered literal ordered compose printed decimal
+composing-call = refl
+
 -- an accepted call: the first pair may start anywhere, gaps are allowed, a word after the last pair is not read
 pub accepted-call : composeCall 1104 82 model buffer (1 ∷ 20 ∷ 23 ∷ 20 ∷ 99 ∷ []) ≡ got together
 unfolding composeCall readAag goodText every numberOf counted withoutLiveness symbolsOf symbolOf latchNumbered gateNumbered wellNumbered literal ordered compose printed decimal
@@ -191,3 +196,8 @@ pub work : number (composeTexts 1103 82 model (first ∷ second ∷ [])) ∷ num
     ≡ 15 ∷ 15 ∷ 11 ∷ 9 ∷ 20 ∷ []
 unfolding composeCall readAag goodText every numberOf counted withoutLiveness symbolsOf symbolOf latchNumbered gateNumbered wellNumbered literal ordered compose printed decimal
 work = refl
+
+-- and 7 with the second witness twice
+pub more-work : number (composeTexts 1135 9999 model (first ∷ second ∷ second ∷ [])) ∷ number (composeTexts 1136 9999 model (first ∷ second ∷ second ∷ [])) ∷ [] ≡ 15 ∷ 0 ∷ []
+unfolding composeCall readAag goodText every numberOf counted withoutLiveness symbolsOf symbolOf latchNumbered gateNumbered wellNumbered literal ordered compose printed decimal
+more-work = refl

@@ -119,6 +119,10 @@ no-latch means =
     let h = k .latches .0 .0 .there in
     absurd (omega arith)
 
+-- one latch more, which no witness has
+pub further-latch : {X : Type 0} → Means (one []) both (circuit [] (latch 2 0 to2 ∷ latch 0 0 none ∷ []) [] (2 ∷ 3 ∷ []) [] []) → X
+further-latch means = no (means .latchesOwned 1 (omega arith))
+
 -- a witness whose one input has the composed variable x, in a composition of one input and one latch
 abbrev InputAt : ℕ → Type 0
 InputAt x =

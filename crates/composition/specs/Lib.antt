@@ -2,6 +2,7 @@
 pub mod Mapping
 pub mod Numbering
 pub mod Sharing
+pub mod Keys
 pub mod Composing
 pub mod Printing
 pub mod Calling

@@ -1,6 +1,6 @@
 -- Demand 3 for compositions (01, "The words of demand 3"): an accepted composition has the witnesses' bads, constraints, next and reset values, for all values of its inputs and latches.
 use Prim.Native.Nat.{ℕ, suc, _+_, _≤_, _<_}
-use mathlib.Core.Bool.{Bool, false}
+use mathlib.Core.Bool.{Bool, true, false}
 use mathlib.Core.List.{List, [], _∷_, map}
 use mathlib.Core.Option.{none}
 use mathlib.Core.Path.{_≡_}
@@ -14,7 +14,7 @@ use Rattle.aiger.specs.Gates.{Valuation, value, Follows}
 use Rattle.witness.specs.Sections.{NamedLatch, Sections, leaves, variables}
 use Rattle.witness.specs.Reading.{readAag}
 use Rattle.composition.specs.Numbering.{Entry, sameEntry, inputEntries, latchEntries, inputFirsts, latchFirsts, numbered, Placed, placed}
-use Rattle.composition.specs.Composing.{safety, compose}
+use Rattle.composition.specs.Composing.{mapsRight, safety, compose}
 use Rattle.composition.specs.Printing.{printed}
 use Rattle.composition.specs.Calling.{readAll}
 
@@ -94,6 +94,14 @@ InputsPlaced s p = (k : ℕ) → k < length (p .sections .inputs) → (1 ≤ get
 abbrev pub Apart : ℕ → List Entry → List Entry → Type 0
 Apart n firsts es = Each (λ e. Each (λ f. eqb (numbered n firsts e) (numbered n firsts f) ≡ sameEntry e f) es) es
 
+-- each composed variable, `count` many from n on, is that of some appearance: no input or latch of the composition is without one of a witness
+abbrev pub Owned : ℕ → List Entry → List Entry → ℕ → Type 0
+Owned n firsts es count = (k : ℕ) → k < count → any (λ e. eqb (numbered n firsts e) (n + k)) es ≡ true
+
+-- values of a section's variables that follow the gate equations are fixed by those of its inputs and latches
+abbrev pub Fixed : Sections → Type 0
+Fixed s = (u v : Valuation) → Follows (s .gates) u → Follows (s .gates) v → SameLeaves s u v → (x : ℕ) → x ≤ variables s → u x ≡ v x
+
 -- ---- demand 3
 
 -- what the composition s of the witnesses ws for the model m means
@@ -103,11 +111,14 @@ pub record Means (m : Sections) (ws : List Sections) (s : Sections) : Type 0 whe
   pub inputs : Each (InputsPlaced s) (placed m ws)
   pub inputsApart : Apart 1 (inputFirsts m ws) (inputEntries m 0 ws)
   pub latchesApart : Apart (suc (length (inputFirsts m ws))) (latchFirsts m ws) (latchEntries m 0 ws)
+  pub inputsOwned : Owned 1 (inputFirsts m ws) (inputEntries m 0 ws) (length (s .inputs))
+  pub latchesOwned : Owned (suc (length (inputFirsts m ws))) (latchFirsts m ws) (latchEntries m 0 ws) (length (s .latches))
   -- "inputs and latches fix every value": for all values of them the composition has values, and only these
   pub exist : (a : Valuation) → Solution s a
-  pub unique : (u v : Valuation) → Follows (s .gates) u → Follows (s .gates) v → SameLeaves s u v → (x : ℕ) → x ≤ variables s → u x ≡ v x
+  pub unique : Fixed s
   -- so has each witness, with its inputs and latches at the values of their composed variables
   pub solved : (u : Valuation) → Each (λ p. Solution (p .sections) (given u p)) (placed m ws)
+  pub solvedOnce : Each (λ p. Fixed (p .sections)) (placed m ws)
   pub keeps : (u : Valuation) → Follows (s .gates) u → (xs : List Valued) → map (λ x. x .placed) xs ≡ placed m ws → Each (Takes u) xs → Keeps s u xs
 
 -- Demand 3, of the texts of the model and the witnesses and of the text returned.
@@ -119,6 +130,8 @@ pub record Composition (model : Bytes) (ts : List Bytes) (text : Bytes) : Type 0
   pub witnessesRead : readAll ts ≡ got ws
   -- "A composition is the text returned; its sections are read from it by item 4, with no limit on M or length": as a model or as a witness
   pub textRead : (witness : Bool) → readAag free witness text ≡ got s
+  -- 16 does not apply: no input or latch of a witness has a wrong literal
+  pub mapped : all (mapsRight m) ws ≡ true
   -- the composition by item 8, as it is printed: its names, and nothing besides
   pub composes : compose m ws ≡ got s
   pub textIs : text ≡ printed s

@@ -25,10 +25,6 @@ sameOperands g h = eqb (g .left) (h .left) && eqb (g .right) (h .right)
 abbrev pub unordered : ℕ → ℕ → Operands
 unordered x y = cond (leb x y) (record { left = x; right = y }) (record { left = y; right = x })
 
--- the operands of a composed gate as one number
-abbrev pub keyOf : Operands → ℕ
-keyOf g = g .left + 4294967296 * g .right
-
 -- the operands of a witness's gate in the composition
 abbrev pub translated : List ℕ → Gate → Operands
 translated vars g = unordered (translate vars (g .left)) (translate vars (g .right))

@@ -1,7 +1,8 @@
 -- Worked examples of the definitions.
 use mathlib.Core.List.{[], _∷_}
 use mathlib.Core.Path.{_≡_, refl}
-use Rattle.composition.specs.Sharing.{unordered, keyOf}
+use Rattle.composition.specs.Sharing.{unordered}
+use Rattle.composition.specs.Keys.{keyOf}
 use Rattle.linking.specs.declared.SharedGates.the-variants as gates
 use Rattle.linking.specs.declared.DefinedLatches.the-variants as latches
 use Rattle.linking.specs.Linked.{sharedIn, sharedAnswer}

@@ -13,7 +13,8 @@ use Rattle.lists.specs.Tests.{any, Each}
 use Rattle.lists.proofs.BoolLaws.{to-false, and-left, and-right, and-both}
 use Rattle.lists.proofs.TestLaws.{each-append}
 use Rattle.aiger.specs.Gates.{variable}
-use Rattle.composition.specs.Sharing.{translate, Operands, sameOperands, unordered, keyOf}
+use Rattle.composition.specs.Sharing.{translate, Operands, sameOperands, unordered}
+use Rattle.composition.specs.Keys.{keyOf}
 use Rattle.linking.specs.Linked.{Translatable, keyAt}
 
 -- ---- translate

@@ -20,7 +20,8 @@ use Rattle.lists.proofs.WordLaws.{pairs-more, pairs-end}
 use Rattle.aiger.specs.Gates.{variable, gateFrom}
 use Rattle.sharing.specs.Table.{Held}
 use Rattle.sharing.proofs.HeldLaws.{held-none, holding}
-use Rattle.composition.specs.Sharing.{translate, Operands, sameOperands, keyOf, translated, Shared, shareGates}
+use Rattle.composition.specs.Sharing.{translate, Operands, sameOperands, translated, Shared, shareGates}
+use Rattle.composition.specs.Keys.{keyOf}
 use Rattle.composition.specs.Composing.{gatesFit}
 use Rattle.linking.specs.declared.SharedGates.the-variants as answer
 use Rattle.linking.specs.Linked.{Translatable, TwoLiterals, keyAt, tableEnd, tableIn, Findable, FindsIn, Sharable, sharedIn, sharedAnswer, Linked, Shares}

@@ -10,7 +10,8 @@ use Rattle.lists.specs.Words.{pairsOf}
 use Rattle.aiger.specs.declared.Gate.{Gate}
 use Rattle.aiger.specs.Gates.{variable, gateFrom}
 use Rattle.sharing.specs.Table.{Held, Holding, Finds}
-use Rattle.composition.specs.Sharing.{translate, unordered, keyOf, Shared, shareGates}
+use Rattle.composition.specs.Sharing.{translate, unordered, Shared, shareGates}
+use Rattle.composition.specs.Keys.{keyOf}
 use Rattle.composition.specs.Composing.{gatesFit}
 use Rattle.linking.specs.declared.SharedGates.{SharedGates}
 use Rattle.linking.specs.declared.SharedGates.the-variants as answer

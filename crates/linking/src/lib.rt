@@ -2,7 +2,8 @@
 ghost use mathlib.Core.Path.{_≡_};
 ghost use Prim.Native.Nat.{_+_, _<_, max};
 ghost use lib.ListN.{length, drop};
-ghost use Rattle.composition.specs.Sharing.{translate, unordered, keyOf};
+ghost use Rattle.composition.specs.Sharing.{translate, unordered};
+ghost use Rattle.composition.specs.Keys.{keyOf};
 ghost use Rattle.linking.specs.Linked.{Translatable, TwoLiterals, keyAt, Findable, FindsIn, Sharable, Shares};
 ghost use Rattle.linking.specs.Latches.{Slot, SlotIs, samePair, Storable, DefinesLatch, Definable, Defines};
 use lists::index;

@@ -1,7 +1,8 @@
 -- Laws of `place`, `joined`, `appearing` and `joinedAll`: first appearances. (Ascending sets: SetLaws.)
 use Prim.Native.Nat.{ℕ, suc, _+_, _≤_, _<_}
-use mathlib.Core.Bool.{Bool, true, false, cond, _||_}
+use mathlib.Core.Bool.{Bool, true, false, cond, _||_, or-true}
 use mathlib.Core.List.{List, [], _∷_, _++_, map, append-assoc, append-nil}
+use mathlib.Core.Logic.{_⊎_, inl, inr, ⊎-elim}
 use mathlib.Core.Path.{_≡_, refl, sym, ap, _∙_}
 use native.Mathlib.Omega.{arith}
 use lib.Dec.{eqb}
@@ -10,7 +11,7 @@ use lib.Seq.{getD-append-seam}
 use borrow.Author.Tests.{eq-eqb, ne-eqb}
 use Rattle.lists.specs.Firsts.{place, joined, appearing, joinedAll}
 use Rattle.lists.specs.Tests.{all, any, Each}
-use Rattle.lists.proofs.BoolLaws.{true-false, or-left, or-right}
+use Rattle.lists.proofs.BoolLaws.{true-false, below-or, or-left, or-right}
 use Rattle.lists.proofs.TestLaws.{all-append, any-append, each-append}
 
 -- ---- a list that begins with another
@@ -185,6 +186,33 @@ module _ {A : Type 0} (same : A → A → Bool) where
         go : (q : Bool) → any (same x) ys ≡ q → any (same x) (cond q ys (ys ++ (x ∷ []))) ≡ true
         go true e = e
         go false e = any-append (same x) ys (x ∷ []) ∙ rw (e, self x)
+
+    -- a new one stands at the end
+    pub place-new : (x : A) (ys : List A) → any (same x) ys ≡ false → place same x (ys ++ (x ∷ [])) ≡ length ys
+    place-new x [] h = rw (self x) refl
+    place-new x (y ∷ ys) h = rw (or-left (same x y) (any (same x) ys) h) (ap suc (place-new x ys (or-right (same x y) (any (same x) ys) h)))
+
+    -- one that appears has the place k
+    abbrev standsAt : List A → ℕ → A → Bool
+    standsAt all k y = eqb (place same y all) k
+
+    -- each of those that are kept was kept before, or has the place of one that appears
+    pub appearing-owned : (xs ys : List A) (k : ℕ) → k < length (appearing same xs ys) → (k < length xs) ⊎ (any (standsAt (appearing same xs ys) k) ys ≡ true)
+    appearing-owned xs [] k h = inl h
+    appearing-owned xs (y ∷ ys) k h = go (any (same y) xs) refl (appearing-owned (joined same y xs) ys k h)
+      where
+        new : any (same y) xs ≡ false → length xs ≤ k → k < length (joined same y xs) → standsAt (appearing same xs (y ∷ ys)) k y ≡ true
+        new e low high =
+            let at : place same y (appearing same (joined same y xs) ys) ≡ length xs =
+            place-begins y (joined same y xs) (appearing same (joined same y xs) ys) (appearing-begins (joined same y xs) ys) (joined-any y xs)
+            ∙ (ap (place same y) (joined-new y xs e) ∙ place-new y xs e) in
+            eq-eqb (place same y (appearing same (joined same y xs) ys)) k (omega (arith, at, ap length (joined-new y xs e), length-append xs (y ∷ [])))
+
+        go : (q : Bool) → any (same y) xs ≡ q → (k < length (joined same y xs)) ⊎ (any (standsAt (appearing same (joined same y xs) ys) k) ys ≡ true)
+            → (k < length xs) ⊎ (any (standsAt (appearing same xs (y ∷ ys)) k) (y ∷ ys) ≡ true)
+        go q e (inr f) = inr (rw f (or-true (standsAt (appearing same xs (y ∷ ys)) k y)))
+        go true e (inl f) = inl (omega (arith, f, ap length (joined-has y xs e)))
+        go false e (inl f) = ⊎-elim inl (λ low. inr (rw (new e low f) refl)) (below-or k (length xs))
 
     -- each that appears is the same as one of those that are kept
     pub appearing-any : (xs ys : List A) → Each (λ y. any (same y) (appearing same xs ys) ≡ true) ys

@@ -13,7 +13,8 @@ use Rattle.lists.proofs.TestLaws.{each-so}
 use Rattle.aiger.specs.Gates.{variable, gateFrom}
 use Rattle.witness.specs.Sections.{Sections}
 use Rattle.composition.specs.Numbering.{leafCount}
-use Rattle.composition.specs.Sharing.{Operands, keyOf, Shared, shareGates}
+use Rattle.composition.specs.Sharing.{Operands, Shared, shareGates}
+use Rattle.composition.specs.Keys.{keyOf}
 use Rattle.composition.specs.Composing.{composedGates, gatesFit}
 use Rattle.joint.specs.declared.Literals.the-variants as literals
 use Rattle.joint.specs.Joint.{totalOf, inputCount, gateCount, joint, listOf}

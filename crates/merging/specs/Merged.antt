@@ -13,7 +13,8 @@ use Rattle.witness_text.specs.declared.AagCounts.{AagCounts}
 use Rattle.witness.specs.Sections.{Sections}
 use Rattle.witness_words.specs.Loaded.{latchWords}
 use Rattle.composition.specs.Numbering.{inputEntries, latchEntries, inputFirsts, latchFirsts, numbered, leafCount}
-use Rattle.composition.specs.Sharing.{Operands, keyOf}
+use Rattle.composition.specs.Sharing.{Operands}
+use Rattle.composition.specs.Keys.{keyOf}
 use Rattle.composition.specs.Composing.{composedGates, whole, gatesFit, allDefined, agree, composedLatches, safety, literalsOf}
 use Rattle.composition.proofs.RangeLaws.{InRange}
 use Rattle.joint.specs.declared.Literals.the-variants as literals

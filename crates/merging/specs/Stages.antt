@@ -8,7 +8,7 @@ use Rattle.lists.specs.Parts.{part, zeros}
 use Rattle.witness_text.specs.declared.AagCounts.{AagCounts}
 use Rattle.witness.specs.Sections.{Sections}
 use Rattle.composition.specs.Numbering.{inputFirsts, leafCount}
-use Rattle.composition.specs.Sharing.{keyOf}
+use Rattle.composition.specs.Keys.{keyOf}
 use Rattle.composition.specs.Composing.{composedGates, whole, gatesFit, allDefined, agree}
 use Rattle.joint.specs.Joint.{totalOf, inputCount, gateCount}
 use Rattle.joint.specs.Numbers.{leafVars}

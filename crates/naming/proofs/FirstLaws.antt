@@ -11,7 +11,7 @@ use Rattle.lists.specs.Firsts.{place, joined, appearing}
 use Rattle.lists.specs.Parts.{Bytes}
 use Rattle.lists.specs.Tests.{any}
 use Rattle.lists.proofs.BoolLaws.{or-left, or-right}
-use Rattle.lists.proofs.FirstLaws.{Begins, place-begins, place-inside, joined-has, joined-new, joined-any, appearing-begins}
+use Rattle.lists.proofs.FirstLaws.{place-new, Begins, place-begins, place-inside, joined-has, joined-new, joined-any, appearing-begins}
 use Rattle.composition.specs.Numbering.{Entry, sameEntry, numbered}
 use Rattle.composition.specs.Printing.{symbolLine, symbolLines}
 use Rattle.composition.proofs.PlacedLaws.{entry-self}
@@ -31,12 +31,6 @@ fresh-appear seen (e ∷ es) = go (any (sameEntry e) seen) (fresh-appear seen es
         → appearing sameEntry (cond b seen (seen ++ e ∷ [])) es ≡ seen ++ cond b (fresh seen es) (e ∷ fresh (seen ++ e ∷ []) es)
     go true h k = h
     go false h k = k ∙ append-assoc seen (e ∷ []) (fresh (seen ++ e ∷ []) es)
-
--- a new one stands at the end
-place-end : (e : Entry) (seen : List Entry) → any (sameEntry e) seen ≡ false → place sameEntry e (seen ++ e ∷ []) ≡ length seen
-place-end e [] h = rw (entry-self e) refl
-place-end e (x ∷ xs) h =
-    rw (or-left (sameEntry e x) (any (sameEntry e) xs) h) (ap suc (place-end e xs (or-right (sameEntry e x) (any (sameEntry e) xs) h)))
 
 -- an entry with its number, where the entries `firsts` have the numbers from `first` on
 abbrev pub rowOf : ℕ → List Entry → Entry → Row
@@ -72,7 +66,7 @@ module _ (kind first : ℕ) (firsts : List Entry) where
           let less : place sameEntry e seen < length seen = place-inside sameEntry e seen b in
           rw (ne-eqb (first + place sameEntry e firsts) (first + length seen) (λ s. omega (arith, old, less, s))) (p (h ∙ ap (λ (x : List Entry). appearing sameEntry x es) (joined-has sameEntry e seen b)))
       go false b p q =
-          let new : place sameEntry e firsts ≡ length seen = number ∙ (ap (place sameEntry e) (joined-new sameEntry e seen b) ∙ place-end e seen b) in
+          let new : place sameEntry e firsts ≡ length seen = number ∙ (ap (place sameEntry e) (joined-new sameEntry e seen b) ∙ place-new sameEntry entry-self e seen b) in
           let index : first + length seen - first ≡ length seen = omega arith in
           let next : first + length (seen ++ e ∷ []) ≡ suc (first + length seen) = omega (arith, longer) in
           let others : newLines kind first (suc (first + length seen)) rows ≡ symbolLines kind (suc (length seen)) (map (λ (x : Entry). some (x .name)) (fresh (seen ++ e ∷ []) es)) =

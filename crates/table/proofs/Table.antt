@@ -1,6 +1,6 @@
 -- 01's table ("Tables to prove and to run"), as one: each row in 01's words, of the definitions that the calls promise.
 use mathlib.Core.Bool.{true, false}
-use mathlib.Core.List.{[], _∷_}
+use mathlib.Core.List.{[], _∷_, _++_}
 use mathlib.Core.Path.{_≡_}
 use Rattle.lists.specs.Answer.{got, refused, andThen}
 use Rattle.text.specs.declared.Number.the-variants.{Value, Unreadable}
@@ -12,8 +12,9 @@ use Rattle.step.proofs.Table.{textK, modelK, textQ, modelQ, stepFrom, outcome, 
 use Rattle.cnf.specs.Clauses.{satisfies, Unsatisfiable}
 use Rattle.completeness.specs.Calls.{relationRow, terminalList}
 use Rattle.completeness.proofs.Table.{plain, enough, kBoth, kZero, k-both, k-zero, textZ, z-row-text, qRow, q-row}
-use Rattle.composition.specs.Calling.{composeTexts}
-use Rattle.composition.proofs.Examples.{model, first, second, together, composing-case}
+use Rattle.composition.specs.Calling.{composeCall}
+use Rattle.composition.proofs.Examples.{model, first, second, together}
+use Rattle.composition.proofs.WorkedCalls.{composing-call}
 
 pub record Table : Type 0 where
   -- "Model K: `aag 3 1 1 1 1`, `2`, `4 6`, `6`, `6 4 2`"
@@ -33,7 +34,7 @@ pub record Table : Type 0 where
   pub plus-7 : (numberOf Transition (43 ∷ 55 ∷ []) ≡ Value 7) × (numberOf Witness (43 ∷ 55 ∷ []) ≡ Value 7)
   pub zero-7 : numberOf Witness (48 ∷ 55 ∷ []) ≡ Unreadable
   -- "Composing model `aag 1 0 1 0 0`, `2 2` with witnesses `aag 1 0 1 1 0`, `2 2`, `2` and the same ending in `3` gives"
-  pub composes : composeTexts 1104 82 model (first ∷ second ∷ []) ≡ got together
+  pub composes : composeCall 1104 82 model (first ++ second) (0 ∷ 20 ∷ 20 ∷ 20 ∷ []) ≡ got together
 
 pub table : Table
 table =
@@ -48,5 +49,5 @@ table =
       q-complete = q-row;
       plus-7 = (plus-seven, plus-seven-witness);
       zero-7 = zero-seven-witness;
-      composes = composing-case;
+      composes = composing-call;
     }

@@ -17,7 +17,8 @@ use Rattle.printing.proofs.PrintsLaws.{Word, prints-then}
 use Rattle.witness.specs.Sections.{Sections}
 use Rattle.witness_words.specs.Loaded.{latchWords}
 use Rattle.composition.specs.Numbering.{inputEntries, latchEntries, inputFirsts, latchFirsts, numbered, leafCount}
-use Rattle.composition.specs.Sharing.{keyOf, gatesFrom}
+use Rattle.composition.specs.Sharing.{gatesFrom}
+use Rattle.composition.specs.Keys.{keyOf}
 use Rattle.composition.specs.Composing.{safety, literalsOf, whole, allDefined, composedGates}
 use Rattle.composition.specs.Printing.{gateLines, symbolLines}
 use Rattle.composition.proofs.KeepLaws.{composed-latches-length}
