@@ -222,6 +222,7 @@ fn compose_witnesses(
     ensures { λ r. ⌜ ComposesWitnesses m (now (witnesses .entry)) (now (pairs .entry)) (now (work .entry)) (now (out .entry)) (now (out .exit)) r ⌝ }
 {
     let room = room_beside(m, work.len());
+    // nine for each of at most 64 witnesses
     let mut counts: [u64; 576] = [0; 576];
     let checked = gathering::check_all(witnesses, pairs, room, &mut counts);
     match checked {

@@ -1,11 +1,9 @@
 -- The digits of a number read back: item 1 of 01 takes them, and they are plain bytes of one field of one line.
-use Prim.Native.Nat.{ℕ, zero, suc, _+_, _-_, _*_, _/_, _%_, _^_, _<_}
-use mathlib.Core.Path.{_≡_, refl, sym, ap, _∙_}
-use mathlib.Core.List.{[], _∷_, _++_}
+use Prim.Native.Nat.{ℕ, zero, suc, _+_, _-_, _/_, _%_, _^_, _<_}
+use mathlib.Core.Path.{_≡_, sym, ap, _∙_}
 use mathlib.Core.Bool.{true}
 use native.Mathlib.Omega.{arith}
 use borrow.Author.Tests.{lt-ltb, le-leb, lt-leb, ne-eqb}
-use Rattle.lists.specs.Parts.{Bytes}
 use Rattle.lists.specs.Tests.{all}
 use Rattle.text.specs.declared.Reader.{Reader}
 use Rattle.text.specs.declared.Reader.the-variants.{Transition, Witness}
@@ -15,6 +13,7 @@ use Rattle.scan.specs.Spans.{inLine}
 use Rattle.text.specs.Fields.{inField}
 use Rattle.scan.specs.Allowed.{isAscii, isWitnessByte}
 use Rattle.text.specs.Texts.{goodBytes}
+use Rattle.text.proofs.PlainLaws.{tenfold-snoc}
 use Rattle.text.proofs.NumberLaws.{number-digits, number-of-zero}
 use Rattle.decimal.specs.Decimal.{decimal}
 use Rattle.decimal.proofs.DecimalLaws.{by-tens, decimal-one, decimal-more, decimal-all, decimal-zero, decimal-lead}
@@ -38,10 +37,6 @@ decimal-good-bytes Transition = decimal-all isAscii (λ b h k. le-leb b 127 (ome
 decimal-good-bytes Witness = decimal-all isWitnessByte (λ b h k. simp (le-leb b 127 (omega arith), ne-eqb b 13 (λ e. omega arith)))
 
 -- ---- the number that they write
-
-tenfold-snoc : (v : ℕ) (bs : Bytes) (b : ℕ) → tenfold v (bs ++ (b ∷ [])) ≡ tenfold v bs * 10 + (b - 48)
-tenfold-snoc v [] b = refl
-tenfold-snoc v (x ∷ bs) b = tenfold-snoc (v * 10 + (x - 48)) bs b
 
 pub decimal-value : (n : ℕ) → tenfold 0 (decimal n) ≡ n
 decimal-value =

@@ -13,8 +13,8 @@ use Rattle.lists.specs.Words.{inOrder}
 use Rattle.lists.proofs.AnswerLaws.{andThen-got, got-same}
 use Rattle.lists.proofs.BoolLaws.{and-left, and-right}
 use Rattle.lists.proofs.PairLaws.{pair-rest}
-use Rattle.lists.proofs.RestLaws.{rest-head, rest-more}
-use Rattle.lists.proofs.WordLaws.{pairs-count, pairs-drop}
+use Rattle.lists.proofs.RestLaws.{rest-more}
+use Rattle.lists.proofs.WordLaws.{pairs-count, pairs-at}
 use Rattle.text.specs.Texts.{limited}
 use Rattle.witness.specs.Sections.{Sections}
 use Rattle.witness.specs.Reading.{readAag}
@@ -37,9 +37,6 @@ head-within end size x y pairs h =
     leb-true (x + y) size (and-left (leb (x + y) size) (inOrder (x + y) size pairs) (and-right (leb end x) (leb (x + y) size && inOrder (x + y) size pairs) h))
 
 module _ (buffer : Bytes) (pairs : List ℕ) (w : ℕ) (less : w < length pairs / 2) where
-  text-first : getD (drop w (textsIn buffer pairs)) 0 [] ≡ part buffer (getD pairs (2 * w) 0) (getD pairs (2 * w) 0 + getD pairs (2 * w + 1) 0)
-  text-first = rw (pairs-drop (λ o n. part buffer o (o + n)) w pairs, pair-rest pairs w (omega arith)) refl
-
   module _ (start size : ℕ) (a : start ≡ getD pairs (2 * w) 0) (n : size ≡ getD pairs (2 * w + 1) 0) where
     -- 2: the part of a pair ends within the buffer
     pub text-ends : inOrder 0 (length buffer) pairs ≡ true → start + size ≤ length buffer
@@ -50,7 +47,7 @@ module _ (buffer : Bytes) (pairs : List ℕ) (w : ℕ) (less : w < length pairs 
 
     -- the text of number w
     pub text-is : (r : Bytes) → r ≡ part buffer start (start + size) → r ≡ getD (textsIn buffer pairs) w []
-    text-is r e = e ∙ rw (a, n) (sym text-first ∙ rest-head (textsIn buffer pairs) w [])
+    text-is r e = e ∙ rw (a, n) (sym (pairs-at (λ o m. part buffer o (o + m)) pairs w 0 [] (omega arith)))
 
   -- it is the first of those that are left
   pub texts-left : drop w (textsIn buffer pairs) ≡ getD (textsIn buffer pairs) w [] ∷ drop (w + 1) (textsIn buffer pairs)

@@ -1,4 +1,4 @@
--- For the contracts of the composer's inner functions: a list of the counts of all witnesses, so that their headers are read once.
+-- For the contracts of the composer's inner functions: a list of the counts of all witnesses.
 use Prim.Native.Nat.{ℕ, _+_, _*_, _/_, _≤_, _<_}
 use mathlib.Core.Bool.{true}
 use mathlib.Core.List.{List, [], _∷_}

@@ -1,4 +1,4 @@
-// The counts of all witnesses in a lent list, nine words for each, so that their headers are read once.
+// The counts of all witnesses in a lent list, nine words for each, so that no pass reads headers for them.
 ghost use mathlib.Core.List.{[], _∷_};
 ghost use mathlib.Core.Path.{_≡_};
 ghost use Prim.Native.Nat.{_+_, _*_, _<_};

@@ -139,7 +139,7 @@ fn shift_list(
     shift_range(range, h, work, from, to)
 }
 
-// A list of all witnesses, from a place on. Returns the place after it.
+// A list of all witnesses, from a place on. Returns the place after it. The texts are lent for the contract alone, which says of which witnesses the words are.
 pub fn gather(
     witnesses: &[u8],
     pairs: &[u64],

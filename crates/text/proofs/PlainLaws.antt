@@ -27,7 +27,7 @@ use Rattle.text.proofs.NumberLaws.{number-plain}
 use Rattle.text.proofs.FieldLaws.{blank-above}
 use Rattle.text.proofs.LiteralLaws.{from-within, taken-got, taken-from}
 
-tenfold-snoc : (v : ℕ) (bs : Bytes) (b : ℕ) → tenfold v (bs ++ b ∷ []) ≡ tenfold v bs * 10 + (b - 48)
+pub tenfold-snoc : (v : ℕ) (bs : Bytes) (b : ℕ) → tenfold v (bs ++ b ∷ []) ≡ tenfold v bs * 10 + (b - 48)
 tenfold-snoc v [] b = refl
 tenfold-snoc v (c ∷ bs) b = tenfold-snoc (v * 10 + (c - 48)) bs b
 
