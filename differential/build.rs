@@ -12,9 +12,8 @@ const SOURCE_VARIABLE: &str = "NITRASOVY_RUST_SOURCE";
 const SOURCE_DEFAULT: &str = "../../shared/docs/src/src";
 const LIBRARY_VARIABLE: &str = "NITRASOVY_LIB";
 const LIBRARY_DEFAULT: &str = "../target/staticlib";
-const LIBRARY: &str = "probe";
-/// The composer's export. In a library without it, the reading stands in for the composer.
-const COMPOSER: &str = "probe_compose";
+/// The calls of the library, and the exports of its inner layers for this comparison alone.
+const LIBRARIES: [&str; 2] = ["nitrasovy", "probe"];
 
 /// A published file, and the name of its module in `oracle`.
 const PUBLISHED: [(&str, &str); 2] = [
@@ -24,7 +23,6 @@ const PUBLISHED: [(&str, &str); 2] = [
 
 fn main() {
     println!("cargo::rustc-check-cfg=cfg(published)");
-    println!("cargo::rustc-check-cfg=cfg(composer)");
     println!("cargo::rerun-if-changed=build.rs");
     println!("cargo::rerun-if-changed=access");
 
@@ -42,7 +40,11 @@ fn main() {
     println!("cargo::rustc-cfg=published");
     make_oracle(&manifest, &source);
     if env::var_os("CARGO_FEATURE_STAND_IN").is_none() {
-        link_library(&folder(&manifest, LIBRARY_VARIABLE, LIBRARY_DEFAULT));
+        let folder = folder(&manifest, LIBRARY_VARIABLE, LIBRARY_DEFAULT);
+        println!("cargo::rustc-link-search=native={}", folder.display());
+        for library in LIBRARIES {
+            link_library(&folder, library);
+        }
     }
 }
 
@@ -73,28 +75,17 @@ fn make_oracle(manifest: &Path, source: &Path) {
     write(&out.join("oracle.rs"), &declarations);
 }
 
-fn link_library(folder: &Path) {
-    let archive = folder.join(format!("lib{LIBRARY}.a"));
+fn link_library(folder: &Path, library: &str) {
+    let archive = folder.join(format!("lib{library}.a"));
     println!("cargo::rerun-if-changed={}", archive.display());
     if !archive.is_file() {
         println!(
-            "cargo::error=lib{LIBRARY}.a is absent: make it with 'rt staticlib {LIBRARY}' at the root \
+            "cargo::error=lib{library}.a is absent: make it with 'rt staticlib {library}' at the root \
              of the repository, or name its folder in {LIBRARY_VARIABLE}"
         );
         return;
     }
-    if exports(&archive, COMPOSER) {
-        println!("cargo::rustc-cfg=composer");
-    }
-    println!("cargo::rustc-link-search=native={}", folder.display());
-    println!("cargo::rustc-link-lib=static={LIBRARY}");
-}
-
-/// Whether the library has a function of this name. Names of symbols end at a byte 0.
-fn exports(archive: &Path, name: &str) -> bool {
-    let bytes = fs::read(archive).unwrap_or_else(|error| panic!("{}: {error}", archive.display()));
-    let symbol = [name.as_bytes(), &[0]].concat();
-    bytes.windows(symbol.len()).any(|part| part == symbol)
+    println!("cargo::rustc-link-lib=static={library}");
 }
 
 fn read(path: &Path) -> String {

@@ -44,10 +44,7 @@ mod stand_in {
 mod library {
     use crate::subject::{Part, Rule, Subject, Taken, Written};
 
-    #[cfg(composer)]
     pub const NAME: &str = "the library";
-    #[cfg(not(composer))]
-    pub const NAME: &str = "the library; it has no composer, the reading stands in for that";
 
     #[repr(C)]
     struct ProbeNumber {
@@ -76,8 +73,24 @@ mod library {
         next: usize,
     }
 
+    #[repr(C)]
+    struct NitCursor {
+        at: usize,
+    }
+
+    #[repr(C)]
+    struct NitTaken {
+        reason: u64,
+        value: u64,
+    }
+
     // A slice passes as a pointer and then a length in elements.
     unsafe extern "C" {
+        fn nit_take_literal(
+            text: *const u8,
+            text_length: usize,
+            cursor: *mut NitCursor,
+        ) -> NitTaken;
         fn probe_parse(witness: bool, f: *const u8, f_length: usize) -> ProbeNumber;
         fn probe_take_literal(
             witness: bool,
@@ -133,7 +146,25 @@ mod library {
     }
 
     fn take_literal(rule: Rule, text: &[u8], at: usize) -> Taken {
-        let answer = unsafe { probe_take_literal(witness(rule), text.as_ptr(), text.len(), at) };
+        match rule {
+            Rule::Witness => take_lent(text, at),
+            Rule::Transition => take_by_value(text, at),
+        }
+    }
+
+    /// The call, over a cursor that is lent. It reads by the witness rule.
+    fn take_lent(text: &[u8], at: usize) -> Taken {
+        let mut cursor = NitCursor { at };
+        let answer = unsafe { nit_take_literal(text.as_ptr(), text.len(), &mut cursor) };
+        assert!(matches!(answer.reason, 0 | 8), "a reason of take_literal");
+        Taken {
+            value: (answer.reason == 0).then_some(answer.value),
+            at: cursor.at,
+        }
+    }
+
+    fn take_by_value(text: &[u8], at: usize) -> Taken {
+        let answer = unsafe { probe_take_literal(false, text.as_ptr(), text.len(), at) };
         Taken {
             value: answer.readable.then_some(answer.value),
             at: answer.at,

@@ -9,8 +9,8 @@ use Rattle.witness.specs.declared.ReadAag.{ReadAag}
 use Rattle.witness.specs.Sections.{Sections}
 use Rattle.witness.specs.Reading.{countsRead}
 use Rattle.witness_words.specs.Loaded.{withRoom, Loads}
-use Rattle.probe.specs.FlatModels.{reasonOf}
-use Rattle.probe.specs.FlatWitnesses.{reasonRead, LoadsFlat}
+use Rattle.probe.specs.Flat.{reasonOf}
+use Rattle.probe.specs.FlatLoads.{reasonRead, LoadsFlat}
 
 reason-same : (a : Answer Sections) → reasonRead (countsRead a) ≡ reasonOf a
 reason-same (got x) = refl

@@ -1,6 +1,7 @@
--- The layers' answers as flat structs.
+-- The layers' answers as flat structs and numbers.
 use Prim.Native.Nat.{ℕ}
 use mathlib.Core.Bool.{Bool, true, false}
+use Rattle.lists.specs.Answer.{Answer, got, refused}
 use Rattle.text.specs.declared.Reader.{Reader}
 use Rattle.text.specs.declared.Reader.the-variants.{Transition, Witness}
 use Rattle.text.specs.declared.Number.{Number}
@@ -45,3 +46,8 @@ flatField field.None = record { found = false; start = 0; end = 0; next = 0 }
 abbrev pub flatWritten : Written → ProbeWritten
 flatWritten (Next n) = record { fits = true; next = n }
 flatWritten NoRoom = record { fits = false; next = 0 }
+
+-- 0, or 01's number of the reason
+abbrev pub reasonOf : {A : Type 0} → Answer A → ℕ
+reasonOf (got a) = 0
+reasonOf (refused n) = n

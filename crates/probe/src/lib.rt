@@ -11,9 +11,7 @@ ghost use Rattle.decimal.specs.Decimal.{decimal};
 ghost use Rattle.decimal.specs.Writing.{written, writtenAt};
 ghost use Rattle.probe.specs.Flat.{readerOf, flatNumber, flatLiteral, flatLine, flatField, flatWritten, cursorAt};
 
-mod compositions;
 mod models;
-mod obligations;
 mod witnesses;
 
 use decimal::Written;

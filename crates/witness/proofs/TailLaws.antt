@@ -63,7 +63,7 @@ module _ (n : AagCounts) where
 
   -- ---- the lines taken so far
 
-  tail-only : (ls : List Bytes) → Only 9 (tailOf n ls)
+  pub tail-only : (ls : List Bytes) → Only 9 (tailOf n ls)
   tail-only [] = tt
   tail-only (l ∷ ls) =
       only-cond 9 (endsSymbols l) (got (record { symbols = []; comments = ls })) (andThen (symbolOf n l) (λ s. andThen (tailOf n ls) (withSymbol s))) tt

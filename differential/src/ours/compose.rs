@@ -1,17 +1,16 @@
-//! The compose layer of the proved library. Where the library has no composer, the reading stands
-//! in for it, and the run says so.
+//! The compose layer of the proved library.
 
 use crate::subject::compose::Subject;
 
-#[cfg(composer)]
+#[cfg(not(feature = "stand-in"))]
 use library as chosen;
-#[cfg(not(composer))]
+#[cfg(feature = "stand-in")]
 use stand_in as chosen;
 
 /// The function that is compared.
 pub const SUBJECT: Subject = chosen::SUBJECT;
 
-#[cfg(not(composer))]
+#[cfg(feature = "stand-in")]
 mod stand_in {
     use crate::reading::compose as reading;
     use crate::subject::compose::Subject;
@@ -21,13 +20,13 @@ mod stand_in {
     };
 }
 
-#[cfg(composer)]
+#[cfg(not(feature = "stand-in"))]
 mod library {
     use crate::subject::compose::{Asked, Composed, Lent, Subject};
 
     // A slice passes as a pointer and then a length in elements.
     unsafe extern "C" {
-        fn probe_compose(
+        fn nit_compose(
             model: *const u8,
             model_length: usize,
             witnesses: *const u8,
@@ -48,7 +47,7 @@ mod library {
 
     fn compose(asked: &Asked, lent: &mut Lent) -> Composed {
         unsafe {
-            probe_compose(
+            nit_compose(
                 asked.model.as_ptr(),
                 asked.model.len(),
                 asked.witnesses.as_ptr(),

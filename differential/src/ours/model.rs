@@ -30,7 +30,7 @@ mod library {
 
     // A slice passes as a pointer and then a length in elements, a record as the words of its memory.
     unsafe extern "C" {
-        fn probe_read_transition(
+        fn nit_read_transition(
             text: *const u8,
             text_length: usize,
             gates: *mut u64,
@@ -46,7 +46,7 @@ mod library {
             work: *mut u64,
             work_length: usize,
         ) -> u64;
-        fn probe_step(
+        fn nit_step(
             model: *const u64,
             model_length: usize,
             gates: *const u64,
@@ -71,7 +71,7 @@ mod library {
 
     fn read(text: &[u8], gates: &mut [u64], work: &mut [u64]) -> Read {
         unsafe {
-            probe_read_transition(
+            nit_read_transition(
                 text.as_ptr(),
                 text.len(),
                 gates.as_mut_ptr(),
@@ -111,7 +111,7 @@ mod library {
         input: u64,
     ) -> Stepped {
         unsafe {
-            probe_step(
+            nit_step(
                 record.as_ptr(),
                 record.len(),
                 gates.as_ptr(),

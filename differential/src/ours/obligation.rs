@@ -26,7 +26,7 @@ mod library {
 
     // A slice passes as a pointer and then a length in elements.
     unsafe extern "C" {
-        fn probe_relation_row(
+        fn nit_relation_row(
             model: *const u64,
             model_length: usize,
             gates: *const u64,
@@ -47,7 +47,7 @@ mod library {
             literals: *mut u32,
             literals_length: usize,
         ) -> Made;
-        fn probe_transducer_row(
+        fn nit_transducer_row(
             model: *const u64,
             model_length: usize,
             gates: *const u64,
@@ -70,7 +70,7 @@ mod library {
             literals: *mut u32,
             literals_length: usize,
         ) -> Made;
-        fn probe_terminal(
+        fn nit_terminal(
             model: *const u64,
             model_length: usize,
             gates: *const u64,
@@ -101,7 +101,7 @@ mod library {
     fn make(asked: &Asked, lent: &mut Lent) -> Made {
         match asked.claim {
             Claim::Relation { source, targets } => unsafe {
-                probe_relation_row(
+                nit_relation_row(
                     asked.record.as_ptr(),
                     asked.record.len(),
                     asked.gates.as_ptr(),
@@ -128,7 +128,7 @@ mod library {
                 observed,
                 outcomes,
             } => unsafe {
-                probe_transducer_row(
+                nit_transducer_row(
                     asked.record.as_ptr(),
                     asked.record.len(),
                     asked.gates.as_ptr(),
@@ -153,7 +153,7 @@ mod library {
                 )
             },
             Claim::Terminal { bad_output, states } => unsafe {
-                probe_terminal(
+                nit_terminal(
                     asked.record.as_ptr(),
                     asked.record.len(),
                     asked.gates.as_ptr(),

@@ -27,7 +27,7 @@ mod library {
 
     // A slice passes as a pointer and then a length in elements.
     unsafe extern "C" {
-        fn probe_read_witness(text: *const u8, text_length: usize, witness: bool) -> Read;
+        fn nit_read_witness(text: *const u8, text_length: usize, witness: bool) -> Read;
         fn probe_load_witness(
             text: *const u8,
             text_length: usize,
@@ -43,7 +43,7 @@ mod library {
     pub const SUBJECT: Subject = Subject { read, load };
 
     fn read(text: &[u8], role: Role) -> Read {
-        unsafe { probe_read_witness(text.as_ptr(), text.len(), role == Role::Witness) }
+        unsafe { nit_read_witness(text.as_ptr(), text.len(), role == Role::Witness) }
     }
 
     fn load(text: &[u8], role: Role, words: &mut [u64]) -> u64 {

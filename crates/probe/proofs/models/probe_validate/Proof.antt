@@ -18,8 +18,8 @@ outputs-requires c κs = search needs
 validate-parts-requires : tie.Need-validate-parts-requires
 validate-parts-requires c κs = search needs
 
-flat-verdict-requires : tie.Need-flat-verdict-requires
-flat-verdict-requires c κs = search needs
+reason-of-requires : tie.Need-reason-of-requires
+reason-of-requires c κs = search needs
 
 same-length : tie.Need-same-length
 same-length c = search needs
@@ -36,6 +36,6 @@ probe-validate-spec =
     latches-requires
     outputs-requires
     validate-parts-requires
-    flat-verdict-requires
+    reason-of-requires
     same-length
     returns)

@@ -1,0 +1,47 @@
+-- The reader's and the step's promises, of flat answers; a record that is lent as its words.
+use Prim.Native.Nat.{ℕ}
+use mathlib.Core.List.{List}
+use mathlib.Core.Path.{_≡_, refl, ap, subst, _∙_}
+use lib.ListN.{length}
+use Rattle.lists.specs.Answer.{Answer, got, refused}
+use Rattle.lists.specs.Parts.{part, zeros}
+use Rattle.model.specs.declared.AigerLatch.{AigerLatch}
+use Rattle.model.specs.declared.AigerTransition.{AigerTransition}
+use Rattle.model.specs.declared.Counts.{Counts}
+use Rattle.model.specs.Circuit.{Circuit, recordFrom}
+use Rattle.model.specs.RecordWords.{countsIn, latchesIn, recordIn}
+use Rattle.transition.specs.declared.ReadTransition.{ReadTransition}
+use Rattle.transition.specs.Reading.{readOf, Reads}
+use Rattle.step.specs.declared.Stepped.{Stepped}
+use Rattle.step.specs.Step.{stepOf, answerOf}
+use Rattle.nitrasovy.specs.declared.models.NitRead.{NitRead}
+use Rattle.nitrasovy.specs.declared.models.NitStepped.{NitStepped}
+use Rattle.nitrasovy.specs.Inner.{reasonOf}
+use Rattle.nitrasovy.specs.FlatModels.{flatRead, flatStep, ReadsFlat, StepsFlat}
+
+-- ---- the reader
+
+-- the verdict's number and the record are the flat answer
+flat-parts : (a : Answer Circuit) → _≡_ {A = NitRead} (record { reason = reasonOf (readOf a .verdict); model = readOf a .model }) (flatRead a)
+flat-parts (got c) = refl
+flat-parts (refused n) = refl
+
+pub reads-flat : (a : Answer Circuit) (gates work : List ℕ) (x : ReadTransition) (gates' work' : List ℕ) → Reads a gates (length work) x gates' work'
+    → (k : ℕ) → k ≡ reasonOf (x .verdict) → ReadsFlat a gates work (record { reason = k; model = x .model }) gates' work'
+reads-flat a gates work x gates' work' h k q = record { returns = rw (q, h .returns) (flat-parts a); writes = h .writes; clears = h .clears }
+
+-- ---- the step
+
+module _ (ws : List ℕ) (n : Counts) (a : n ≡ countsIn ws) (is : List ℕ) (b : is ≡ part ws 2 66) (ls : List AigerLatch) (c : ls ≡ latchesIn ws 8 67) (os : List ℕ) (d : os ≡ part ws 84 212) where
+  -- a record taken apart
+  pub record-is : recordFrom n is ls os ≡ recordIn ws
+  record-is = rw (a, b, c, d) refl
+
+  -- what holds of the record of these parts holds of the one in the words
+  pub of-words : (P : AigerTransition → Type 0) → P (recordFrom n is ls os) → P (recordIn ws)
+  of-words P h = subst P record-is h
+
+  pub words-stepped : (g work : List ℕ) (s x : ℕ) (e : Stepped) → answerOf e ≡ stepOf (recordFrom n is ls os) g (length work) s x → (work' : List ℕ) → work' ≡ zeros (length work)
+      → (r : NitStepped) → r ≡ flatStep (answerOf e) → StepsFlat (stepOf (recordIn ws) g (length work) s x) work r work'
+  words-stepped g work s x e k work' z r q =
+      of-words (λ m. StepsFlat (stepOf m g (length work) s x) work r work') (record { returns = q ∙ ap flatStep k; clears = z })

@@ -1,0 +1,19 @@
+-- The answer of the witness reader as a flat struct: reason 0 and the counts, or 01's number of the reason and zeros.
+use lib.ListN.{length}
+use Rattle.lists.specs.Answer.{Answer, got, refused}
+use Rattle.witness.specs.Sections.{Sections, variables}
+use Rattle.nitrasovy.specs.declared.witnesses.NitWitness.{NitWitness}
+
+abbrev pub flatWitness : Answer Sections → NitWitness
+flatWitness (got s) =
+    record {
+      reason = 0;
+      «max_variable» = variables s;
+      inputs = length (s .inputs);
+      latches = length (s .latches);
+      outputs = length (s .outputs);
+      gates = length (s .gates);
+      bads = length (s .bads);
+      constraints = length (s .constraints);
+    }
+flatWitness (refused n) = record { reason = n; «max_variable» = 0; inputs = 0; latches = 0; outputs = 0; gates = 0; bads = 0; constraints = 0 }
