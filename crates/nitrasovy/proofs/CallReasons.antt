@@ -1,4 +1,4 @@
--- Which of 01's numbers each call can answer. 0 is none of them, so that reason 0 says that a call accepted.
+-- Which of 01's numbers each call can answer.
 use Prim.Native.Nat.{ℕ, _+_, _*_, _^_}
 use mathlib.Core.Bool.{Bool, true, false, _&&_}
 use mathlib.Core.List.{List, [], _∷_}
@@ -39,13 +39,10 @@ use Rattle.composition.specs.Numbering.{leafCount}
 use Rattle.composition.specs.Composing.{mapsRight, composedGates, whole, gatesFit, allDefined, agree, safety, isSome, composed, compose}
 use Rattle.composition.specs.Printing.{printed}
 use Rattle.composition.specs.Calling.{readAll, sizes, textsIn, composeCall}
-use Rattle.nitrasovy.specs.Reasons.{Among}
+use Rattle.nitrasovy.specs.Reasons.{readReasons, stepReasons, madeReasons, witnessReasons, composeReasons, Among}
 use Rattle.nitrasovy.proofs.ReasonLaws.{Has, among-got, among-refused, among-unless, among-only, among-then, sections-among, body-among}
 
 -- ---- the transition reader
-
-abbrev pub readReasons : List ℕ
-readReasons = 3 ∷ 4 ∷ 5 ∷ 7 ∷ 8 ∷ 11 ∷ []
 
 five-counts : (ns : Option (List ℕ)) → Among readReasons (modelHeader.fiveCounts ns)
 five-counts none = among-refused readReasons 4 refl
@@ -77,18 +74,12 @@ module _ (reasons : List ℕ) (seven : Has reasons 7) (eleven : Has reasons 11) 
       (among-unless reasons 11 (leb (3 * m .«and_count») (length g)) _ eleven
       (among-unless reasons 11 (wellDefined (circuitOf m g)) _ eleven (among-got reasons (circuitOf m g)))))))
 
-abbrev pub stepReasons : List ℕ
-stepReasons = 7 ∷ 11 ∷ 12 ∷ []
-
 pub step-among : (m : AigerTransition) (g : List ℕ) (w s x : ℕ) → Among stepReasons (stepOf m g w s x)
 unfolding stepOf
 step-among m g w s x =
     among-then stepReasons (checked m g w) _ (checked-among stepReasons refl refl m g w) (λ c.
     among-unless stepReasons 12 (ltb s (2 ^ length (c .latches))) _ refl
     (among-unless stepReasons 12 (ltb x (2 ^ length (c .inputs))) _ refl (among-got stepReasons (outcomeUnder c (stepValues c s x)))))
-
-abbrev pub madeReasons : List ℕ
-madeReasons = 7 ∷ 11 ∷ 13 ∷ 14 ∷ 20 ∷ []
 
 asked-among : (q : Asked) (lent : Lent) → Among madeReasons (asked q lent)
 asked-among q lent =
@@ -152,16 +143,10 @@ module _ (reasons : List ℕ) (three : Has reasons 3) (four : Has reasons 4) (fi
       (among-unless reasons 6 (witnessHeader.withoutLiveness n) _ six
       (lines-among witness n (drop 1 (linesOf t))))))
 
-abbrev pub witnessReasons : List ℕ
-witnessReasons = 3 ∷ 4 ∷ 5 ∷ 6 ∷ 8 ∷ 9 ∷ 10 ∷ 11 ∷ []
-
 pub witness-among : (witness : Bool) (t : Bytes) → Among witnessReasons (readAag limited witness t)
 witness-among = aag-among witnessReasons refl refl refl refl refl refl refl refl
 
 -- ---- the composer
-
-abbrev pub composeReasons : List ℕ
-composeReasons = 1 ∷ 2 ∷ 3 ∷ 4 ∷ 5 ∷ 6 ∷ 8 ∷ 9 ∷ 10 ∷ 11 ∷ 15 ∷ 16 ∷ 17 ∷ 18 ∷ 19 ∷ 20 ∷ []
 
 text-among : (witness : Bool) (t : Bytes) → Among composeReasons (readAag limited witness t)
 text-among = aag-among composeReasons refl refl refl refl refl refl refl refl

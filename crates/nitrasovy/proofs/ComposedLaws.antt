@@ -10,11 +10,11 @@ use Rattle.compose.specs.declared.Composed.{Composed}
 use Rattle.compose.specs.declared.Composed.the-variants as composed
 use Rattle.compose.specs.Promise.{composedAnswer, Composes}
 use Rattle.nitrasovy.specs.declared.compositions.NitComposed.{NitComposed}
-use Rattle.nitrasovy.specs.Reasons.{Among}
+use Rattle.nitrasovy.specs.Reasons.{composeReasons, Among}
 use Rattle.nitrasovy.specs.Inner.{flatBytes}
 use Rattle.nitrasovy.specs.FlatCompositions.{flatComposed, ComposesFlat}
 use Rattle.nitrasovy.proofs.ReasonLaws.{no-reason}
-use Rattle.nitrasovy.proofs.CallReasons.{composeReasons, compose-among}
+use Rattle.nitrasovy.proofs.CallReasons.{compose-among}
 
 flat-answer : (a : Answer Bytes) → flatBytes (composedAnswer a) ≡ flatComposed a
 flat-answer (got text) = refl
@@ -32,6 +32,7 @@ composes-flat model buffer pairs work out work' out' x r k e =
     let flat : r ≡ flatComposed answer = e ∙ ap flatBytes (k .returns) ∙ flat-answer answer in
     record {
       returns = flat;
+      numbered = compose-among (length work) (length out) model buffer pairs;
       result = k .result;
       zero = k .zero;
       means = λ z. k .means (r .bytes) (k .returns ∙ text-accepted answer (compose-among (length work) (length out) model buffer pairs) r flat z);

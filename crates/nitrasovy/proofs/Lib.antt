@@ -5,3 +5,4 @@ pub mod ModelLaws
 pub mod WitnessLaws
 pub mod MadeLaws
 pub mod ComposedLaws
+pub mod Examples

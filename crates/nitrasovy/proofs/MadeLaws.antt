@@ -17,12 +17,12 @@ use Rattle.completeness.specs.Meaning.{RowMeans, TerminalMeans, ToTarget, ToOut
 use Rattle.obligation.specs.declared.Made.{Made}
 use Rattle.obligation.specs.Promise.{answerOf, sizes, Buffers, lentOf, Makes, clausesAfter, MakesRelation, MakesTransducer, MakesTerminal}
 use Rattle.nitrasovy.specs.declared.obligations.NitMade.{NitMade}
-use Rattle.nitrasovy.specs.Reasons.{Among}
+use Rattle.nitrasovy.specs.Reasons.{madeReasons, Among}
 use Rattle.nitrasovy.specs.Inner.{flatTable}
 use Rattle.nitrasovy.specs.FlatObligations.{flatMade, MakesFlat, clausesFlat, RelationFlat, TransducerFlat, TerminalFlat}
 use Rattle.nitrasovy.proofs.ReasonLaws.{no-reason}
 use Rattle.nitrasovy.proofs.ModelLaws.{of-words}
-use Rattle.nitrasovy.proofs.CallReasons.{madeReasons, relation-among, transducer-among, terminal-among}
+use Rattle.nitrasovy.proofs.CallReasons.{relation-among, transducer-among, terminal-among}
 
 flat-sizes : (a : Answer (List Clause)) → flatTable (andThen a (λ cs. got (sizes cs))) ≡ flatMade a
 flat-sizes (got cs) = refl
@@ -39,7 +39,7 @@ module _ (answer : Answer (List Clause)) (among : Among madeReasons answer) (b :
   flat-is = q ∙ ap flatTable (m .answers) ∙ flat-sizes answer
 
   makes-flat : MakesFlat answer b r after
-  makes-flat = record { answers = flat-is; pairs = m .pairs; literals = m .literals; clears = m .clears }
+  makes-flat = record { answers = flat-is; numbered = among; pairs = m .pairs; literals = m .literals; clears = m .clears }
 
   means-flat : (P : List Clause → Type 0) → ((t : Table) → answerOf made ≡ got t → P (clausesAfter t after)) → r .reason ≡ 0 → P (clausesFlat r after)
   means-flat P h z =

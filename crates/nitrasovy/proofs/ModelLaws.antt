@@ -4,20 +4,21 @@ use mathlib.Core.List.{List}
 use mathlib.Core.Path.{_≡_, refl, ap, subst, _∙_}
 use lib.ListN.{length}
 use Rattle.lists.specs.Answer.{Answer, got, refused}
-use Rattle.lists.specs.Parts.{part, zeros}
+use Rattle.lists.specs.Parts.{Bytes, part, zeros}
 use Rattle.model.specs.declared.AigerLatch.{AigerLatch}
 use Rattle.model.specs.declared.AigerTransition.{AigerTransition}
 use Rattle.model.specs.declared.Counts.{Counts}
 use Rattle.model.specs.Circuit.{Circuit, recordFrom}
 use Rattle.model.specs.RecordWords.{countsIn, latchesIn, recordIn}
 use Rattle.transition.specs.declared.ReadTransition.{ReadTransition}
-use Rattle.transition.specs.Reading.{readOf, Reads}
+use Rattle.transition.specs.Reading.{readTransition, readOf, Reads}
 use Rattle.step.specs.declared.Stepped.{Stepped}
 use Rattle.step.specs.Step.{stepOf, answerOf}
 use Rattle.nitrasovy.specs.declared.models.NitRead.{NitRead}
 use Rattle.nitrasovy.specs.declared.models.NitStepped.{NitStepped}
 use Rattle.nitrasovy.specs.Inner.{reasonOf}
 use Rattle.nitrasovy.specs.FlatModels.{flatRead, flatStep, ReadsFlat, StepsFlat}
+use Rattle.nitrasovy.proofs.CallReasons.{read-among, step-among}
 
 -- ---- the reader
 
@@ -26,9 +27,11 @@ flat-parts : (a : Answer Circuit) → _≡_ {A = NitRead} (record { reason = rea
 flat-parts (got c) = refl
 flat-parts (refused n) = refl
 
-pub reads-flat : (a : Answer Circuit) (gates work : List ℕ) (x : ReadTransition) (gates' work' : List ℕ) → Reads a gates (length work) x gates' work'
-    → (k : ℕ) → k ≡ reasonOf (x .verdict) → ReadsFlat a gates work (record { reason = k; model = x .model }) gates' work'
-reads-flat a gates work x gates' work' h k q = record { returns = rw (q, h .returns) (flat-parts a); writes = h .writes; clears = h .clears }
+pub reads-flat : (t : Bytes) (gates work : List ℕ) (x : ReadTransition) (gates' work' : List ℕ) → Reads (readTransition t (length gates) (length work)) gates (length work) x gates' work'
+    → (k : ℕ) → k ≡ reasonOf (x .verdict) → ReadsFlat (readTransition t (length gates) (length work)) gates work (record { reason = k; model = x .model }) gates' work'
+reads-flat t gates work x gates' work' h k q =
+    let a = readTransition t (length gates) (length work) in
+    record { returns = rw (q, h .returns) (flat-parts a); numbered = read-among t (length gates) (length work); writes = h .writes; clears = h .clears }
 
 -- ---- the step
 
@@ -44,4 +47,4 @@ module _ (ws : List ℕ) (n : Counts) (a : n ≡ countsIn ws) (is : List ℕ) (b
   pub words-stepped : (g work : List ℕ) (s x : ℕ) (e : Stepped) → answerOf e ≡ stepOf (recordFrom n is ls os) g (length work) s x → (work' : List ℕ) → work' ≡ zeros (length work)
       → (r : NitStepped) → r ≡ flatStep (answerOf e) → StepsFlat (stepOf (recordIn ws) g (length work) s x) work r work'
   words-stepped g work s x e k work' z r q =
-      of-words (λ m. StepsFlat (stepOf m g (length work) s x) work r work') (record { returns = q ∙ ap flatStep k; clears = z })
+      of-words (λ m. StepsFlat (stepOf m g (length work) s x) work r work') (record { returns = q ∙ ap flatStep k; numbered = step-among _ g (length work) s x; clears = z })

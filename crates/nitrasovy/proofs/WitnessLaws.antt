@@ -1,16 +1,21 @@
 -- The witness reader's promise, of the flat answer.
+use mathlib.Core.Bool.{Bool}
 use mathlib.Core.Path.{_≡_, refl, ap, _∙_}
 use Rattle.lists.specs.Answer.{Answer, got, refused}
+use Rattle.lists.specs.Parts.{Bytes}
+use Rattle.text.specs.Texts.{limited}
 use Rattle.witness.specs.declared.ReadAag.{ReadAag}
 use Rattle.witness.specs.Sections.{Sections}
-use Rattle.witness.specs.Reading.{countsRead}
+use Rattle.witness.specs.Reading.{readAag, countsRead}
 use Rattle.nitrasovy.specs.declared.witnesses.NitWitness.{NitWitness}
 use Rattle.nitrasovy.specs.Inner.{flatCounts}
-use Rattle.nitrasovy.specs.FlatWitnesses.{flatWitness}
+use Rattle.nitrasovy.specs.FlatWitnesses.{flatWitness, CountsFlat}
+use Rattle.nitrasovy.proofs.CallReasons.{witness-among}
 
 flat-answer : (a : Answer Sections) → flatCounts (countsRead a) ≡ flatWitness a
 flat-answer (got s) = refl
 flat-answer (refused n) = refl
 
-pub counts-flat : (a : Answer Sections) (x : ReadAag) → x ≡ countsRead a → (r : NitWitness) → r ≡ flatCounts x → r ≡ flatWitness a
-counts-flat a x e r q = q ∙ ap flatCounts e ∙ flat-answer a
+pub counts-flat : (witness : Bool) (t : Bytes) (x : ReadAag) → x ≡ countsRead (readAag limited witness t) → (r : NitWitness) → r ≡ flatCounts x → CountsFlat (readAag limited witness t) r
+counts-flat witness t x e r q =
+    record { returns = q ∙ ap flatCounts e ∙ flat-answer (readAag limited witness t); numbered = witness-among witness t }

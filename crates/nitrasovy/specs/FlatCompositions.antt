@@ -1,4 +1,4 @@
--- The answer of the composer as a flat struct, and what its export promises.
+-- The answer of the composer (01, item 8) as a flat struct, and what its export promises.
 use Prim.Native.Nat.{ℕ}
 use mathlib.Core.List.{List}
 use mathlib.Core.Path.{_≡_}
@@ -9,6 +9,7 @@ use Rattle.composition.specs.Calling.{textsIn, composeCall}
 use Rattle.composition.specs.Meaning.{Composition}
 use Rattle.compose.specs.Promise.{resultBytes}
 use Rattle.nitrasovy.specs.declared.compositions.NitComposed.{NitComposed}
+use Rattle.nitrasovy.specs.Reasons.{composeReasons, Among}
 
 -- reason 0 and how many bytes the text has, or the number of the reason
 abbrev pub flatComposed : Answer Bytes → NitComposed
@@ -18,6 +19,7 @@ flatComposed (refused n) = record { reason = n; bytes = 0 }
 -- for all arguments
 pub record ComposesFlat (model buffer : Bytes) (pairs work : List ℕ) (out : Bytes) (work' : List ℕ) (out' : Bytes) (r : NitComposed) : Type 0 where
   pub returns : r ≡ flatComposed (composeCall (length work) (length out) model buffer pairs)
+  pub numbered : Among composeReasons (composeCall (length work) (length out) model buffer pairs)
   pub result : out' ≡ resultBytes out (composeCall (length work) (length out) model buffer pairs)
   pub zero : work' ≡ zeros (length work)
   -- demand 3, of the bytes that stand in the result buffer

@@ -1,4 +1,4 @@
--- The answers of the obligations as flat structs, and what their exports promise: the answer, every lent buffer, and on acceptance what the clauses mean (01, demand 3).
+-- The answers of the obligations (01, item 7) as flat structs, and what their exports promise: the answer, every lent buffer, and on acceptance what the clauses mean (01, demand 3).
 use Prim.Native.Nat.{ℕ}
 use mathlib.Core.List.{List}
 use mathlib.Core.Path.{_≡_}
@@ -11,15 +11,17 @@ use Rattle.completeness.specs.Calls.{Asked, circuit, predicate, relationRow, tr
 use Rattle.completeness.specs.Meaning.{RowMeans, TerminalMeans, ToTarget, ToOutcome}
 use Rattle.obligation.specs.Promise.{pairsAfter, literalsAfter, Buffers, lentOf}
 use Rattle.nitrasovy.specs.declared.obligations.NitMade.{NitMade}
+use Rattle.nitrasovy.specs.Reasons.{madeReasons, Among}
 
 -- reason 0 and how many clauses and literals there are, or the number of the reason
 abbrev pub flatMade : Answer (List Clause) → NitMade
 flatMade (got cs) = record { reason = 0; clauses = length cs; literals = length (literalsOf cs) }
 flatMade (refused n) = record { reason = n; clauses = 0; literals = 0 }
 
--- the flat answer of a call whose definition says `answer`, and the buffers after it
+-- the flat answer of a call whose definition says `answer`, which numbers it can have, and the buffers after it
 pub record MakesFlat (answer : Answer (List Clause)) (b : Buffers) (r : NitMade) (after : Buffers) : Type 0 where
   pub answers : r ≡ flatMade answer
+  pub numbered : Among madeReasons answer
   pub pairs : after .pairs ≡ pairsAfter answer (b .pairs)
   pub literals : after .literals ≡ literalsAfter answer (b .literals)
   pub clears : after .work ≡ zeros (length (b .work))

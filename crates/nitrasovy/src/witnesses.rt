@@ -3,7 +3,7 @@ ghost use mathlib.Core.Path.{_≡_};
 ghost use Rattle.text.specs.Texts.{limited};
 ghost use Rattle.witness.specs.Reading.{readAag};
 ghost use Rattle.nitrasovy.specs.Inner.{flatCounts};
-ghost use Rattle.nitrasovy.specs.FlatWitnesses.{flatWitness};
+ghost use Rattle.nitrasovy.specs.FlatWitnesses.{CountsFlat};
 use witness::ReadAag;
 
 // Reason 0 and the counts, or the number of the reason and zeros.
@@ -49,7 +49,7 @@ fn flat_counts(read: ReadAag) -> NitWitness
 // Reads a text as a witness, or as the model of a composition.
 #[no_mangle]
 pub extern "C" fn nit_read_witness(text: &[u8], witness: bool) -> NitWitness
-    ensures { λ r. ⌜ r ≡ flatWitness (readAag limited witness (now (text .entry))) ⌝ }
+    ensures { λ r. ⌜ CountsFlat (readAag limited witness (now (text .entry))) r ⌝ }
 {
     flat_counts(witness::parse_aag(text, witness))
 }
