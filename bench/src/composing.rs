@@ -54,7 +54,9 @@ fn compose(case: &Case, reason: u64) -> Times {
     };
     let composed = ours();
     assert_eq!(composed.reason, reason);
+    let bytes = case.model.len() + case.witnesses.len() + published.len();
     let times = times(
+        bytes,
         || {
             black_box(ours());
         },

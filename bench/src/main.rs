@@ -7,6 +7,10 @@ mod compose_texts;
 #[cfg(published)]
 mod composing;
 #[cfg(published)]
+mod document;
+#[cfg(published)]
+mod literals;
+#[cfg(published)]
 mod measure;
 #[cfg(published)]
 mod obligations;
@@ -28,10 +32,21 @@ fn main() {
     let table = table::Table::new(std::env::args().skip(1).collect());
     println!("ours is {}", differential::ours::NAME);
     reading::measure(&table);
+    literals::measure(&table);
     stepping::measure(&table);
     obligations::measure(&table);
     witnesses::measure(&table);
     composing::measure(&table);
+    if !table.whole() {
+        return;
+    }
+    match document::write(table.kept()) {
+        Ok(path) => println!("\nwritten to {}", path.display()),
+        Err(error) => {
+            eprintln!("docs/BENCHMARKS.md was not written: {error}");
+            std::process::exit(1);
+        }
+    }
 }
 
 #[cfg(not(published))]

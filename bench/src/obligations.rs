@@ -13,7 +13,7 @@ use differential::oracle::obligation::{Published, words};
 use differential::ours::obligation::SUBJECT as OURS;
 use differential::random::Random;
 use differential::reading::obligation::{MOST_OUTCOMES, parts};
-use differential::subject::obligation::{Claim, Lent};
+use differential::subject::obligation::{Asked, Claim, Lent};
 use std::hint::black_box;
 
 /// With 64 inputs and 8 latches.
@@ -248,21 +248,42 @@ fn accepted(call: &Call) -> (usize, Times) {
     let clauses = parts(&ours.pairs.0[..2 * rust.len()], &ours.literals.0).expect("clauses");
     assert_eq!(ours.made.clauses as usize, rust.len());
     assert!(clauses == words(&rust), "the clauses differ");
-    (ours.made.literals as usize, both(call))
+    let returned = 16 * rust.len() + 4 * ours.made.literals as usize;
+    (ours.made.literals as usize, both(call, returned))
 }
 
 /// The times of a call that ours refuses with this number. Without room the Rust makes its clauses.
 fn refused(call: &Call, reason: u64) -> Times {
     assert_eq!(call.answered(OURS.make).made.reason, reason);
     assert_eq!(published(call).make().is_some(), reason == 20);
-    both(call)
+    both(call, 0)
 }
 
 fn published(call: &Call) -> Published {
     Published::of(&call.asked()).expect("a published form")
 }
 
-fn both(call: &Call) -> Times {
+/// The bytes of a call's arguments.
+fn given(asked: &Asked) -> usize {
+    let claims = match asked.claim {
+        Claim::Relation { targets, .. } => size_of_val(targets),
+        Claim::Transducer {
+            observed, outcomes, ..
+        } => size_of_val(observed) + size_of_val(outcomes),
+        Claim::Terminal { states, .. } => size_of_val(states),
+    };
+    let words = [
+        asked.record,
+        asked.gates,
+        asked.relevant,
+        asked.predicate_pairs,
+    ];
+    let words: usize = words.iter().map(|words| size_of_val(*words)).sum();
+    words + size_of_val(asked.predicate_literals) + claims
+}
+
+/// The times, where so many bytes are returned.
+fn both(call: &Call, returned: usize) -> Times {
     let published = published(call);
     let asked = call.asked();
     let mut work = call.record.work.0.clone();
@@ -273,6 +294,7 @@ fn both(call: &Call) -> Times {
         literals: &mut literals,
     };
     times(
+        given(&asked) + returned,
         || {
             black_box((OURS.make)(black_box(&asked), &mut lent));
         },

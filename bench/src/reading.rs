@@ -25,6 +25,7 @@ fn row(table: &Table, name: &str, text: &[u8], reason: u64) {
     assert_eq!((OURS.read)(text, &mut gates, &mut work).reason, reason);
     assert_eq!(parse_ascii_aiger_transition(text).is_ok(), reason == 0);
     let times = times(
+        text.len() + 8 * gates.len(),
         || {
             black_box((OURS.read)(black_box(text), &mut gates, &mut work));
         },

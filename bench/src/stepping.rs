@@ -48,6 +48,11 @@ fn measure_one(table: &Table, name: &str, make: &dyn Fn() -> Circuit) {
     }
 }
 
+/// The bytes of a record and its gate words.
+fn bytes(gates: &[u64]) -> usize {
+    size_of::<Model>() + size_of_val(gates)
+}
+
 fn validate(circuit: &Circuit) -> crate::measure::Times {
     let (model, gates) = (Model::of(circuit), circuit.words());
     let mut work = vec![0; circuit.variables + 1];
@@ -55,6 +60,7 @@ fn validate(circuit: &Circuit) -> crate::measure::Times {
     assert_eq!((OURS.validate)(&model, gates, &mut work), 0);
     assert!(transition.validate().is_ok());
     times(
+        bytes(gates),
         || {
             black_box((OURS.validate)(black_box(&model), gates, &mut work));
         },
@@ -71,6 +77,7 @@ fn step(circuit: &Circuit) -> crate::measure::Times {
     let ours = (OURS.step)(&model, gates, &mut work, 1, 1);
     assert_eq!(Some(ours), oracle::step(&transition, 1, 1));
     times(
+        bytes(gates),
         || {
             black_box((OURS.step)(black_box(&model), gates, &mut work, 1, 1));
         },

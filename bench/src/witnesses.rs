@@ -30,6 +30,7 @@ fn read(text: &[u8], reason: u64) -> Times {
     assert_eq!((OURS.read)(text, Role::Witness).reason, reason);
     assert_eq!(parse_aag(text, true).is_ok(), reason == 0);
     times(
+        text.len(),
         || {
             black_box((OURS.read)(black_box(text), Role::Witness));
         },
@@ -48,6 +49,7 @@ fn load(text: &[u8]) -> Times {
     assert_eq!((OURS.load)(text, Role::Witness, &mut words), 0);
     assert!(words == rust, "the words differ");
     times(
+        text.len() + 8 * rust.len(),
         || {
             black_box((OURS.load)(black_box(text), Role::Witness, &mut words));
         },
