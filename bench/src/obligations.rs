@@ -7,7 +7,7 @@ use crate::stepping::k;
 use crate::table::{Table, Unit};
 use differential::circuit::Circuit;
 use differential::compare::model::circuits::{Order, Shape, arrange};
-use differential::compare::obligation::calls::{Predicate, set_apart};
+use differential::compare::obligation::calls::{Predicate, UNMEASURED, set_apart};
 use differential::compare::obligation::check::Call;
 use differential::oracle::obligation::{Published, words};
 use differential::ours::obligation::SUBJECT as OURS;
@@ -63,6 +63,15 @@ fn rows() -> impl Iterator<Item = Named> {
                 rows.push(named(name, make));
             }
         }
+    }
+    for targets in [1, 256] {
+        let name = format!("relation row: exact room, 20 gates, targets {targets}");
+        rows.push(named(name, move || {
+            exact(plain(&small(8), relation(targets)))
+        }));
+        let name = format!("row: exact room, 1000000 v., targets {targets}");
+        let make = move || plain(&apart(circuit(&KINDS[3], 1_000_000)), relation(targets));
+        rows.push(named(name, move || exact(make())));
     }
     for (clauses, length) in [(64, 16), (1, 1_024)] {
         let name = format!("relation row: 20 gates, predicate {clauses} x {length}");
@@ -149,14 +158,25 @@ fn random() -> Random {
     Random::new(1, "obligations")
 }
 
-/// A call without a predicate, and a work slice of exactly M + 1 words.
+/// A call without a predicate.
 fn plain(circuit: &Circuit, claim: Claim<Vec<u64>>) -> Call {
     made(circuit, &[], Predicate::default(), claim)
 }
 
+/// A call with a work slice of exactly M + 1 words, and as much room as any such call can need.
 fn made(circuit: &Circuit, relevant: &[u64], predicate: Predicate, claim: Claim<Vec<u64>>) -> Call {
     let mut call = Call::new(&mut random(), circuit, relevant, predicate, claim);
     call.record.work.0.truncate(circuit.variables + 1);
+    let most = call.literals.0.len() + UNMEASURED;
+    call.literals.0.resize(most, 0);
+    call
+}
+
+/// The call with exactly the room that its clauses need, so that they are measured first.
+fn exact(mut call: Call) -> Call {
+    let made = call.answered(OURS.make).made;
+    call.pairs.0.truncate(2 * made.clauses as usize);
+    call.literals.0.truncate(made.literals as usize);
     call
 }
 

@@ -16,7 +16,7 @@ use Rattle.cnf.proofs.AppendLaws.{appends-then, space-empty, space-less, space-
 use Rattle.completeness.specs.Lists.{sourceLists, predicateLiteral, gateLists}
 use Rattle.encoding.proofs.SourceLaws.{count}
 use Rattle.claims.specs.Claims.{claimList, stateClaims, outcomeClaims}
-use Rattle.obligation.specs.Appended.{Parts, Claimed, claimedOf, frontLists, claimLists, allLists, FrontReady, ClaimsReady, empty}
+use Rattle.obligation.specs.Appended.{Parts, Claimed, claimedOf, frontLists, claimLists, allLists, claimCount, FrontReady, ClaimsReady, empty}
 
 module _ (p : Parts) (f : FrontReady p) where
   abbrev sources : List (List ℕ)
@@ -56,10 +56,13 @@ module _ (p : Parts) (f : FrontReady p) where
       pub front-appends : (a₃ : Table) (p₃ w₃ : List ℕ) → Appends gates a₂ p₂ w₂ a₃ p₃ w₃ → Appends (frontLists p) empty p₀ w₀ a₃ p₃ w₃
       front-appends a₃ p₃ w₃ k = appends-then sources (clauses ++ gates) empty a₁ a₃ p₀ w₀ p₁ w₁ p₃ w₃ g (appends-then clauses gates a₁ a₂ a₃ p₁ w₁ p₂ w₂ p₃ w₃ h k)
 
-  front-many : length (frontLists p) ≤ 3000072
-  front-many =
+  pub front-most : length (frontLists p) ≤ length (p .currents) + length (p .pairs) / 2 + 3 * p .ands
+  front-most =
       rw (length-append sources (clauses ++ gates), length-append clauses gates)
-      (omega (arith, count (p .currents) (p .source), clauses-many, gates-many, f .few, f .clauses, f .most))
+      (omega (arith, count (p .currents) (p .source), clauses-many, gates-many))
+
+  front-many : length (frontLists p) ≤ 3000072
+  front-many = omega (arith, front-most, f .few, f .clauses, f .most)
 
   module _ (a₁ : Table) (p₀ w₀ p₁ w₁ : List ℕ) (g : Appends (frontLists p) empty p₀ w₀ a₁ p₁ w₁) where
     pub claims-space : Space a₁ 1000000
@@ -82,9 +85,22 @@ module _ (p : Parts) (f : FrontReady p) where
 states-many : (keys states : List ℕ) → length (stateClaims keys states) ≡ length states
 states-many keys states = length-map states (λ s. claimList keys (s ∷ []))
 
+pub count-wide : (words : ℕ) (wide : Bool) → wide ≡ true → words / 3 ≡ claimCount words wide
+count-wide words wide e = rw e refl
+
+pub count-narrow : (words : ℕ) (wide : Bool) → wide ≡ false → words ≡ claimCount words wide
+count-narrow words wide e = rw e refl
+
+pub claims-many : (keys words : List ℕ) (wide : Bool) → length (claimLists (claimedOf keys words wide)) ≡ claimCount (length words) wide
+claims-many keys words true = triples-count (λ t h l. claimList keys (t ∷ h ∷ l ∷ [])) words
+claims-many keys words false = states-many keys words
+
 pub claims-few : (keys words : List ℕ) (wide : Bool) → ClaimsReady (claimedOf keys words wide) → length (claimLists (claimedOf keys words wide)) ≤ 1000000
-claims-few keys words true d = rw (triples-count (λ t h l. claimList keys (t ∷ h ∷ l ∷ [])) words) (omega (arith, d .fewWords))
-claims-few keys words false d = rw (states-many keys words) (d .fewWords)
+claims-few keys words wide d = go wide (claims-many keys words wide)
+  where
+    go : (w : Bool) → length (claimLists (claimedOf keys words wide)) ≡ claimCount (length words) w → length (claimLists (claimedOf keys words wide)) ≤ 1000000
+    go true e = omega (arith, e, d .fewWords)
+    go false e = omega (arith, e, d .fewWords)
 
 module _ (keys words : List ℕ) (at : Table) (s : Space at 1000000) where
   pub states-space : (wide : Bool) → ClaimsReady (claimedOf keys words wide) → Space at (length words)

@@ -1,5 +1,5 @@
 -- For the contracts of the functions that make the clauses once the arguments are accepted.
-use Prim.Native.Nat.{ℕ, _*_, _/_, _≤_, _<_, _^_}
+use Prim.Native.Nat.{ℕ, _+_, _*_, _/_, _≤_, _<_, _^_}
 use mathlib.Core.Bool.{Bool, true, cond}
 use mathlib.Core.List.{List, [], _∷_, _++_, map}
 use mathlib.Core.Path.{_≡_}
@@ -50,6 +50,10 @@ claimedOf keys words wide = record { keys = keys; words = words; wide = wide }
 abbrev pub claimLists : Claimed → List (List ℕ)
 claimLists c = cond (c .wide) (outcomeClaims (c .keys) (c .words)) (stateClaims (c .keys) (c .words))
 
+-- how many claims so many words are
+abbrev pub claimCount : ℕ → Bool → ℕ
+claimCount words wide = cond wide (words / 3) words
+
 -- the lists of literals in their order
 abbrev pub frontLists : Parts → List (List ℕ)
 frontLists p =
@@ -81,6 +85,11 @@ pub record Ready (p : Parts) (c : Claimed) (last : ℕ) : Type 0 where
   pub front : FrontReady p
   pub claims : ClaimsReady c
   pub lowLast : last < 2 ^ 32
+
+-- room for every obligation of so many latches, predicate clauses, gates, keys and claims: so many words for pairs, so many for literals
+pub record Roomy (currents clauses ands keys claims pairs literals : ℕ) : Type 0 where
+  pub pairsSuffice : currents + clauses + 3 * ands + claims + 1 ≤ pairs / 2
+  pub literalsSuffice : currents + 7 * ands + keys * claims + 1025 ≤ literals
 
 -- a table with nothing in it
 abbrev pub empty : Table

@@ -1,8 +1,11 @@
-// The clauses of an accepted obligation: measured first, then written.
+// The clauses of an accepted obligation. Where the room may not suffice they are measured first and then written.
+ghost use mathlib.Core.Bool.{true};
+ghost use mathlib.Core.Path.{_≡_};
+ghost use Prim.Native.Nat.{_*_, _≤_};
 ghost use Rattle.lists.specs.Words.{wordsOf};
 ghost use Rattle.cnf.specs.Simplified.{simplified};
 ghost use Rattle.cnf.specs.Appending.{Appends, Space};
-ghost use Rattle.obligation.specs.Appended.{partsOf, claimedOf, frontLists, claimLists, allLists, FrontReady, ClaimsReady, Ready, MakesAll, empty};
+ghost use Rattle.obligation.specs.Appended.{partsOf, claimedOf, frontLists, claimLists, allLists, claimCount, FrontReady, ClaimsReady, Ready, Roomy, MakesAll, empty};
 use crate::Made;
 use cnf::Table;
 
@@ -93,8 +96,37 @@ fn append_all(
     encoding::push_literal(last, pairs, literals, claimed)
 }
 
-// Makes the clauses: they are measured with buffers that have no room, and then written, or nothing is.
-pub fn make(
+// How many claims so many words are.
+fn claim_count(words: usize, wide: bool) -> usize
+    ensures { λ r. ⌜ r ≡ claimCount words wide ⌝ }
+{
+    if wide {
+        return words / 3;
+    }
+    words
+}
+
+// Whether the room suffices for every obligation of so many parts. A predicate has at most 1,024 literals, a gate's clauses have seven.
+fn roomy(
+    currents: usize,
+    clauses: usize,
+    ands: usize,
+    keys: usize,
+    claims: usize,
+    pairs: usize,
+    literals: usize,
+) -> bool
+    requires { ⌜ (currents ≤ 8) × (clauses ≤ 64) × (ands ≤ 1000000) × (keys * claims ≤ 136000000) × (claims ≤ 1000000) ⌝ }
+    ensures { λ r. ⌜ (r ≡ true → Roomy currents clauses ands keys claims pairs literals) ⌝ }
+{
+    if pairs / 2 < currents + clauses + 3 * ands + claims + 1 {
+        return false;
+    }
+    currents + 7 * ands + keys * claims + 1025 <= literals
+}
+
+// Makes the clauses where they may not fit: they are measured with buffers that have no room, and then written, or nothing is.
+fn make_measured(
     currents: &[u64],
     source: u64,
     inputs: &[u64],
@@ -154,4 +186,69 @@ pub fn make(
         literals,
     );
     Made::Clauses(made)
+}
+
+// Makes the clauses: at once where there is room for any such obligation, else measured first.
+pub fn make(
+    currents: &[u64],
+    source: u64,
+    inputs: &[u64],
+    relevant: &[u64],
+    predicate: &[u64],
+    terms: &[u32],
+    gates: &[u64],
+    ands: usize,
+    keys: &[u64],
+    words: &[u64],
+    wide: bool,
+    last: u64,
+    pairs: &mut [u64],
+    literals: &mut [u32],
+) -> Made
+    requires { ⌜ Ready (partsOf (now currents) source (now inputs) (now relevant) (now predicate) (now terms) (now gates) ands) (claimedOf (now keys) (now words) wide) last ⌝ }
+    ensures { λ r. ⌜ MakesAll (wordsOf simplified (allLists (partsOf (now (currents .entry)) source (now (inputs .entry)) (now (relevant .entry)) (now (predicate .entry)) (now (terms .entry)) (now (gates .entry)) ands) (claimedOf (now (keys .entry)) (now (words .entry)) wide) last)) (now (pairs .entry)) (now (literals .entry)) r (now (pairs .exit)) (now (literals .exit)) ⌝ }
+{
+    let claims = claim_count(words.len(), wide);
+    if roomy(
+        currents.len(),
+        predicate.len() / 2,
+        ands,
+        keys.len(),
+        claims,
+        pairs.len(),
+        literals.len(),
+    ) {
+        return Made::Clauses(append_all(
+            currents,
+            source,
+            inputs,
+            relevant,
+            predicate,
+            terms,
+            gates,
+            ands,
+            keys,
+            words,
+            wide,
+            last,
+            pairs,
+            literals,
+        ));
+    }
+    make_measured(
+        currents,
+        source,
+        inputs,
+        relevant,
+        predicate,
+        terms,
+        gates,
+        ands,
+        keys,
+        words,
+        wide,
+        last,
+        pairs,
+        literals,
+    )
 }

@@ -56,8 +56,12 @@ impl Predicate {
     }
 }
 
+/// With so many literals of room more than its clauses can have, an obligation is not measured.
+pub const UNMEASURED: usize = 1_025;
+
 impl Call {
-    /// A call with enough room, and a little more: the elements past the result show.
+    /// A call with enough room, and a little more: the elements past the result show. Every second one has
+    /// so much more that the library writes without measuring first.
     pub fn new(
         random: &mut Random,
         circuit: &Circuit,
@@ -66,7 +70,7 @@ impl Call {
         claim: Claim<Vec<u64>>,
     ) -> Self {
         let (pairs, literals) = most_room(circuit, &predicate, &claim);
-        let more = random.below(3);
+        let more = random.below(3) + UNMEASURED * random.below(2);
         let mut record = Record::of(random, circuit);
         record.work = Words::garbage(random, circuit.variables + 1 + more);
         Self {

@@ -1,29 +1,16 @@
-use Rattle.cnf.proofs.AppendLaws.{appends-start}
-use Rattle.obligation.proofs.PromiseLaws.{no-pairs, no-words, made-all}
 use borrow.Author.Needs.{needs}
+use Rattle.obligation.proofs.RoomLaws.{roomy-asks, made-roomy}
 use Rattle.obligation.proofs.making.make.Statement.{statement}
 use Rattle.obligation.proofs.making.make.Tie as tie
-use Rattle.obligation.proofs.making.make.Reads as reads
-use Rattle.obligation.proofs.making.make.Lts as lts
-use Rattle.obligation.proofs.making.append_all.Reads as append-all-reads
 
-slice-aggregate-append-all : tie.Need-slice-aggregate-append-all
-slice-aggregate-append-all c = search needs
+claim-count-requires : tie.Need-claim-count-requires
+claim-count-requires c κs = search needs
 
-slice-aggregate-append-all-2 : tie.Need-slice-aggregate-append-all-2
-slice-aggregate-append-all-2 c = search needs
+roomy-requires : tie.Need-roomy-requires
+roomy-requires c κs = roomy-asks _ _ _ (c .before .before .before .before .before .before .before .before .before .before .before .pre) _ (c .claim-count .ensures)
 
 append-all-requires : tie.Need-append-all-requires
-append-all-requires c κs = c .before .before .before .before .before .before .before .before .before .before .before .before .pre
-
-returns : tie.Need-returns
-returns c = no-pairs _ _ _ _ _ _ _ _ (appends-start _ _ _ _ _ _ (c .before .before .before .before .append-all .ensures)) (c .if1 .taken)
-
-returns-2 : tie.Need-returns-2
-returns-2 c = no-words _ _ _ _ _ _ _ _ (appends-start _ _ _ _ _ _ (c .before .before .before .before .before .before .append-all .ensures)) (c .before .before .if1 .left) (c .if2 .taken)
-
-append-all-requires-2 : tie.Need-append-all-requires-2
-append-all-requires-2 c κs = c .before .before .before .before .before .before .before .before .before .before .before .before .before .before .before .before .before .before .before .before .before .pre
+append-all-requires c κs = search needs
 
 same-length : tie.Need-same-length
 same-length c = search needs
@@ -31,20 +18,34 @@ same-length c = search needs
 same-length-2 : tie.Need-same-length-2
 same-length-2 c = search needs
 
-returns-3 : tie.Need-returns-3
-returns-3 c = let m = c .before .before .before .before .before .before .before .before .before .before .before .before .before in
-    made-all _ _ _ _ _ _ _ _ (appends-start _ _ _ _ _ _ (m .append-all .ensures)) (c .before .before .before .before .before .before .before .before .before .if1 .left) (c .before .before .before .before .before .before .before .if2 .left) _ _ _ (appends-start _ _ _ _ _ _ (c .before .before .before .before .append-all2 .ensures))
+returns : tie.Need-returns
+returns c =
+    made-roomy _ _ _ (c .before .before .before .before .before .before .before .before .before .before .before .before .before .before .before .before .before .before .before .before .pre) _ _ _ (c .before .before .before .before .before .before .before .before .before .claim-count .ensures)
+    (c .before .before .before .before .before .before .before .before .roomy .ensures (c .before .before .before .before .before .before .before .if1 .taken)) _ _ _ (c .before .before .before .before .append-all .ensures)
+
+make-measured-requires : tie.Need-make-measured-requires
+make-measured-requires c κs = search needs
+
+same-length-3 : tie.Need-same-length-3
+same-length-3 c = search needs
+
+same-length-4 : tie.Need-same-length-4
+same-length-4 c = search needs
+
+returns-2 : tie.Need-returns-2
+returns-2 c = search needs
 
 pub make-spec : {M : Type 1} → statement M
 make-spec =
     tie.close
     (tie.spec
-    slice-aggregate-append-all
-    slice-aggregate-append-all-2
+    claim-count-requires
+    roomy-requires
     append-all-requires
-    returns
-    returns-2
-    append-all-requires-2
     same-length
     same-length-2
-    returns-3)
+    returns
+    make-measured-requires
+    same-length-3
+    same-length-4
+    returns-2)
