@@ -6,3 +6,4 @@ pub mod CheckedLaws
 pub mod ValueLaws
 pub mod WordsLaws
 pub mod Examples
+pub mod MemoryLaws

@@ -2,9 +2,19 @@
 ghost use mathlib.Core.Path.{_≡_};
 ghost use Prim.Native.Nat.{_<_};
 ghost use Rattle.lists.specs.Parts.{part};
-ghost use Rattle.model.specs.RecordWords.{countsIn, latchIn, latchesIn};
+ghost use Rattle.model.specs.RecordWords.{latchCountIn, countsIn, latchIn, latchesIn};
 use crate::AigerLatch;
 use crate::Counts;
+
+// The number of latches; a record that is cut has none.
+fn latch_count(words: &[u64]) -> usize
+    ensures { λ r. ⌜ r ≡ latchCountIn (now (words .entry)) ⌝ }
+{
+    if words.len() < 213 {
+        return 0;
+    }
+    lists::index(lists::word(words, 66))
+}
 
 pub fn counts(words: &[u64]) -> Counts
     ensures { λ r. ⌜ r ≡ countsIn (now (words .entry)) ⌝ }
@@ -12,7 +22,7 @@ pub fn counts(words: &[u64]) -> Counts
     Counts {
         max_variable: lists::index(lists::word(words, 0)),
         inputs: lists::index(lists::word(words, 1)),
-        latches: lists::index(lists::word(words, 66)),
+        latches: latch_count(words),
         outputs: lists::index(lists::word(words, 83)),
         ands: lists::index(lists::word(words, 212)),
     }

@@ -2,7 +2,7 @@
 use Prim.Native.Nat.{ℕ, _^_}
 use mathlib.Core.Bool.{Bool, true, false}
 use mathlib.Core.List.{List}
-use mathlib.Core.Path.{_≡_, sym, _∙_}
+use mathlib.Core.Path.{_≡_, sym, ap, _∙_}
 use native.Mathlib.Omega.{arith}
 use lib.Dec.{ltb}
 use lib.ListN.{length}
@@ -11,7 +11,9 @@ use Rattle.lists.specs.Parts.{Bytes}
 use Rattle.lists.proofs.AnswerLaws.{unless-then}
 use Rattle.model.specs.Circuit.{Circuit, recordOf}
 use Rattle.transition.specs.Reading.{readTransition, gatesAfter}
-use Rattle.transition.proofs.ValidLaws.{read-valid}
+use Rattle.model.specs.declared.AigerTransition.{AigerTransition}
+use Rattle.model.specs.RecordWords.{recordIn, wordsIn}
+use Rattle.transition.proofs.ValidLaws.{read-valid, read-words}
 use Rattle.step.specs.declared.Outcome.{Outcome}
 use Rattle.step.specs.Step.{stepValues, outcomeUnder, stepOf}
 
@@ -30,6 +32,10 @@ module _ (t : Bytes) (g : List ℕ) (w : ℕ) (c : Circuit) (e : readTransition 
   read-steps =
       rw (read-valid t g w c e w')
       (unless-then 7 (ltb (c .variables) w') c (λ d. unless 12 (ltb s (2 ^ length (d .latches))) (unless 12 (ltb x (2 ^ length (d .inputs))) (got (outcomeUnder d (stepValues d s x))))))
+
+  -- the same with the record lent as the words of its memory
+  pub words-step : stepOf (recordIn (wordsIn (recordOf c))) (gatesAfter (got c) g) w' s x ≡ stepOf (recordOf c) (gatesAfter (got c) g) w' s x
+  words-step = ap (λ (m : AigerTransition). stepOf m (gatesAfter (got c) g) w' s x) (read-words t g w c e)
 
   pub never-11 : stepOf (recordOf c) (gatesAfter (got c) g) w' s x ≡ refused 11 → ⊥
   never-11 k =

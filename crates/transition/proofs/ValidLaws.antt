@@ -5,13 +5,15 @@ use mathlib.Core.List.{List}
 use mathlib.Core.Path.{_≡_, refl, ap, _∙_}
 use native.Mathlib.Omega.{arith}
 use lib.Dec.{leb, ltb}
-use lib.ListN.{length, take, drop, replicate, length-append}
+use lib.ListN.{length, take, drop, replicate, length-append, length-replicate}
 use lib.Seq.{take-append-seam}
 use borrow.Author.Tests.{leb-true, ltb-true, le-leb}
 use Rattle.lists.specs.Answer.{refused, Answer, got, unless, andThen}
 use Rattle.lists.specs.Parts.{Bytes, front, zeros}
 use Rattle.lists.specs.Words.{triplesOf, wordsOf}
 use Rattle.lists.proofs.AnswerLaws.{got-same, unless-test, unless-got, andThen-got}
+use Rattle.lists.proofs.PartLaws.{front-length}
+use Rattle.lists.proofs.ZeroLaws.{zeros-length}
 use Rattle.lists.proofs.WordLaws.{triples-append, triples-back, words-length}
 use Rattle.text.specs.declared.Reader.the-variants.{Transition}
 use Rattle.text.specs.Lines.{linesOf}
@@ -25,7 +27,9 @@ use Rattle.model.specs.declared.Counts.{Counts}
 use Rattle.model.specs.Circuit.{Circuit, circuitOf, recordOf, noLatch, wordsOfGates}
 use Rattle.model.specs.Limits.{counted, wellDefined}
 use Rattle.model.specs.Checked.{checked, countsOf}
+use Rattle.model.specs.RecordWords.{recordIn, wordsIn}
 use Rattle.model.proofs.CountLaws.{counted-facts}
+use Rattle.model.proofs.MemoryLaws.{record-back}
 use Rattle.model.proofs.ValueLaws.{Sound, Fixes, sound-fixes}
 use Rattle.model_text.specs.Header.{headerOf}
 use Rattle.sections.specs.SectionLines.{literalLine, gateLine}
@@ -141,6 +145,17 @@ module _ (t : Bytes) (g : List ℕ) (w : ℕ) (c : Circuit) (e : readTransition 
   read-sound =
       let k = counted-facts (accepted .counts) (accepted .within) in
       record { well = accepted .well; sum = omega (arith, as-counted .inputs, as-counted .latches, as-counted .gates, as-counted .variables, k .sum) }
+
+  -- every array of the record has its length, so that the words of its memory, which a caller lends to later calls, stand for it
+  pub read-words : recordIn (wordsIn (recordOf c)) ≡ recordOf c
+  read-words =
+      let k = counted-facts (accepted .counts) (accepted .within) in
+      record-back (recordOf c)
+      (record {
+        inputs = front-length (zeros 64) (c .inputs) (rw (zeros-length 64) (omega (arith, as-counted .inputs, k .inputs))) ∙ zeros-length 64;
+        latches = front-length (replicate 8 noLatch) (c .latches) (rw (length-replicate 8 noLatch) (omega (arith, as-counted .latches, k .latches))) ∙ length-replicate 8 noLatch;
+        outputs = front-length (zeros 128) (c .outputs) (rw (zeros-length 128) (omega (arith, as-counted .outputs, k .outputs))) ∙ zeros-length 128;
+      })
 
   -- the record that was read, with its gate words, is valid: later calls refuse it for too short a work slice alone
   pub read-valid : (w' : ℕ) → checked (recordOf c) (gatesAfter (got c) g) w' ≡ unless 7 (ltb (c .variables) w') (got c)

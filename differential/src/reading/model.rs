@@ -4,7 +4,7 @@
 use super::{field, good_text, line, number};
 use crate::circuit::Circuit;
 use crate::subject::Rule;
-use crate::subject::model::{Latch, Model, Read, Stepped};
+use crate::subject::model::{Latch, Model, Read, Stepped, WORDS};
 
 /// The five counts of a header, in its order.
 #[derive(Clone, Copy, Debug, Eq, PartialEq)]
@@ -223,17 +223,13 @@ pub fn record_circuit(model: &Model, gates: &[u64], work_words: usize) -> Result
     }
 }
 
-/// The same of a record that is lent as words: one that is not there is 0, and inputs or outputs
-/// that do not reach their counts are 11.
+/// The same of a record that is lent as words. One that is cut is 11, after 7 for its word M.
 pub fn words_circuit(record: &[u64], gates: &[u64], work_words: usize) -> Result<Circuit, u64> {
-    let model = Model::in_words(record);
-    let circuit = record_circuit(&model, gates, work_words)?;
-    let reaches = |start: usize, count: usize| count == 0 || start + count <= record.len();
-    if reaches(2, circuit.inputs.len()) && reaches(84, circuit.outputs.len()) {
-        Ok(circuit)
-    } else {
-        Err(11)
+    let mut model = Model::in_words(record);
+    if record.len() < WORDS {
+        model.latch_count = 0;
     }
+    record_circuit(&model, gates, work_words)
 }
 
 /// The validation of a record that is lent as words.

@@ -15,6 +15,9 @@ word-requires-2 c κs = search needs
 index-requires-2 : tie.Need-index-requires-2
 index-requires-2 c κs = search needs
 
+latch-count-requires : tie.Need-latch-count-requires
+latch-count-requires c κs = search needs
+
 word-requires-3 : tie.Need-word-requires-3
 word-requires-3 c κs = search needs
 
@@ -27,12 +30,6 @@ word-requires-4 c κs = search needs
 index-requires-4 : tie.Need-index-requires-4
 index-requires-4 c κs = search needs
 
-word-requires-5 : tie.Need-word-requires-5
-word-requires-5 c κs = search needs
-
-index-requires-5 : tie.Need-index-requires-5
-index-requires-5 c κs = search needs
-
 returns : tie.Need-returns
 returns c = search counts-from
 
@@ -44,10 +41,9 @@ counts-spec =
     index-requires
     word-requires-2
     index-requires-2
+    latch-count-requires
     word-requires-3
     index-requires-3
     word-requires-4
     index-requires-4
-    word-requires-5
-    index-requires-5
     returns)
