@@ -99,7 +99,7 @@ module _ (w₀ lits : List ℕ) (x : ℕ) (w : List ℕ) (k : ℕ) (l : Loading 
 
 -- ---- run_gates
 
-computed-append : (v : Valuation) (gs hs : List Gate) → computed v (gs ++ hs) ≡ computed (computed v gs) hs
+pub computed-append : (v : Valuation) (gs hs : List Gate) → computed v (gs ++ hs) ≡ computed (computed v gs) hs
 computed-append v [] hs = refl
 computed-append v (g ∷ gs) hs = computed-append (assign v (variable (g .output)) (value v (g .left) && value v (g .right))) gs hs
 

@@ -1,0 +1,3 @@
+-- Laws of the passes over records, and a slice that is lent again.
+pub mod PassLaws
+pub mod Again
