@@ -1,6 +1,6 @@
 use lib.ListN.{length, replicate, length-replicate}
 use Rattle.aiger.specs.Gates.{gateFrom}
-use Rattle.records.proofs.PassLaws.{begin-refused, begin-undefined, begin-valued, begin-computed, begin-checking}
+use Rattle.records.proofs.BeginLaws.{begin-refused, begin-undefined, begin-valued, begin-computed, begin-checking}
 use borrow.Author.Needs.{needs}
 use Rattle.records.proofs.begin.Statement.{statement}
 use Rattle.records.proofs.begin.Tie as tie
@@ -33,7 +33,17 @@ same-length : tie.Need-same-length
 same-length c = search needs
 
 returns : tie.Need-returns
-returns c = λ gs e. begin-refused (c .before .before .before .before .before .before .before .before .before .before .before .before .before .before .before .args .model .now) _ (c .before .before .before .before .before .before .before .before .before .before .before .before .counts .ensures) _ (c .before .before .before .before .before .before .before .before .before .before .before .inputs .ensures) _ (c .before .before .before .before .before .before .before .before .before .before .latches .ensures) _ (c .before .before .before .before .before .outputs .ensures) (c .before .before .before .before .before .before .before .before .before .before .before .before .before .before .before .args .records) (length (c .before .before .before .before .before .before .before .before .before .before .before .before .before .before .before .args .work .now)) _ (c .before .before .before .before .limits-hold .ensures) gs e (c .before .before .before .before .before .before .before .before .before .before .before .before .before .before .before .args .state) (c .before .before .before .before .before .before .before .before .before .before .before .before .before .before .before .args .input) _ (c .before .before .verdict .given .1) _ (c .before .before .before .before .before .before .before .before .clear .ensures) _ (c .refuse .ensures)
+returns c =
+    let e = c .before .before in
+    let v = e .before .before in
+    let o = v .before in
+    let z = o .before .before .before in
+    let l = z .before .before in
+    let i = l .before in
+    let n = i .before in
+    let s = n .before .before .before in
+    λ gs same. begin-refused (s .args .model .now) _ (n .counts .ensures) _ (i .inputs .ensures) _ (l .latches .ensures) _ (o .outputs .ensures) (s .args .records)
+    (length (s .args .work .now)) _ (v .limits-hold .ensures) gs same (s .args .state) (s .args .input) _ (e .verdict .given .1) _ (z .clear .ensures) _ (c .refuse .ensures)
 
 enum-told : tie.Need-enum-told
 enum-told c = search needs
@@ -48,22 +58,77 @@ same-length-2 : tie.Need-same-length-2
 same-length-2 c = search needs
 
 returns-2 : tie.Need-returns-2
-returns-2 c = λ gs e. begin-undefined (c .before .before .before .before .before .before .before .before .before .before .before .before .before .before .before .before .before .before .before .args .model .now) _ (c .before .before .before .before .before .before .before .before .before .before .before .before .before .before .before .before .counts .ensures) _ (c .before .before .before .before .before .before .before .before .before .before .before .before .before .before .before .inputs .ensures) _ (c .before .before .before .before .before .before .before .before .before .before .before .before .before .before .latches .ensures) _ (c .before .before .before .before .before .before .before .before .before .outputs .ensures) (c .before .before .before .before .before .before .before .before .before .before .before .before .before .before .before .before .before .before .before .args .records) (length (c .before .before .before .before .before .before .before .before .before .before .before .before .before .before .before .before .before .before .before .args .work .now)) _ (c .before .before .before .before .before .before .before .before .limits-hold .ensures) gs e (c .before .before .before .before .before .before .before .before .before .before .before .before .before .before .before .before .before .before .before .args .state) (c .before .before .before .before .before .before .before .before .before .before .before .before .before .before .before .before .before .before .before .args .input) (c .before .before .before .before .before .before .enum-told .given .1) _ (c .before .before .before .before .before .before .before .before .before .before .before .before .clear .ensures) _ _ (c .before .before .before .before .define-leaves .ensures) (c .before .before .before .before .define-leaves .kept .1 .1 .1 .0) (c .before .if1 .taken) _ (c .refuse2 .ensures)
+returns-2 c =
+    let p = c .before in
+    let d = p .before .before .before in
+    let t = d .before .before in
+    let v = t .before .before in
+    let o = v .before in
+    let z = o .before .before .before in
+    let l = z .before .before in
+    let i = l .before in
+    let n = i .before in
+    let s = n .before .before .before in
+    λ gs same. begin-undefined (s .args .model .now) _ (n .counts .ensures) _ (i .inputs .ensures) _ (l .latches .ensures) _ (o .outputs .ensures) (s .args .records)
+    (length (s .args .work .now)) _ (v .limits-hold .ensures) gs same (s .args .state) (s .args .input) (t .enum-told .given .1) _ (z .clear .ensures) _ _
+    (d .define-leaves .ensures) (d .define-leaves .kept .1 .1 .1 .0) (p .if1 .taken) _ (c .refuse2 .ensures)
 
 compute-requires : tie.Need-compute-requires
-compute-requires c κs = begin-valued (c .before .before .before .before .before .before .before .before .before .before .before .before .before .before .before .before .before .before .before .before .before .args .model .now) _ (c .before .before .before .before .before .before .before .before .before .before .before .before .before .before .before .before .before .before .counts .ensures) _ (c .before .before .before .before .before .before .before .before .before .before .before .before .before .before .before .before .before .inputs .ensures) _ (c .before .before .before .before .before .before .before .before .before .before .before .before .before .before .before .before .latches .ensures) _ (c .before .before .before .before .before .before .before .before .before .before .before .outputs .ensures) (c .before .before .before .before .before .before .before .before .before .before .before .before .before .before .before .before .before .before .before .before .before .args .records) (length (c .before .before .before .before .before .before .before .before .before .before .before .before .before .before .before .before .before .before .before .before .before .args .work .now)) _ (c .before .before .before .before .before .before .before .before .before .before .limits-hold .ensures) (replicate (c .before .before .before .before .before .before .before .before .before .before .before .before .before .before .before .before .before .before .before .before .before .args .records) (gateFrom 0 0 0)) (length-replicate _ _) (c .before .before .before .before .before .before .before .before .before .before .before .before .before .before .before .before .before .before .before .before .before .args .state) (c .before .before .before .before .before .before .before .before .before .before .before .before .before .before .before .before .before .before .before .before .before .args .input) (c .before .before .before .before .before .before .before .before .enum-told .given .1) _ (c .before .before .before .before .before .before .before .before .before .before .before .before .before .before .clear .ensures) _ _ (c .before .before .before .before .before .before .define-leaves .ensures) (c .before .before .before .before .before .before .define-leaves .kept .1 .1 .1 .0) (c .before .before .before .if1 .left) (c .before .if2 .taken)
+compute-requires c κs =
+    let q = c .before in
+    let p = q .before .before in
+    let d = p .before .before .before in
+    let t = d .before .before in
+    let v = t .before .before in
+    let o = v .before in
+    let z = o .before .before .before in
+    let l = z .before .before in
+    let i = l .before in
+    let n = i .before in
+    let s = n .before .before .before in
+    begin-valued (s .args .model .now) _ (n .counts .ensures) _ (i .inputs .ensures) _ (l .latches .ensures) _ (o .outputs .ensures) (s .args .records)
+    (length (s .args .work .now)) _ (v .limits-hold .ensures) (replicate (s .args .records) (gateFrom 0 0 0)) (length-replicate _ _) (s .args .state) (s .args .input)
+    (t .enum-told .given .1) _ (z .clear .ensures) _ _ (d .define-leaves .ensures) (d .define-leaves .kept .1 .1 .1 .0) (p .if1 .left) (q .if2 .taken)
 
 same-length-3 : tie.Need-same-length-3
 same-length-3 c = search needs
 
 returns-3 : tie.Need-returns-3
-returns-3 c = λ gs e. begin-computed (c .before .before .before .before .before .before .before .before .before .before .before .before .before .before .before .before .before .before .before .before .before .before .before .before .args .model .now) _ (c .before .before .before .before .before .before .before .before .before .before .before .before .before .before .before .before .before .before .before .before .before .counts .ensures) _ (c .before .before .before .before .before .before .before .before .before .before .before .before .before .before .before .before .before .before .before .before .inputs .ensures) _ (c .before .before .before .before .before .before .before .before .before .before .before .before .before .before .before .before .before .before .before .latches .ensures) _ (c .before .before .before .before .before .before .before .before .before .before .before .before .before .before .outputs .ensures) (c .before .before .before .before .before .before .before .before .before .before .before .before .before .before .before .before .before .before .before .before .before .before .before .before .args .records) (length (c .before .before .before .before .before .before .before .before .before .before .before .before .before .before .before .before .before .before .before .before .before .before .before .before .args .work .now)) _ (c .before .before .before .before .before .before .before .before .before .before .before .before .before .limits-hold .ensures) gs e (c .before .before .before .before .before .before .before .before .before .before .before .before .before .before .before .before .before .before .before .before .before .before .before .before .args .state) (c .before .before .before .before .before .before .before .before .before .before .before .before .before .before .before .before .before .before .before .before .before .before .before .before .args .input) (c .before .before .before .before .before .before .before .before .before .before .before .enum-told .given .1) _ (c .before .before .before .before .before .before .before .before .before .before .before .before .before .before .before .before .before .clear .ensures) _ _ (c .before .before .before .before .before .before .before .before .before .define-leaves .ensures) (c .before .before .before .before .before .before .before .before .before .define-leaves .kept .1 .1 .1 .0) (c .before .before .before .before .before .before .if1 .left) (c .before .before .before .before .if2 .taken) _ _ (c .before .before .compute .ensures)
+returns-3 c =
+    let w = c .before .before in
+    let q = w .before .before in
+    let p = q .before .before in
+    let d = p .before .before .before in
+    let t = d .before .before in
+    let v = t .before .before in
+    let o = v .before in
+    let z = o .before .before .before in
+    let l = z .before .before in
+    let i = l .before in
+    let n = i .before in
+    let s = n .before .before .before in
+    λ gs same. begin-computed (s .args .model .now) _ (n .counts .ensures) _ (i .inputs .ensures) _ (l .latches .ensures) _ (o .outputs .ensures) (s .args .records)
+    (length (s .args .work .now)) _ (v .limits-hold .ensures) gs same (s .args .state) (s .args .input) (t .enum-told .given .1) _ (z .clear .ensures) _ _
+    (d .define-leaves .ensures) (d .define-leaves .kept .1 .1 .1 .0) (p .if1 .left) (q .if2 .taken) _ _ (w .compute .ensures)
 
 same-length-4 : tie.Need-same-length-4
 same-length-4 c = search needs
 
 returns-4 : tie.Need-returns-4
-returns-4 c = λ gs e. begin-checking (c .before .before .before .before .before .before .before .before .before .before .before .before .before .before .before .before .before .before .before .before .args .model .now) _ (c .before .before .before .before .before .before .before .before .before .before .before .before .before .before .before .before .before .counts .ensures) _ (c .before .before .before .before .before .before .before .before .before .before .before .before .before .before .before .before .inputs .ensures) _ (c .before .before .before .before .before .before .before .before .before .before .before .before .before .before .before .latches .ensures) _ (c .before .before .before .before .before .before .before .before .before .before .outputs .ensures) (c .before .before .before .before .before .before .before .before .before .before .before .before .before .before .before .before .before .before .before .before .args .records) (length (c .before .before .before .before .before .before .before .before .before .before .before .before .before .before .before .before .before .before .before .before .args .work .now)) _ (c .before .before .before .before .before .before .before .before .before .limits-hold .ensures) gs e (c .before .before .before .before .before .before .before .before .before .before .before .before .before .before .before .before .before .before .before .before .args .state) (c .before .before .before .before .before .before .before .before .before .before .before .before .before .before .before .before .before .before .before .before .args .input) (c .before .before .before .before .before .before .before .enum-told .given .1) _ (c .before .before .before .before .before .before .before .before .before .before .before .before .before .clear .ensures) _ _ (c .before .before .before .before .before .define-leaves .ensures) (c .before .before .before .before .before .define-leaves .kept .1 .1 .1 .0) (c .before .before .if1 .left) (c .if2 .left)
+returns-4 c =
+    let p = c .before .before in
+    let d = p .before .before .before in
+    let t = d .before .before in
+    let v = t .before .before in
+    let o = v .before in
+    let z = o .before .before .before in
+    let l = z .before .before in
+    let i = l .before in
+    let n = i .before in
+    let s = n .before .before .before in
+    λ gs same. begin-checking (s .args .model .now) _ (n .counts .ensures) _ (i .inputs .ensures) _ (l .latches .ensures) _ (o .outputs .ensures) (s .args .records)
+    (length (s .args .work .now)) _ (v .limits-hold .ensures) gs same (s .args .state) (s .args .input) (t .enum-told .given .1) _ (z .clear .ensures) _ _
+    (d .define-leaves .ensures) (d .define-leaves .kept .1 .1 .1 .0) (p .if1 .left) (c .if2 .left)
 
 pub begin-spec : {M : Type 1} → statement M
 begin-spec =

@@ -1,4 +1,4 @@
-use Rattle.records.proofs.PassLaws.{finish-refused, finish-reads, finish-done}
+use Rattle.records.proofs.TakeLaws.{finish-refused, finish-reads, finish-done}
 use borrow.Author.Needs.{needs}
 use Rattle.records.proofs.finish.Statement.{statement}
 use Rattle.records.proofs.finish.Tie as tie
@@ -10,7 +10,11 @@ same-length : tie.Need-same-length
 same-length c = search needs
 
 returns : tie.Need-returns
-returns c = λ e. (finish-refused (c .before .before .before .before .before .before .before .before .args .model .now) _ _ e (c .before .before .before .before .if1 .taken), c .before .before .clear .ensures)
+returns c =
+    let z = c .before .before in
+    let p = z .before .before in
+    let s = p .before .before .before .before in
+    λ ending. (finish-refused (s .args .model .now) _ _ ending (p .if1 .taken), z .clear .ensures)
 
 counts-requires : tie.Need-counts-requires
 counts-requires c κs = search needs
@@ -34,7 +38,16 @@ first-requires-2 : tie.Need-first-requires-2
 first-requires-2 c κs = search needs
 
 read-out-requires : tie.Need-read-out-requires
-read-out-requires c κs = finish-reads (c .before .before .before .before .before .before .before .before .before .before .before .before .args .model .now) _ (c .before .before .before .before .before .before .before .before .before .before .before .before .args .work .now) (c .before .before .before .before .before .before .before .before .before .before .before .before .pre) (c .before .before .before .before .before .before .before .before .if1 .left) _ (c .before .before .before .before .before .before .before .counts .ensures) _ (c .before .before .before .before .before .before .latches .ensures) _ (c .before .before .before .before .before .nexts .ensures) _ (c .before .before .first .ensures) _ (c .before .outputs .ensures) _ (c .first2 .ensures)
+read-out-requires c κs =
+    let o = c .before in
+    let g = o .before in
+    let k = g .before .before .before in
+    let l = k .before in
+    let n = l .before in
+    let p = n .before in
+    let s = p .before .before .before .before in
+    finish-reads (s .args .model .now) _ (s .args .work .now) (s .pre) (p .if1 .left) _ (n .counts .ensures) _ (l .latches .ensures) _ (k .nexts .ensures) _
+    (g .first .ensures) _ (o .outputs .ensures) _ (c .first2 .ensures)
 
 clear-requires-2 : tie.Need-clear-requires-2
 clear-requires-2 c κs = search needs
@@ -43,7 +56,19 @@ same-length-2 : tie.Need-same-length-2
 same-length-2 c = search needs
 
 returns-2 : tie.Need-returns-2
-returns-2 c = λ e. (finish-done (c .before .before .before .before .before .before .before .before .before .before .before .before .before .before .before .before .before .args .model .now) _ (c .before .before .before .before .before .before .before .before .before .before .before .before .before .before .before .before .before .args .work .now) e (c .before .before .before .before .before .before .before .before .before .before .before .before .before .if1 .left) _ (c .before .before .before .before .before .before .before .before .before .before .before .before .counts .ensures) _ (c .before .before .before .before .before .before .before .before .before .before .before .latches .ensures) _ (c .before .before .before .before .before .before .before .before .before .before .nexts .ensures) _ (c .before .before .before .before .before .before .before .first .ensures) _ (c .before .before .before .before .before .before .outputs .ensures) _ (c .before .before .before .before .before .first2 .ensures) _ (c .before .before .before .before .read-out .ensures), c .before .before .clear2 .ensures)
+returns-2 c =
+    let z = c .before .before in
+    let x = z .before .before in
+    let h = x .before in
+    let o = h .before in
+    let g = o .before in
+    let k = g .before .before .before in
+    let l = k .before in
+    let n = l .before in
+    let p = n .before in
+    let s = p .before .before .before .before in
+    λ ending.
+    (finish-done (s .args .model .now) _ (s .args .work .now) ending (p .if1 .left) _ (n .counts .ensures) _ (l .latches .ensures) _ (k .nexts .ensures) _ (g .first .ensures) _ (o .outputs .ensures) _ (h .first2 .ensures) _ (x .read-out .ensures), z .clear2 .ensures)
 
 pub finish-spec : {M : Type 1} → statement M
 finish-spec =
