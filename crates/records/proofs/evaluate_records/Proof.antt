@@ -1,7 +1,6 @@
--- `records::evaluate_records` meets its contract: a walk of its MIR with a loop, by hand. The work words are lent to `begin` and come back; a turn looks into the list of
--- records, copies one out, lends the work words to `take_gate` and has them back; after the last turn they are lent to `finish`.
--- The loop's variant is where the passes stand. All that the proof knows of the three is that each meets its contract.
--- Assumes nothing.
+-- `evaluate_records` meets its contract, by a walk of its code with a loop: the work words are lent to `begin` and come back; a turn looks into the list of records,
+-- copies one out, lends the work words to `take_gate` and has them back; after the last turn they are lent to `finish`. All that the walk knows of the three is that
+-- each meets its contract. A list in brackets is what the walk has at that place, with the place of a local in it.
 use mathlib.Core.Path.{_≡_, refl, sym, ap, subst, _∙_}
 use mathlib.Core.Bool.{Bool, true, false}
 use mathlib.Core.Logic.{⊎-elim}
