@@ -24,6 +24,7 @@ pub struct Pass {
     pub reason: u64,
 }
 
+// No record is left, for this reason.
 fn refuse(reason: u64) -> Pass
     ensures { λ r. ⌜ r ≡ refusing reason ⌝ }
 {
