@@ -170,7 +170,7 @@ module _ (most : ℕ) (w : List ℕ) where
   leaves-lost leaves [] m = rw (append-nil leaves) m
   leaves-lost leaves (l ∷ ls) m = rw (append-assoc leaves (l ∷ []) ls) at (leaves-lost (leaves ++ l ∷ []) ls (marking-leaf-lost most w leaves m l))
 
-  gates-lost : (leaves : List ℕ) (gates gs : List Gate) → Marking most w leaves gates false → Marking most w leaves (gates ++ gs) false
+  pub gates-lost : (leaves : List ℕ) (gates gs : List Gate) → Marking most w leaves gates false → Marking most w leaves (gates ++ gs) false
   gates-lost leaves gates [] m = rw (append-nil gates) m
   gates-lost leaves gates (g ∷ gs) m = rw (append-assoc gates (g ∷ []) gs) at (gates-lost leaves (gates ++ g ∷ []) gs (marking-gate-lost most w leaves gates m g))
 

@@ -9,7 +9,7 @@ use Rattle.lists.proofs.RestLaws.{copy-more, copy-end}
 use Rattle.model.specs.declared.AigerLatch.{AigerLatch}
 use Rattle.model.specs.RecordWords.{latchCountIn, countsIn, latchIn, latchesIn}
 
-latches-length : (ws : List ℕ) (n at : ℕ) → length (latchesIn ws n at) ≡ n
+pub latches-length : (ws : List ℕ) (n at : ℕ) → length (latchesIn ws n at) ≡ n
 latches-length ws zero at = refl
 latches-length ws (suc n) at = ap suc (latches-length ws n (at + 2))
 

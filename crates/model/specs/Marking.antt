@@ -4,6 +4,8 @@ use mathlib.Core.Bool.{Bool, true, _&&_}
 use mathlib.Core.List.{List, [], _∷_, _++_, map}
 use mathlib.Core.Path.{_≡_}
 use lib.ListN.{length, take}
+use lib.Dec.{leb, ltb}
+use Rattle.lists.specs.Answer.{Answer, got, refused, unless}
 use Rattle.lists.specs.Parts.{zeros}
 use Rattle.lists.specs.Sets.{holds}
 use Rattle.lists.specs.Tests.{all}
@@ -13,7 +15,12 @@ use Rattle.aiger.specs.Gates.{variable}
 use Rattle.aiger.specs.Defined.{literal, definitions, defined}
 use Rattle.model.specs.declared.AigerLatch.{AigerLatch}
 use Rattle.model.specs.declared.Counts.{Counts}
+use Rattle.model.specs.declared.AigerTransition.{AigerTransition}
+use Rattle.model.specs.declared.Verdict.{Verdict}
+use Rattle.model.specs.declared.Verdict.the-variants.{Valid, Refused}
 use Rattle.model.specs.Circuit.{currentOf, nextOf}
+use Rattle.model.specs.Limits.{counted}
+use Rattle.model.specs.Checked.{countsOf}
 
 -- `fine` says whether the definitions so far hold, and as long as they do the bits of the work words are their variables
 pub record Marking (most : ℕ) (work leaves : List ℕ) (gates : List Gate) (fine : Bool) : Type 0 where
@@ -45,3 +52,19 @@ leavesFrom n inputs latches = take (n .inputs) inputs ++ map currentOf (take (n 
 
 abbrev pub literalsFrom : Counts → List AigerLatch → List ℕ → Bool
 literalsFrom n latches outputs = all (literal (n .«max_variable»)) (map nextOf (take (n .latches) latches)) && all (literal (n .«max_variable»)) (take (n .outputs) outputs)
+
+-- the tests of a record that come before its definitions, with `gates` gates and w work words beside it (reasons 7 and 11)
+unfoldable pub limits : AigerTransition → ℕ → ℕ → Answer (Unit {0})
+limits m gates w =
+    unless 7 (ltb (m .«max_variable») w)
+    (unless 11 (counted (countsOf m))
+    (unless 11 (leb (m .«input_count») (length (m .inputs)))
+    (unless 11 (leb (m .«output_count») (length (m .outputs)))
+    (unless 11 (leb (m .«and_count») gates)
+    (unless 11 (literalsFrom (countsOf m) (m .latches) (m .outputs))
+    (got tt))))))
+
+-- what a verdict says of them
+abbrev pub passed : Verdict → Answer (Unit {0})
+passed Valid = got tt
+passed (Refused n) = refused n

@@ -13,7 +13,7 @@ ghost use Rattle.aiger.specs.Defined.{literal, defining, ordered, defined};
 ghost use Rattle.model.specs.Circuit.{currentOf, nextOf, recordFrom};
 ghost use Rattle.model.specs.Limits.{counted};
 ghost use Rattle.model.specs.Checked.{countsOf, Validates};
-ghost use Rattle.model.specs.Marking.{AddsLeaves, AddsGate, AddsGates, Checkable, leavesFrom, literalsFrom};
+ghost use Rattle.model.specs.Marking.{AddsLeaves, AddsGate, AddsGates, Checkable, leavesFrom, literalsFrom, limits, passed};
 use aiger::Gate;
 
 pub mod words;
@@ -226,6 +226,38 @@ pub fn literals_hold(n: Counts, latches: [AigerLatch; 8], outputs: &[u64]) -> bo
     false
 }
 
+// Whether a record, in parts, is within the limits, with so many gates and work words beside it: all that comes before its definitions.
+pub fn limits_hold(
+    n: Counts,
+    inputs: &[u64],
+    latches: [AigerLatch; 8],
+    outputs: &[u64],
+    gates: usize,
+    room: usize,
+) -> Verdict
+    ensures { λ r. ⌜ passed r ≡ limits (recordFrom n (now (inputs .entry)) latches (now (outputs .entry))) gates room ⌝ }
+{
+    if room <= n.max_variable {
+        return Verdict::Refused(7);
+    }
+    if !counts_hold(n) {
+        return Verdict::Refused(11);
+    }
+    if inputs.len() < n.inputs {
+        return Verdict::Refused(11);
+    }
+    if outputs.len() < n.outputs {
+        return Verdict::Refused(11);
+    }
+    if gates < n.ands {
+        return Verdict::Refused(11);
+    }
+    if literals_hold(n, latches, outputs) {
+        return Verdict::Valid;
+    }
+    Verdict::Refused(11)
+}
+
 // Whether each variable of a model is defined once. The marks are all 0 at first, and again afterwards.
 fn definitions_hold(
     n: Counts,
@@ -254,25 +286,11 @@ pub fn validate_parts(
 ) -> Verdict
     ensures { λ r. ⌜ Validates (recordFrom n (now (inputs .entry)) latches (now (outputs .entry))) (now (gates .entry)) (length (now (work .entry))) r (now (work .exit)) ⌝ }
 {
-    let words = work.len();
+    let room = work.len();
     lists::clear(work);
-    if words <= n.max_variable {
-        return Verdict::Refused(7);
-    }
-    if !counts_hold(n) {
-        return Verdict::Refused(11);
-    }
-    if inputs.len() < n.inputs {
-        return Verdict::Refused(11);
-    }
-    if outputs.len() < n.outputs {
-        return Verdict::Refused(11);
-    }
-    if gates.len() / 3 < n.ands {
-        return Verdict::Refused(11);
-    }
-    if !literals_hold(n, latches, outputs) {
-        return Verdict::Refused(11);
+    let verdict = limits_hold(n, inputs, latches, outputs, gates.len() / 3, room);
+    if let Verdict::Refused(reason) = verdict {
+        return Verdict::Refused(reason);
     }
     if definitions_hold(n, inputs, latches, gates, work) {
         return Verdict::Valid;

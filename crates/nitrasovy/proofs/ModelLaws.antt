@@ -35,6 +35,10 @@ reads-flat t gates work x gates' work' h k q =
 
 -- ---- the step
 
+pub steps-flat : (m : AigerTransition) (g work : List ℕ) (s x : ℕ) (e : Stepped) → answerOf e ≡ stepOf m g (length work) s x → (work' : List ℕ) → work' ≡ zeros (length work)
+    → (r : NitStepped) → r ≡ flatStep (answerOf e) → StepsFlat (stepOf m g (length work) s x) work r work'
+steps-flat m g work s x e k work' z r q = record { returns = q ∙ ap flatStep k; numbered = step-among m g (length work) s x; clears = z }
+
 module _ (ws : List ℕ) (n : Counts) (a : n ≡ countsIn ws) (is : List ℕ) (b : is ≡ part ws 2 66) (ls : List AigerLatch) (c : ls ≡ latchesIn ws 8 67) (os : List ℕ) (d : os ≡ part ws 84 212) where
   -- a record taken apart
   pub record-is : recordFrom n is ls os ≡ recordIn ws
@@ -47,4 +51,4 @@ module _ (ws : List ℕ) (n : Counts) (a : n ≡ countsIn ws) (is : List ℕ) (b
   pub words-stepped : (g work : List ℕ) (s x : ℕ) (e : Stepped) → answerOf e ≡ stepOf (recordFrom n is ls os) g (length work) s x → (work' : List ℕ) → work' ≡ zeros (length work)
       → (r : NitStepped) → r ≡ flatStep (answerOf e) → StepsFlat (stepOf (recordIn ws) g (length work) s x) work r work'
   words-stepped g work s x e k work' z r q =
-      of-words (λ m. StepsFlat (stepOf m g (length work) s x) work r work') (record { returns = q ∙ ap flatStep k; numbered = step-among _ g (length work) s x; clears = z })
+      of-words (λ m. StepsFlat (stepOf m g (length work) s x) work r work') (steps-flat (recordFrom n is ls os) g work s x e k work' z r q)

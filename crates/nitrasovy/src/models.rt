@@ -51,7 +51,7 @@ pub extern "C" fn nit_read_transition(text: &[u8], gates: &mut [u64], work: &mut
     }
 }
 
-fn flat_stepped(s: Stepped) -> NitStepped
+pub fn flat_stepped(s: Stepped) -> NitStepped
     ensures { λ r. ⌜ r ≡ flatStep (answerOf s) ⌝ }
 {
     match s {

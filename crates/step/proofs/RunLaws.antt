@@ -56,14 +56,12 @@ module _ (m : AigerTransition) (g : List ℕ) (s x : ℕ) where
   abbrev inputs : List ℕ
   inputs = take (m .«input_count») (m .inputs)
 
-  abbrev Run : Valuation
-  Run =
-      computed
-      (assigned
-      (assigned start currents (bits (length currents) s))
-      inputs
-      (bits (length inputs) x))
-      (take (m .«and_count») (triplesOf gateFrom g))
+  -- the values when the state and the input word are loaded, and at the end
+  abbrev pub Loaded : Valuation
+  Loaded = assigned (assigned start currents (bits (length currents) s)) inputs (bits (length inputs) x)
+
+  abbrev pub Run : Valuation
+  Run = computed Loaded (take (m .«and_count») (triplesOf gateFrom g))
 
   run-values : Run ≡ stepValues (circuitOf m g) s x
   unfolding stepValues
@@ -74,6 +72,22 @@ module _ (m : AigerTransition) (g : List ℕ) (s x : ℕ) where
   run-readings v = rw (map-take nextOf (m .«latch_count») (m .latches))
 
   -- the words after each part of a run
+  module _ (n : ℕ) where
+    pub run-loaded : (w₀ w₁ w₂ from cs is : List ℕ) → w₀ ≡ zeros n → from ≡ map currentOf (m .latches)
+        → cs ≡ take (m .«latch_count») from → Becomes w₀ w₁ (λ v. assigned v cs (bits (length cs) s))
+        → is ≡ take (m .«input_count») (m .inputs) → Becomes w₁ w₂ (λ v. assigned v is (bits (length is) x)) → Stored w₂ Loaded
+    run-loaded w₀ w₁ w₂ from cs is z c p a q b =
+        let v₁ : Valuation = assigned start cs (bits (length cs) s) in
+        let s₀ : Stored w₀ start = rw z (zeros-start n) in
+        rw (p, c, q) at (b .so v₁ (a .so start s₀))
+
+    pub run-read : Runnable m g n → (w₃ to nexts outputs : List ℕ) (r : Outcome) → length w₃ ≡ n → Stored w₃ Run → to ≡ map nextOf (m .latches)
+        → nexts ≡ take (m .«latch_count») to → outputs ≡ take (m .«output_count») (m .outputs) → r ≡ readings (held w₃) nexts outputs
+        → r ≡ outcomeUnder (circuitOf m g) (stepValues (circuitOf m g) s x)
+    run-read k w₃ to nexts outputs r same s₃ d t o f =
+        f ∙ rw (t, d, o) (readings-stored w₃ Run (take (m .«latch_count») (map nextOf (m .latches))) (take (m .«output_count») (m .outputs)) s₃ (rw same (k .nexts)) (rw same (k .outputs)))
+        ∙ run-readings Run ∙ ap (outcomeUnder (circuitOf m g)) run-values
+
   pub run-outcome : {n : ℕ} → Runnable m g n → (w₀ w₁ w₂ w₃ from to cs is nexts outputs : List ℕ) (r : Outcome) → w₀ ≡ zeros n → length w₃ ≡ n
       → from ≡ map currentOf (m .latches) → to ≡ map nextOf (m .latches)
       → cs ≡ take (m .«latch_count») from → Becomes w₀ w₁ (λ v. assigned v cs (bits (length cs) s))
@@ -82,9 +96,4 @@ module _ (m : AigerTransition) (g : List ℕ) (s x : ℕ) where
       → nexts ≡ take (m .«latch_count») to → outputs ≡ take (m .«output_count») (m .outputs) → r ≡ readings (held w₃) nexts outputs
       → r ≡ outcomeUnder (circuitOf m g) (stepValues (circuitOf m g) s x)
   run-outcome {n} k w₀ w₁ w₂ w₃ from to cs is nexts outputs r z same c d p a q b e t o f =
-      let v₁ : Valuation = assigned start cs (bits (length cs) s) in
-      let v₂ : Valuation = assigned v₁ is (bits (length is) x) in
-      let s₀ : Stored w₀ start = rw z (zeros-start n) in
-      let s₃ : Stored w₃ Run = rw (p, c, q) at (e .so v₂ (b .so v₁ (a .so start s₀))) in
-      f ∙ rw (t, d, o) (readings-stored w₃ Run (take (m .«latch_count») (map nextOf (m .latches))) (take (m .«output_count») (m .outputs)) s₃ (rw same (k .nexts)) (rw same (k .outputs)))
-      ∙ run-readings Run ∙ ap (outcomeUnder (circuitOf m g)) run-values
+      run-read n k w₃ to nexts outputs r same (e .so Loaded (run-loaded n w₀ w₁ w₂ from cs is z c p a q b)) d t o f

@@ -4,12 +4,14 @@ use mathlib.Core.Bool.{true}
 use mathlib.Core.List.{List, map}
 use mathlib.Core.Path.{_≡_, sym}
 use native.Mathlib.Omega.{arith}
+use lib.ListN.{take}
 use Rattle.lists.specs.Answer.{got}
 use Rattle.lists.specs.Tests.{Each}
+use Rattle.lists.specs.Words.{triplesOf}
 use Rattle.lists.proofs.MapLaws.{map-take}
 use Rattle.lists.proofs.TestLaws.{each-so, each-with, each-of-map, each-split}
 use Rattle.aiger.specs.declared.Gate.{Gate}
-use Rattle.aiger.specs.Gates.{variable, outputOf}
+use Rattle.aiger.specs.Gates.{variable, outputOf, gateFrom}
 use Rattle.aiger.proofs.DefinedLaws.{Defines, Orders, defined-facts}
 use Rattle.model.specs.declared.AigerTransition.{AigerTransition}
 use Rattle.model.specs.declared.Verdict.{Verdict}
@@ -79,4 +81,20 @@ runnable {m} {g} {w} e =
       nexts = rw (← map-take nextOf (m .«latch_count») (m .latches)) (i .nexts);
       outputs = i .outputs;
       gates = i .gates;
+    }
+
+-- more words do as well
+pub runnable-more : {m : AigerTransition} {g : List ℕ} {a b : ℕ} → Runnable m g a → a ≤ b → Runnable m g b
+runnable-more {m} {g} {a} {b} r h =
+    let more : (ls : List ℕ) → Inside a ls → Inside b ls = each-so (λ l. variable l < a) (λ l. variable l < b) (λ l k. omega arith) in
+    record {
+      fewInputs = r .fewInputs;
+      fewLatches = r .fewLatches;
+      fewOutputs = r .fewOutputs;
+      words = r .words;
+      inputs = more (take (m .«input_count») (m .inputs)) (r .inputs);
+      currents = more (take (m .«latch_count») (map currentOf (m .latches))) (r .currents);
+      nexts = more (take (m .«latch_count») (map nextOf (m .latches))) (r .nexts);
+      outputs = more (take (m .«output_count») (m .outputs)) (r .outputs);
+      gates = each-so (InsideGate a) (InsideGate b) (λ k i. record { output = omega (arith, i .output); left = omega (arith, i .left); right = omega (arith, i .right) }) (take (m .«and_count») (triplesOf gateFrom g)) (r .gates);
     }

@@ -99,9 +99,29 @@ module _ (w₀ lits : List ℕ) (x : ℕ) (w : List ℕ) (k : ℕ) (l : Loading 
 
 -- ---- run_gates
 
-computed-append : (v : Valuation) (gs hs : List Gate) → computed v (gs ++ hs) ≡ computed (computed v gs) hs
+pub computed-append : (v : Valuation) (gs hs : List Gate) → computed v (gs ++ hs) ≡ computed (computed v gs) hs
 computed-append v [] hs = refl
 computed-append v (g ∷ gs) hs = computed-append (assign v (variable (g .output)) (value v (g .left) && value v (g .right))) gs hs
+
+-- the code's reads and its write of one gate
+module _ (w : List ℕ) (g : Gate) (i : InsideGate (length w) g) where
+  pub gate-runs : (output left right : ℕ) → output ≡ variable (g .output) → left ≡ bit (value (held w) (g .left)) → right ≡ bit (value (held w) (g .right))
+      → Becomes w (set w output (left * right)) (λ v. computed v (g ∷ []))
+  gate-runs output left right o p q = record { so = λ v s. one v s }
+    where
+      one : (v : Valuation) → Stored w v → Stored (set w output (left * right)) (computed v (g ∷ []))
+      one v s =
+          let a : Bool = value v (g .left) in
+          let b : Bool = value v (g .right) in
+          let p' : left ≡ bit a = p ∙ ap bit (value-stored w v s (g .left) (i .left)) in
+          let q' : right ≡ bit b = q ∙ ap bit (value-stored w v s (g .right) (i .right)) in
+          let e : odd (left * right) ≡ (a && b) = rw (p', q') (product-odd a b) in
+          rw o (stored-set w v (variable (g .output)) (left * right) (a && b) s e (i .output))
+
+-- gates, and then others
+pub becomes-more : (w₀ w : List ℕ) (gs : List Gate) → Becomes w₀ w (λ v. computed v gs) → (u : List ℕ) (hs : List Gate) → Becomes w u (λ v. computed v hs)
+    → Becomes w₀ u (λ v. computed v (gs ++ hs))
+becomes-more w₀ w gs a u hs b = record { so = λ v s. rw (computed-append v gs hs) (b .so (computed v gs) (a .so v s)) }
 
 abbrev pub gateAt : List ℕ → ℕ → Gate
 gateAt g at = gateFrom (getD g at 0) (getD g (at + 1) 0) (getD g (at + 2) 0)
@@ -135,34 +155,14 @@ module _ (w₀ g : List ℕ) (count : ℕ) (w : List ℕ) (i at : ℕ) (r : Runn
         let f = each-at (InsideGate (length w₀)) (take count gates) i (gateAt g at) k (rw (length-take-le count gates enough) h) in
         rw (r .same) (rw (getD-take count gates i (gateAt g at) h, here) at f)
 
-    -- for the code's reads and its write
-    module _ (k : Each (InsideGate (length w₀)) (take count gates)) where
-      pub running-output : (output : ℕ) → output ≡ variable (getD g at 0) → output < length w
-      running-output output e = rw e (running-inside k .output)
-
-      pub running-left : variable (getD g (at + 1) 0) < length w
-      running-left = running-inside k .left
-
-      pub running-right : variable (getD g (at + 2) 0) < length w
-      running-right = running-inside k .right
-
-    pub running-more : InsideGate (length w) (gateAt g at) → (output left right : ℕ) → output ≡ variable (getD g at 0)
-        → left ≡ bit (value (held w) (getD g (at + 1) 0)) → right ≡ bit (value (held w) (getD g (at + 2) 0))
-        → Running w₀ g count (set w output (left * right)) (i + 1) (at + 3)
-    running-more k output left right o p q =
-        record { passed = omega arith; place = omega arith; same = simp length-set (r .same); holds = record { so = λ v s. one v s } }
-      where
-        one : (v : Valuation) → Stored w₀ v → Stored (set w output (left * right)) (computed v (take (i + 1) gates))
-        one v s =
-            let u : Valuation = computed v (take i gates) in
-            let t : Stored w u = r .holds .so v s in
-            let a : Bool = value u (getD g (at + 1) 0) in
-            let b : Bool = value u (getD g (at + 2) 0) in
-            let p' : left ≡ bit a = p ∙ ap bit (value-stored w u t (getD g (at + 1) 0) (k .left)) in
-            let q' : right ≡ bit b = q ∙ ap bit (value-stored w u t (getD g (at + 2) 0) (k .right)) in
-            let e : odd (left * right) ≡ (a && b) = rw (p', q') (product-odd a b) in
-            rw (o, take-next gates i (gateAt g at) (omega (arith, enough)), here, computed-append v (take i gates) (gateAt g at ∷ []))
-            (stored-set w u (variable (getD g at 0)) (left * right) (a && b) t e (k .output))
+    pub running-more : (u : List ℕ) → length u ≡ length w → Becomes w u (λ v. computed v (gateAt g at ∷ [])) → Running w₀ g count u (i + 1) (at + 3)
+    running-more u n k =
+        record {
+          passed = omega arith;
+          place = omega arith;
+          same = n ∙ r .same;
+          holds = rw (take-next gates i (gateAt g at) (omega (arith, enough)), here) (becomes-more w₀ w (take i gates) (r .holds) u (gateAt g at ∷ []) k);
+        }
 
 -- ---- word
 

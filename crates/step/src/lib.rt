@@ -1,6 +1,6 @@
 // The step of item 6 of 01. The values stand in the work words, one word a variable.
 ghost use mathlib.Core.Path.{_≡_};
-ghost use mathlib.Core.List.{map};
+ghost use mathlib.Core.List.{[], _∷_, map};
 ghost use Prim.Native.Nat.{_+_, _*_, _<_, _≤_, _^_};
 ghost use lib.Dec.{ltb};
 ghost use lib.ListN.{length, take, drop};
@@ -13,6 +13,7 @@ ghost use Rattle.model.specs.Circuit.{circuitOf, recordFrom};
 ghost use Rattle.step.specs.Step.{assigned, computed, stepValues, outcomeUnder, stepOf, answerOf};
 ghost use Rattle.step.specs.Runnable.{Runnable};
 ghost use Rattle.step.specs.Stored.{held, Becomes, Inside, InsideGate, Readable, readings};
+use aiger::Gate;
 use model::AigerLatch;
 use model::AigerTransition;
 use model::Counts;
@@ -48,7 +49,7 @@ fn value_of(vals: &[u64], lit: u64) -> u64
 }
 
 // The variables of the literals take the bits of x.
-fn load(vals: &mut [u64], lits: &[u64], x: u64)
+pub fn load(vals: &mut [u64], lits: &[u64], x: u64)
     requires { ⌜ (length (now lits) ≤ 64) × Inside (length (now vals)) (now lits) ⌝ }
     ensures { λ _. ⌜ Becomes (now (vals .entry)) (now (vals .exit)) (λ v. assigned v (now (lits .entry)) (bits (length (now (lits .entry))) x)) ⌝ }
 {
@@ -60,6 +61,17 @@ fn load(vals: &mut [u64], lits: &[u64], x: u64)
     }
 }
 
+// One gate is computed.
+pub fn run_gate(vals: &mut [u64], gate: Gate)
+    requires { ⌜ InsideGate (length (now vals)) gate ⌝ }
+    ensures { λ _. ⌜ Becomes (now (vals .entry)) (now (vals .exit)) (λ v. computed v (gate ∷ [])) ⌝ }
+{
+    let output = place(gate.output);
+    let left = value_of(vals, gate.left);
+    let right = value_of(vals, gate.right);
+    vals[output] = left * right;
+}
+
 // The gates are computed in their order.
 fn run_gates(vals: &mut [u64], gates: &[u64], count: usize)
     requires { ⌜ (3 * count ≤ length (now gates)) × Each (InsideGate (length (now vals))) (take count (triplesOf gateFrom (now gates))) ⌝ }
@@ -68,10 +80,12 @@ fn run_gates(vals: &mut [u64], gates: &[u64], count: usize)
     let mut i = 0;
     let mut at = 0;
     while i < count {
-        let output = place(gates[at]);
-        let left = value_of(vals, gates[at + 1]);
-        let right = value_of(vals, gates[at + 2]);
-        vals[output] = left * right;
+        let gate = Gate {
+            output: gates[at],
+            left: gates[at + 1],
+            right: gates[at + 2],
+        };
+        run_gate(vals, gate);
         i += 1;
         at += 3;
     }
@@ -92,7 +106,7 @@ fn word(vals: &[u64], lits: &[u64], start: usize) -> u64
 }
 
 // What the values give: the state of the next literals of the latches, and the outputs.
-fn read_out(vals: &[u64], nexts: &[u64], outputs: &[u64]) -> Outcome
+pub fn read_out(vals: &[u64], nexts: &[u64], outputs: &[u64]) -> Outcome
     requires { ⌜ Readable (length (now vals)) (now nexts) (now outputs) ⌝ }
     ensures { λ r. ⌜ r ≡ readings (held (now (vals .entry))) (now (nexts .entry)) (now (outputs .entry)) ⌝ }
 {

@@ -1,9 +1,6 @@
-use Prim.Native.Nat.{_-_, _*_, _<_}
-use native.Mathlib.Omega.{arith}
-use lib.ListN.{length}
+use Prim.Native.Nat.{_-_}
+use Rattle.step.proofs.StepLaws.{Running, running-none, running-inside, running-more, running-done}
 use borrow.Author.Needs.{needs}
-use Rattle.step.proofs.StepLaws.{Running, running-none, running-inside, running-output, running-left, running-right, running-more, running-done}
-use Rattle.lists.proofs.BitLaws.{product-lt}
 use Rattle.step.proofs.run_gates.Statement.{statement}
 use Rattle.step.proofs.run_gates.Tie as tie
 
@@ -16,47 +13,32 @@ abbrev μ-loop : tie.MeasureT-loop
 loop-holds : tie.Need-loop-holds Inv-loop μ-loop
 loop-holds c = search running-none
 
-mul-place : tie.Need-mul-place Inv-loop μ-loop
-mul-place c = search needs
+mul-t8 : tie.Need-mul-t8 Inv-loop μ-loop
+mul-t8 c = search needs
 
-shared-slice-read-place : tie.Need-shared-slice-read-place Inv-loop μ-loop
-shared-slice-read-place c = search needs
+shared-slice-read-t10 : tie.Need-shared-slice-read-t10 Inv-loop μ-loop
+shared-slice-read-t10 c = search needs
 
-place-requires : tie.Need-place-requires Inv-loop μ-loop
-place-requires c κs = search needs
+add-t11 : tie.Need-add-t11 Inv-loop μ-loop
+add-t11 c = search needs
 
-add-value-of : tie.Need-add-value-of Inv-loop μ-loop
-add-value-of c = search needs
+mul-t12 : tie.Need-mul-t12 Inv-loop μ-loop
+mul-t12 c = search needs
 
-mul-value-of : tie.Need-mul-value-of Inv-loop μ-loop
-mul-value-of c = search needs
+shared-slice-read-t14 : tie.Need-shared-slice-read-t14 Inv-loop μ-loop
+shared-slice-read-t14 c = search needs
 
-shared-slice-read-value-of : tie.Need-shared-slice-read-value-of Inv-loop μ-loop
-shared-slice-read-value-of c = search needs
+add-t15 : tie.Need-add-t15 Inv-loop μ-loop
+add-t15 c = search needs
 
-value-of-requires : tie.Need-value-of-requires Inv-loop μ-loop
-value-of-requires c κs = search (running-left, running-right)
+mul-t16 : tie.Need-mul-t16 Inv-loop μ-loop
+mul-t16 c = search needs
 
-add-value-of-2 : tie.Need-add-value-of-2 Inv-loop μ-loop
-add-value-of-2 c = search needs
+shared-slice-read-t18 : tie.Need-shared-slice-read-t18 Inv-loop μ-loop
+shared-slice-read-t18 c = search needs
 
-mul-value-of-2 : tie.Need-mul-value-of-2 Inv-loop μ-loop
-mul-value-of-2 c = search needs
-
-shared-slice-read-value-of-2 : tie.Need-shared-slice-read-value-of-2 Inv-loop μ-loop
-shared-slice-read-value-of-2 c = search needs
-
-value-of-requires-2 : tie.Need-value-of-requires-2 Inv-loop μ-loop
-value-of-requires-2 c κs = search (running-left, running-right)
-
-mul-vals : tie.Need-mul-vals Inv-loop μ-loop
-mul-vals c = let h : c .before .before .before .value-of .result * c .value-of2 .result < 2 = search product-lt in omega arith
-
-mul-vals-2 : tie.Need-mul-vals-2 Inv-loop μ-loop
-mul-vals-2 c = let h : c .before .before .before .before .before .before .place .result < length (c .before .before .before .before .before .before .before .before .before .loop .vals) = search running-output in omega arith
-
-slice-write-vals : tie.Need-slice-write-vals Inv-loop μ-loop
-slice-write-vals c = search running-output
+run-gate-requires : tie.Need-run-gate-requires Inv-loop μ-loop
+run-gate-requires c κs = search running-inside
 
 add-i : tie.Need-add-i Inv-loop μ-loop
 add-i c = search needs
@@ -68,7 +50,7 @@ loop-less : tie.Need-loop-less Inv-loop μ-loop
 loop-less c = search needs
 
 loop-again : tie.Need-loop-again Inv-loop μ-loop
-loop-again c = search (running-inside, running-more)
+loop-again c = search running-more
 
 same-length : tie.Need-same-length Inv-loop μ-loop
 same-length c = search needs
@@ -83,20 +65,15 @@ run-gates-spec =
     Inv-loop
     μ-loop
     loop-holds
-    mul-place
-    shared-slice-read-place
-    place-requires
-    add-value-of
-    mul-value-of
-    shared-slice-read-value-of
-    value-of-requires
-    add-value-of-2
-    mul-value-of-2
-    shared-slice-read-value-of-2
-    value-of-requires-2
-    mul-vals
-    mul-vals-2
-    slice-write-vals
+    mul-t8
+    shared-slice-read-t10
+    add-t11
+    mul-t12
+    shared-slice-read-t14
+    add-t15
+    mul-t16
+    shared-slice-read-t18
+    run-gate-requires
     add-i
     add-at
     loop-less

@@ -1,0 +1,2 @@
+-- Item 6 of 01 over a lent list of records.
+pub mod Passing
