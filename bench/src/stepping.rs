@@ -6,7 +6,7 @@ use crate::table::{Table, Unit};
 use differential::circuit::Circuit;
 use differential::oracle::model as oracle;
 use differential::ours::model::SUBJECT as OURS;
-use differential::subject::model::{Latch, Model};
+use differential::subject::model::{Latch, Model, Step};
 use std::hint::black_box;
 
 pub fn measure(table: &Table) {
@@ -38,7 +38,12 @@ pub fn k() -> Circuit {
 fn measure_one(table: &Table, name: &str, make: &dyn Fn() -> Circuit) {
     let rows = [
         (format!("validate: {name}"), validate as fn(&Circuit) -> _),
-        (format!("step: {name}"), step),
+        (format!("step: {name}"), |circuit| {
+            step(circuit, OURS.step_words)
+        }),
+        (format!("step by records: {name}"), |circuit| {
+            step(circuit, OURS.step_records)
+        }),
     ];
     for (name, row) in rows {
         if table.wants(&name) {
@@ -70,16 +75,16 @@ fn validate(circuit: &Circuit) -> crate::measure::Times {
     )
 }
 
-fn step(circuit: &Circuit) -> crate::measure::Times {
+fn step(circuit: &Circuit, ours: Step<[u64]>) -> crate::measure::Times {
     let (model, gates) = (Model::of(circuit), circuit.words());
     let mut work = vec![0; circuit.variables + 1];
     let transition = oracle::transition(circuit);
-    let ours = (OURS.step)(&model, gates, &mut work, 1, 1);
-    assert_eq!(Some(ours), oracle::step(&transition, 1, 1));
+    let answer = ours(model.words(), gates, &mut work, 1, 1);
+    assert_eq!(Some(answer), oracle::step(&transition, 1, 1));
     times(
         bytes(gates),
         || {
-            black_box((OURS.step)(black_box(&model), gates, &mut work, 1, 1));
+            black_box(ours(black_box(model.words()), gates, &mut work, 1, 1));
         },
         || {
             let _ = black_box(black_box(&transition).evaluate(1, 1));

@@ -21,6 +21,7 @@ mod stand_in {
         step: reading::step,
         validate_words: reading::validate_words,
         step_words: reading::step_words,
+        step_records: reading::step_words,
     };
 }
 
@@ -56,7 +57,20 @@ mod library {
             state: u64,
             input: u64,
         ) -> Stepped;
+        fn nit_step_records(
+            model: *const u64,
+            model_length: usize,
+            gates: *const Gate,
+            gates_length: usize,
+            work: *mut u64,
+            work_length: usize,
+            state: u64,
+            input: u64,
+        ) -> Stepped;
     }
+
+    /// A gate's output, left and right.
+    type Gate = [u64; 3];
 
     // In every `unsafe` below: pointer and length are those of one slice that lives through the
     // call, no two overlap, and the library asks nothing else of its arguments.
@@ -67,6 +81,7 @@ mod library {
         step,
         validate_words,
         step_words,
+        step_records,
     };
 
     fn read(text: &[u8], gates: &mut [u64], work: &mut [u64]) -> Read {
@@ -112,6 +127,28 @@ mod library {
     ) -> Stepped {
         unsafe {
             nit_step(
+                record.as_ptr(),
+                record.len(),
+                gates.as_ptr(),
+                gates.len(),
+                work.as_mut_ptr(),
+                work.len(),
+                state,
+                input,
+            )
+        }
+    }
+
+    fn step_records(
+        record: &[u64],
+        gates: &[u64],
+        work: &mut [u64],
+        state: u64,
+        input: u64,
+    ) -> Stepped {
+        let (gates, _): (&[Gate], _) = gates.as_chunks();
+        unsafe {
+            nit_step_records(
                 record.as_ptr(),
                 record.len(),
                 gates.as_ptr(),

@@ -59,6 +59,8 @@ pub struct Subject {
     /// The same two, of a record that is lent as any number of words.
     pub validate_words: Validate<[u64]>,
     pub step_words: Step<[u64]>,
+    /// The same with the gates lent as records.
+    pub step_records: Step<[u64]>,
 }
 
 /// Of a record in the form `R`, gate words and work words.

@@ -91,7 +91,7 @@ pub struct Record {
     pub work: Words,
 }
 
-#[derive(Debug, Eq, PartialEq)]
+#[derive(Clone, Debug, Eq, PartialEq)]
 struct Answered<T> {
     answer: T,
     work: Words,
@@ -176,14 +176,19 @@ pub fn steps(run: &mut Run, record: &Record, cases: &[(u64, u64)]) {
                 .unwrap_or(Stepped::refused(refusal(reading.answer.reason))),
             work: record.work.zeros(),
         });
-        let answers = Answers {
-            ours: answer(ours.step),
-            rust,
-            reading,
-        };
-        run.tally.check(answers, || {
-            format!("state {state}, input {input}, {}", record.shown())
+        let by_records = record.answered(|record, work| {
+            (ours.step_records)(record.model.words(), &record.gates, work, state, input)
         });
+        for ours in [answer(ours.step), by_records] {
+            let answers = Answers {
+                ours,
+                rust: rust.clone(),
+                reading: reading.clone(),
+            };
+            run.tally.check(answers, || {
+                format!("state {state}, input {input}, {}", record.shown())
+            });
+        }
     }
 }
 
@@ -205,13 +210,15 @@ pub fn lent_as(run: &mut Run, record: &Record, words: &[u64], cases: &[(u64, u64
         let stepped = |step: Step<[u64]>| {
             record.answered(|record, work| step(words, &record.gates, work, state, input))
         };
-        let answers = Answers {
-            ours: stepped(ours.step_words),
-            rust: None,
-            reading: stepped(reading::step_words),
-        };
-        run.tally.check(answers, || {
-            format!("state {state}, input {input}, {}", shown())
-        });
+        for step in [ours.step_words, ours.step_records] {
+            let answers = Answers {
+                ours: stepped(step),
+                rust: None,
+                reading: stepped(reading::step_words),
+            };
+            run.tally.check(answers, || {
+                format!("state {state}, input {input}, {}", shown())
+            });
+        }
     }
 }

@@ -188,6 +188,16 @@ pub const FAULTS: &[Fault] = &[
         },
     },
     Fault {
+        name: "step over records: the last one is not lent",
+        group: records::WORDS.name,
+        spoil: |subject| {
+            subject.step_records = |record, gates, work, state, input| {
+                let (lent, _) = gates.split_at(gates.len() - gates.len().min(3));
+                (OURS.step_records)(record, lent, work, state, input)
+            };
+        },
+    },
+    Fault {
         name: "step: outputs that are not there are 0",
         group: records::WORDS.name,
         spoil: |subject| {
