@@ -3,7 +3,7 @@
  * Every call takes any bytes, numbers and lengths. It answers with `reason` 0, or with the first number of 01's list that applies; then
  * every other field is 0. A slice is a pointer and a length in elements: the pointer is to that many readable elements, aligned, and not
  * null, also where the length is 0. Slices that a call writes (gates of the reader, work, pairs, literals, out, the cursor) overlap
- * nothing else. Nothing more is asked.
+ * nothing else. A `bool` is 0 or 1. Nothing more is asked.
  *
  * On a refusal result buffers (gates of the reader, pairs, literals, out) are as before. On acceptance elements past the result are as
  * before. Work words may hold anything at entry and are all 0 after every call.
@@ -39,7 +39,7 @@ typedef struct NitTransition {
     uint64_t and_count;
 } NitTransition;
 
-/* A model is lent as the 64-bit words of its memory: `NIT_MODEL(&model)` gives both arguments. */
+/* A model is lent as the 64-bit words of its memory: `NIT_MODEL(&model)` gives both arguments. Fewer than 213 words are no model (11). */
 #define NIT_MODEL_WORDS (sizeof(NitTransition) / sizeof(uint64_t))
 #define NIT_MODEL(model) ((const uint64_t *)(const void *)(model)), ((size_t)NIT_MODEL_WORDS)
 
@@ -114,7 +114,10 @@ NitStepped nit_step_records(const uint64_t *model, size_t model_length,
 
 /* The clauses of a row, a row with claimed outputs, and a terminal list. Reasons 7, 11, 13, 14, 20. A literal of the result is
  * 2 x CNF variable, plus 1 when positive, CNF variable n being AIGER variable n + 1; in a predicate the variable is an index into
- * `relevant`. Pairs are two words, offset and length; outcomes three: target, high, low. */
+ * `relevant`. Pairs are two words, offset and length; outcomes three: target, high, low.
+ *
+ * Every obligation of L latches, c predicate clauses, A gates and n claims of k latches and observed outputs has room in L + c + 3A + n + 1
+ * pairs and L + 7A + k n + 1,025 literals. Where that much is lent, the clauses are written at once; else they are measured first. */
 NitMade nit_relation_row(const uint64_t *model, size_t model_length,
                          const uint64_t *gates, size_t gates_length,
                          const uint64_t *relevant, size_t relevant_length,
@@ -163,6 +166,18 @@ NitComposed nit_compose(const uint8_t *model, size_t model_length,
 /* Takes the next line of a text as one literal, by the witness reader's rule for numbers. Reason 8. The cursor moves past the line, also
  * where it is refused; with no line left it stays. */
 NitTaken nit_take_literal(const uint8_t *text, size_t text_length, NitCursor *cursor);
+
+/* The layout that the library was compiled for. */
+#if defined(__cplusplus)
+#define NIT_ASSERT static_assert
+#else
+#define NIT_ASSERT _Static_assert
+#endif
+NIT_ASSERT(sizeof(size_t) == 8, "the library's words are 64 bits wide");
+NIT_ASSERT(NIT_MODEL_WORDS == 213, "a model is 213 words");
+NIT_ASSERT(sizeof(NitRead) == 1712, "a model and its reason are 214 words");
+NIT_ASSERT(sizeof(NitGate) == 24, "a gate is three words");
+#undef NIT_ASSERT
 
 #ifdef __cplusplus
 }
