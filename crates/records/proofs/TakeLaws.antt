@@ -14,10 +14,9 @@ use Rattle.aiger.specs.declared.Gate.{Gate}
 use Rattle.model.specs.declared.AigerLatch.{AigerLatch}
 use Rattle.model.specs.declared.AigerTransition.{AigerTransition}
 use Rattle.model.specs.declared.Counts.{Counts}
-use Rattle.model.specs.declared.Verdict.the-variants.{Refused}
 use Rattle.model.specs.Circuit.{nextOf}
 use Rattle.model.specs.Checked.{countsOf}
-use Rattle.model.specs.Marking.{Marking, AddsGate, leavesFrom, passed}
+use Rattle.model.specs.Marking.{Marking, AddsGate, leavesFrom}
 use Rattle.model.specs.RecordWords.{countsIn, latchesIn, recordIn}
 use Rattle.step.specs.declared.Outcome.{Outcome}
 use Rattle.step.specs.declared.Stepped.{Stepped}
