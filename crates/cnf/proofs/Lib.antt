@@ -1,5 +1,3 @@
-pub mod AnyLaws
-pub mod AscendingLaws
 pub mod SignLaws
 pub mod TruthLaws
 pub mod MemberLaws
