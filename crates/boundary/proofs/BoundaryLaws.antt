@@ -1,6 +1,6 @@
 -- Laws for the functions that check relevant inputs, predicates and states (01, reasons 13 and 14).
 use Prim.Native.Nat.{ℕ, _+_, _-_, _*_, _/_, _≤_, _<_, _^_}
-use mathlib.Core.Bool.{Bool, true, false, not, _&&_}
+use mathlib.Core.Bool.{Bool, true, false, not, _&&_, and-false, and-true}
 use mathlib.Core.List.{List, [], _∷_}
 use mathlib.Core.Path.{_≡_, refl, sym, ap, _∙_}
 use native.Mathlib.Omega.{arith}
@@ -13,7 +13,6 @@ use Rattle.lists.specs.Parts.{part}
 use Rattle.lists.specs.Sets.{rising}
 use Rattle.lists.specs.Tests.{all, every}
 use Rattle.lists.specs.Words.{inOrder, lengths}
-use Rattle.lists.proofs.BoolLaws.{and-false, and-true}
 use Rattle.lists.proofs.PairLaws.{pair-rest, no-pair, order-none}
 use Rattle.lists.proofs.TestLaws.{every-fails}
 use Rattle.lists.proofs.WordLaws.{pairs-end}

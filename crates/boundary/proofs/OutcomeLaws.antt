@@ -1,6 +1,6 @@
 -- Laws for the functions that check claimed outcomes (01, reason 14).
 use Prim.Native.Nat.{ℕ, _+_, _-_, _*_, _/_, _≤_, _<_, _^_}
-use mathlib.Core.Bool.{Bool, true, false, not, _&&_, _||_}
+use mathlib.Core.Bool.{Bool, true, false, not, _&&_, _||_, and-false, and-true, or-false}
 use mathlib.Core.List.{List, [], _∷_}
 use mathlib.Core.Path.{_≡_, refl, sym, ap, _∙_}
 use native.Mathlib.Omega.{arith}
@@ -10,7 +10,6 @@ use lib.ListN.{length, getD, drop}
 use Rattle.step.specs.declared.Outcome.{Outcome}
 use Rattle.lists.specs.Sets.{rising}
 use Rattle.lists.specs.Tests.{all, every}
-use Rattle.lists.proofs.BoolLaws.{and-false, and-true, or-false}
 use Rattle.lists.proofs.RisingLaws.{rises-stop, rises-more, rises-end, rising-distinct}
 use Rattle.lists.proofs.CountLaws.{distinct-count}
 use Rattle.lists.proofs.TestLaws.{all-stop, all-more, all-end, all-and, each-of-all, each-so, every-fails}

@@ -12,10 +12,10 @@ use Rattle.lists.specs.Sets.{member, holds}
 use Rattle.lists.specs.Tests.{any}
 use Rattle.lists.proofs.BitLaws.{bits-length, bits-at}
 use Rattle.lists.proofs.TestLaws.{any-map}
+use Rattle.lists.proofs.AnyLaws.{member-any}
 use Rattle.sorting.specs.Sorted.{sorted}
 use Rattle.sorting.proofs.SortedLaws.{any-sorted}
 use Rattle.cnf.specs.Simplified.{simplified}
-use Rattle.cnf.proofs.AnyLaws.{member-any}
 use Rattle.cnf.proofs.MemberLaws.{simplified-members}
 use Rattle.step.specs.declared.Outcome.{Outcome}
 use Rattle.completeness.specs.Lists.{valued, differing, outputBits, outcomesOf}

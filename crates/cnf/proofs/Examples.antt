@@ -2,8 +2,9 @@
 use mathlib.Core.Bool.{true, false}
 use mathlib.Core.List.{[], _∷_}
 use mathlib.Core.Path.{_≡_, refl}
-use Rattle.cnf.specs.Clauses.{literalTrue, satisfies, valuationOf, assignmentOf, literalsOf, pairsFrom, returned}
+use Rattle.cnf.specs.Clauses.{literalTrue, satisfies, valuationOf, literalsOf, pairsFrom, returned}
 use Rattle.cnf.specs.Simplified.{opposite, cnfWord, dropped, simplified}
+use Rattle.cnf.proofs.VariableLaws.{assignmentOf}
 
 -- AIGER variable 1 is CNF variable 0; an even AIGER literal is positive, and its word is odd
 positive-first : cnfWord 2 ≡ 1

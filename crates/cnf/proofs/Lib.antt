@@ -1,6 +1,5 @@
-pub mod AnyLaws
-pub mod AscendingLaws
 pub mod SignLaws
+pub mod SizeLaws
 pub mod TruthLaws
 pub mod MemberLaws
 pub mod ReturnedLaws

@@ -1,15 +1,15 @@
 -- The order and the repeats of a clause's literals do not matter; nor do false constants that fill it up.
 use Prim.Native.Nat.{ℕ}
 use mathlib.Core.Path.{_≡_, sym, _∙_}
-use mathlib.Core.Bool.{false, not, _&&_}
+use mathlib.Core.Bool.{not, _&&_}
 use mathlib.Core.List.{List, map}
 use lib.Dec.{eqb}
 use Rattle.lists.specs.Tests.{any}
 use Rattle.lists.specs.Sets.{member}
 use Rattle.lists.proofs.TestLaws.{any-cong, any-map}
+use Rattle.lists.proofs.SetLaws.{set-same}
+use Rattle.lists.proofs.AnyLaws.{member-any, any-same}
 use Rattle.cnf.specs.Simplified.{opposite, cnfWord, withoutFalse, bothSigns, dropped, simplified}
-use Rattle.cnf.proofs.AnyLaws.{member-any, any-same}
-use Rattle.cnf.proofs.AscendingLaws.{ascending-same}
 use Rattle.cnf.proofs.SignLaws.{both-any, any-without}
 
 module _ (xs ys : List ℕ) (same : (x : ℕ) → member x xs ≡ member x ys) where
@@ -32,4 +32,4 @@ module _ (xs ys : List ℕ) (same : (x : ℕ) → member x xs ≡ member x ys) w
   pub simplified-members : simplified xs ≡ simplified ys
   unfolding simplified dropped
   simplified-members =
-      rw (same 1, both-members, ascending-same (map cnfWord (withoutFalse xs)) (map cnfWord (withoutFalse ys)) word-members)
+      rw (same 1, both-members, set-same (map cnfWord (withoutFalse xs)) (map cnfWord (withoutFalse ys)) word-members)

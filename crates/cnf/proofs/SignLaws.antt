@@ -9,12 +9,14 @@ use lib.ListN.{length}
 use borrow.Author.Tests.{eqb-true, eqb-false, eq-eqb, ne-eqb}
 use Rattle.lists.specs.Bits.{odd, bit}
 use Rattle.lists.specs.Tests.{any, Each}
-use Rattle.lists.specs.Sets.{member}
-use Rattle.lists.proofs.TestLaws.{any-cong, each-so}
+use Rattle.lists.specs.Sets.{member, rising, setOf}
+use Rattle.lists.proofs.TestLaws.{any-cong, each-so, any-or}
 use Rattle.lists.proofs.DistinctLaws.{member-first, member-rest}
-use Rattle.cnf.specs.Simplified.{opposite, cnfWord, withoutFalse, bothSigns, ascending}
-use Rattle.cnf.proofs.AnyLaws.{member-any, any-or}
-use Rattle.cnf.proofs.AscendingLaws.{any-ascending, member-ascending, Strict, above-none}
+use Rattle.lists.proofs.RisingLaws.{rising-tail, rising-below, above-none}
+use Rattle.lists.proofs.SetLaws.{any-set, member-set}
+use Rattle.lists.proofs.AnyLaws.{member-any}
+use Rattle.lists.proofs.BoolLaws.{eqb-same}
+use Rattle.cnf.specs.Simplified.{opposite, cnfWord, withoutFalse, bothSigns}
 
 pub odd-is : (l : ℕ) → odd l ≡ true → l % 2 ≡ 1
 odd-is l e = eqb-true (l % 2) 1 e
@@ -44,16 +46,8 @@ word-is l = go (odd l) refl
     go true e = let n : 1 - l % 2 ≡ 0 = omega (arith, odd-is l e) in rw n
     go false e = let n : 1 - l % 2 ≡ 1 = omega (arith, even-is l e) in rw n
 
--- equal tests of numbers
-same-test : (a b c d : ℕ) → (a ≡ b → c ≡ d) → (c ≡ d → a ≡ b) → eqb a b ≡ eqb c d
-same-test a b c d f g = go (eqb a b) refl
-  where
-    go : (t : Bool) → eqb a b ≡ t → eqb a b ≡ eqb c d
-    go true e = e ∙ sym (eq-eqb c d (f (eqb-true a b e)))
-    go false e = e ∙ sym (ne-eqb c d (λ q. eqb-false a b e (g q)))
-
 opposite-swap : (x y : ℕ) → eqb (opposite x) y ≡ eqb (opposite y) x
-opposite-swap x y = same-test (opposite x) y (opposite y) x (λ q. omega (arith, opposite-is x, opposite-is y)) (λ q. omega (arith, opposite-is x, opposite-is y))
+opposite-swap x y = eqb-same (opposite x) y (opposite y) x (λ q. omega (arith, opposite-is x, opposite-is y)) (λ q. omega (arith, opposite-is x, opposite-is y))
 
 opposite-other : (x : ℕ) → eqb (opposite x) x ≡ false
 opposite-other x = ne-eqb (opposite x) x (λ q. omega (arith, opposite-is x))
@@ -71,11 +65,11 @@ both-any (x ∷ l) = sym (
     ∙ or-self-left (member (opposite x) l) (any (λ y. member (opposite y) l) l)
     ∙ ap (λ (b : Bool). member (opposite x) l || b) (sym (both-any l))))
 
-pub both-ascending : (l : List ℕ) → bothSigns (ascending l) ≡ bothSigns l
-both-ascending l =
-    both-any (ascending l)
-    ∙ any-ascending (λ x. member (opposite x) (ascending l)) l
-    ∙ any-cong (λ x. member (opposite x) (ascending l)) (λ x. member (opposite x) l) (λ x. member-ascending (opposite x) l) l
+pub both-set : (l : List ℕ) → bothSigns (setOf l) ≡ bothSigns l
+both-set l =
+    both-any (setOf l)
+    ∙ any-set (λ x. member (opposite x) (setOf l)) l
+    ∙ any-cong (λ x. member (opposite x) (setOf l)) (λ x. member (opposite x) l) (λ x. member-set (opposite x) l) l
     ∙ sym (both-any l)
 
 -- in a strictly rising list it is enough to compare neighbours
@@ -88,15 +82,17 @@ adjacent [] = false
 adjacent (x ∷ l) = neighbours x l
 
 opposite-next : (x y : ℕ) → x < y → eqb (opposite x) y ≡ eqb (y / 2) (x / 2)
-opposite-next x y h = same-test (opposite x) y (y / 2) (x / 2) (λ q. omega (arith, opposite-is x)) (λ q. omega (arith, opposite-is x))
+opposite-next x y h = eqb-same (opposite x) y (y / 2) (x / 2) (λ q. omega (arith, opposite-is x)) (λ q. omega (arith, opposite-is x))
 
-pub both-adjacent : (l : List ℕ) → Strict l → bothSigns l ≡ adjacent l
-both-adjacent [] s = refl
-both-adjacent (x ∷ []) s = refl
-both-adjacent (x ∷ y ∷ l) s =
-    let h : x < y = s .0 .0 in
-    let none : member (opposite x) l ≡ false = above-none (opposite x) l (each-so (λ z. y < z) (λ z. opposite x < z) (λ z b. omega (arith, opposite-is x)) l (s .1 .0)) in
-    rw (none, opposite-next x y h, both-adjacent (y ∷ l) (s .1), or-false (eqb (y / 2) (x / 2)))
+pub both-adjacent : (l : List ℕ) → rising l ≡ true → bothSigns l ≡ adjacent l
+both-adjacent [] r = refl
+both-adjacent (x ∷ []) r = refl
+both-adjacent (x ∷ y ∷ l) r =
+    let h : x < y = rising-below x (y ∷ l) r .0 in
+    let rest : rising (y ∷ l) ≡ true = rising-tail x (y ∷ l) r in
+    let none : member (opposite x) l ≡ false =
+    above-none (opposite x) l (each-so (λ z. y < z) (λ z. opposite x < z) (λ z b. omega (arith, opposite-is x)) l (rising-below y l rest)) in
+    rw (none, opposite-next x y h, both-adjacent (y ∷ l) rest, or-false (eqb (y / 2) (x / 2)))
 
 -- ---- literals and words
 
@@ -207,7 +203,7 @@ word-turned l h = go (odd l) refl
         a ∙ sym b
 
 word-opposite : (x y : ℕ) → 2 ≤ x → 2 ≤ y → eqb (opposite (cnfWord x)) (cnfWord y) ≡ eqb (opposite x) y
-word-opposite x y h k = same-test (opposite (cnfWord x)) (cnfWord y) (opposite x) y there back
+word-opposite x y h k = eqb-same (opposite (cnfWord x)) (cnfWord y) (opposite x) y there back
   where
     there : opposite (cnfWord x) ≡ cnfWord y → opposite x ≡ y
     there q =

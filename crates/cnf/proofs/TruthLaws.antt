@@ -8,15 +8,15 @@ use lib.Dec.{eqb}
 use borrow.Author.Tests.{eqb-true}
 use Rattle.lists.specs.Bits.{odd}
 use Rattle.lists.specs.Tests.{all, any}
-use Rattle.lists.specs.Sets.{member}
+use Rattle.lists.specs.Sets.{member, setOf}
 use Rattle.lists.specs.Words.{wordsOf}
 use Rattle.lists.proofs.BoolLaws.{or-left}
-use Rattle.lists.proofs.TestLaws.{all-append, any-cong, any-map, each-so}
-use Rattle.aiger.specs.Gates.{Valuation, value, variable}
+use Rattle.lists.proofs.TestLaws.{all-append, any-cong, any-map, each-so, any-each}
+use Rattle.lists.proofs.SetLaws.{any-set}
+use Rattle.lists.proofs.AnyLaws.{any-found, any-member}
+use Rattle.aiger.specs.Gates.{Valuation, value}
 use Rattle.cnf.specs.Clauses.{Clause, Assignment, valueAt, literalTrue, satisfies, valuationOf}
-use Rattle.cnf.specs.Simplified.{opposite, cnfWord, withoutFalse, ascending, bothSigns, dropped, simplified}
-use Rattle.cnf.proofs.AnyLaws.{any-found, any-member, any-each}
-use Rattle.cnf.proofs.AscendingLaws.{any-ascending}
+use Rattle.cnf.specs.Simplified.{opposite, cnfWord, withoutFalse, bothSigns, dropped, simplified}
 use Rattle.cnf.proofs.SignLaws.{odd-is, even-is, is-odd, is-even, opposite-is, word-is, both-any, Proper, proper-without, any-without}
 
 module _ (v : Valuation) where
@@ -106,11 +106,11 @@ pub simplified-true : (a : Assignment) (ls : List ℕ) → satisfies a (simplifi
 unfolding simplified satisfies
 simplified-true a ls = go (dropped ls) refl
   where
-    go : (b : Bool) → dropped ls ≡ b → all (any (literalTrue a)) (cond b [] (ascending (map cnfWord (withoutFalse ls)) ∷ [])) ≡ any (value (valuationOf a)) ls
+    go : (b : Bool) → dropped ls ≡ b → all (any (literalTrue a)) (cond b [] (setOf (map cnfWord (withoutFalse ls)) ∷ [])) ≡ any (value (valuationOf a)) ls
     go true e = sym (dropped-true (valuationOf a) refl ls e)
     go false e =
-        and-true (any (literalTrue a) (ascending (map cnfWord (withoutFalse ls))))
-        ∙ any-ascending (literalTrue a) (map cnfWord (withoutFalse ls))
+        and-true (any (literalTrue a) (setOf (map cnfWord (withoutFalse ls))))
+        ∙ any-set (literalTrue a) (map cnfWord (withoutFalse ls))
         ∙ words-true a (withoutFalse ls) (proper-without ls (dropped-no-true ls e))
         ∙ without-true (valuationOf a) refl ls
 

@@ -7,12 +7,13 @@ use native.Mathlib.Omega.{arith}
 use lib.ListN.{length}
 use Rattle.lists.specs.Tests.{all, any, Each}
 use Rattle.lists.specs.Words.{wordsOf}
-use Rattle.lists.proofs.TestLaws.{each-append, each-map, each-so, each-with}
+use Rattle.lists.specs.Sets.{setOf}
+use Rattle.lists.proofs.TestLaws.{each-map, each-so, each-with, any-each}
+use Rattle.lists.proofs.SetLaws.{each-set}
+use Rattle.lists.proofs.WordLaws.{each-words}
 use Rattle.aiger.specs.Gates.{Valuation, value}
-use Rattle.cnf.specs.Clauses.{valueAt, satisfies, valuationOf, assignmentOf}
-use Rattle.cnf.specs.Simplified.{cnfWord, withoutFalse, ascending, dropped, simplified}
-use Rattle.cnf.proofs.AnyLaws.{any-each}
-use Rattle.cnf.proofs.AscendingLaws.{each-ascending}
+use Rattle.cnf.specs.Clauses.{Assignment, valueAt, satisfies, valuationOf}
+use Rattle.cnf.specs.Simplified.{cnfWord, withoutFalse, dropped, simplified}
 use Rattle.cnf.proofs.SignLaws.{word-number, proper-without, each-without}
 use Rattle.cnf.proofs.TruthLaws.{dropped-no-true, clauses-true}
 
@@ -28,10 +29,10 @@ pub each-word : (P : ℕ → Type 0) (ls : List ℕ) → Each (λ l. 2 ≤ l →
 unfolding simplified
 each-word P ls e = go (dropped ls) refl
   where
-    go : (b : Bool) → dropped ls ≡ b → Each (λ c. Each P c) (cond b [] (ascending (map cnfWord (withoutFalse ls)) ∷ []))
+    go : (b : Bool) → dropped ls ≡ b → Each (λ c. Each P c) (cond b [] (setOf (map cnfWord (withoutFalse ls)) ∷ []))
     go true d = tt
     go false d = (
-      each-ascending P (map cnfWord (withoutFalse ls))
+      each-set P (map cnfWord (withoutFalse ls))
           (each-map cnfWord P (withoutFalse ls)
           (each-with (λ l. 2 ≤ l) (λ l. 2 ≤ l → P (cnfWord l)) (λ l. P (cnfWord l)) (λ l h f. f h) (withoutFalse ls)
           (proper-without ls (dropped-no-true ls d))
@@ -43,11 +44,15 @@ pub words-below : (n : ℕ) (ls : List ℕ) → UpTo n ls → Each (λ c. Each (
 words-below n ls e = each-word (λ w. w < 2 * n) ls (each-so (λ l. l ≤ 2 * n + 1) (λ l. 2 ≤ l → cnfWord l < 2 * n) (λ l h k. word-below n l k h) ls e)
 
 pub clauses-below : (n : ℕ) (lists : List (List ℕ)) → Each (UpTo n) lists → Each (λ c. Each (λ w. w < 2 * n) c) (wordsOf simplified lists)
-clauses-below n [] e = tt
-clauses-below n (ls ∷ lists) e =
-    each-append (λ c. Each (λ w. w < 2 * n) c) (simplified ls) (wordsOf simplified lists) (words-below n ls (e .0)) (clauses-below n lists (e .1))
+clauses-below n lists e =
+    each-words simplified (λ c. Each (λ w. w < 2 * n) c) lists (each-so (UpTo n) (λ ls. Each (λ c. Each (λ w. w < 2 * n) c) (simplified ls)) (words-below n) lists e)
 
 -- ---- the assignment made from values
+
+-- the values v 1, .., v n as an assignment: those of the CNF variables 0, .., n - 1
+abbrev pub assignmentOf : ℕ → Valuation → Assignment
+assignmentOf zero v = []
+assignmentOf (suc n) v = v 1 ∷ assignmentOf n (λ k. v (suc k))
 
 pub assignment-length : (n : ℕ) (v : Valuation) → length (assignmentOf n v) ≡ n
 assignment-length zero v = refl

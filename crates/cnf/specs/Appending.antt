@@ -6,14 +6,14 @@ use mathlib.Core.List.{List, [], _∷_, _++_, map}
 use mathlib.Core.Path.{_≡_}
 use lib.ListN.{length, take}
 use Rattle.lists.specs.Parts.{front, put}
-use Rattle.lists.specs.Sets.{member}
+use Rattle.lists.specs.Sets.{member, setOf}
 use Rattle.lists.specs.Tests.{Each}
 use Rattle.lists.specs.Words.{wordsOf}
 use Rattle.cnf.specs.declared.Simple.{Simple}
 use Rattle.cnf.specs.declared.Simple.the-variants.{Dropped, Kept}
 use Rattle.cnf.specs.declared.Table.{Table}
 use Rattle.cnf.specs.Clauses.{Clause, literalsOf, pairsFrom}
-use Rattle.cnf.specs.Simplified.{cnfWord, withoutFalse, ascending, bothSigns, simplified}
+use Rattle.cnf.specs.Simplified.{cnfWord, withoutFalse, bothSigns, simplified}
 
 -- the buffers have room for the clauses
 pub record Room (cs : List Clause) (pairs words : List ℕ) : Type 0 where
@@ -58,7 +58,7 @@ pub record Filled (ls list : List ℕ) (n : ℕ) : Type 0 where
 pub record KeptAs (words : List ℕ) (k : ℕ) (list : List ℕ) : Type 0 where
   pub signs : bothSigns words ≡ false
   pub count : k ≤ length words
-  pub clause : take k list ≡ ascending words
+  pub clause : take k list ≡ setOf words
 
 -- What became of a clause of these words: it is dropped for a variable in both signs, or kept. (A word's other sign is the `opposite` word, as with literals.)
 pub record Simplifies (words : List ℕ) (r : Simple) (list : List ℕ) : Type 0 where

@@ -38,11 +38,6 @@ abbrev pub valuationOf : Assignment → Valuation
 valuationOf a zero = false
 valuationOf a (suc n) = valueAt a n
 
--- and back: the values v 1, .., v n, which are those of the CNF variables 0, .., n - 1
-abbrev pub assignmentOf : ℕ → Valuation → Assignment
-assignmentOf zero v = []
-assignmentOf (suc n) v = v 1 ∷ assignmentOf n (λ k. v (suc k))
-
 -- the literal words of clauses, one clause after the other
 abbrev pub literalsOf : List Clause → List ℕ
 literalsOf cs = wordsOf (λ c. c) cs

@@ -12,10 +12,10 @@ use Rattle.model.specs.Circuit.{Circuit}
 use Rattle.model.specs.Values.{Settles}
 use Rattle.model.proofs.ValueLaws.{Sound, settles-exist}
 use Rattle.step.specs.declared.Outcome.{Outcome}
-use Rattle.cnf.specs.Clauses.{Clause, Assignment, satisfies, Unsatisfiable, valuationOf, assignmentOf}
+use Rattle.cnf.specs.Clauses.{Clause, Assignment, satisfies, Unsatisfiable, valuationOf}
 use Rattle.cnf.specs.Simplified.{simplified}
 use Rattle.cnf.proofs.TruthLaws.{clauses-true}
-use Rattle.cnf.proofs.VariableLaws.{clauses-below, assignment-length, assignment-true}
+use Rattle.cnf.proofs.VariableLaws.{clauses-below, assignment-length, assignment-true, assignmentOf}
 use Rattle.completeness.specs.Lists.{rowLists, targetList, outcomeList, relationClauses, transducerClauses}
 use Rattle.completeness.specs.Meaning.{State, Complete, ToTarget, ToOutcome, Escapes, RowMeans}
 use Rattle.completeness.proofs.BodyLaws.{Boundary, wordUnder, values-lt, row-true, row-says}

@@ -16,10 +16,10 @@ use Rattle.aiger.specs.Gates.{Valuation, value}
 use Rattle.model.specs.Circuit.{Circuit, currentOf, currentsOf, nextsOf}
 use Rattle.model.specs.Values.{Settles}
 use Rattle.model.proofs.ValueLaws.{Sound, Literals}
-use Rattle.cnf.specs.Clauses.{Clause, Assignment, satisfies, Unsatisfiable, valuationOf, assignmentOf}
+use Rattle.cnf.specs.Clauses.{Clause, Assignment, satisfies, Unsatisfiable, valuationOf}
 use Rattle.cnf.specs.Simplified.{opposite, simplified}
 use Rattle.cnf.proofs.TruthLaws.{clauses-true, value-opposite}
-use Rattle.cnf.proofs.VariableLaws.{clauses-below, assignment-length, assignment-true}
+use Rattle.cnf.proofs.VariableLaws.{clauses-below, assignment-length, assignment-true, assignmentOf}
 use Rattle.completeness.specs.Lists.{stateList, bodyLists, terminalClauses}
 use Rattle.completeness.specs.Meaning.{_∈_, State, Meets, TerminalComplete, Overlooks, TerminalMeans}
 use Rattle.completeness.proofs.BodyLaws.{Boundary, wordUnder, stateUnder, values-bits, values-lt, body-true, body-says}

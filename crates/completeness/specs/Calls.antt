@@ -44,26 +44,33 @@ within lent cs =
 abbrev pub asked : Asked → Lent → Answer Circuit
 asked q lent = andThen (checked (q .model) (q .gates) (lent .work)) (λ c. unless 13 (bounded c (q .relevant) (q .pairs) (q .words)) (got c))
 
--- `relation_row_completeness_cnf`
-unfoldable pub relationRow : Asked → ℕ → List ℕ → Lent → Answer (List Clause)
-relationRow q source targets lent =
-    andThen (asked q lent) (λ c.
+-- 14, 20: the rest of each call, for the circuit of an accepted model and boundary
+abbrev pub relationOn : Circuit → Asked → ℕ → List ℕ → Lent → Answer (List Clause)
+relationOn c q source targets lent =
     unless 14 (isState c source)
     (unless 14 (statesClaimed c targets)
-    (within lent (relationClauses c (q .relevant) (predicate q) source targets))))
+    (within lent (relationClauses c (q .relevant) (predicate q) source targets)))
+
+abbrev pub transducerOn : Circuit → Asked → ℕ → List ℕ → List ℕ → Lent → Answer (List Clause)
+transducerOn c q source observed outcomes lent =
+    unless 14 (isState c source)
+    (unless 14 (outcomesClaimed c observed (outcomesOf outcomes))
+    (within lent (transducerClauses c (q .relevant) (predicate q) source observed (outcomesOf outcomes))))
+
+abbrev pub terminalOn : Circuit → Asked → ℕ → List ℕ → Lent → Answer (List Clause)
+terminalOn c q bad states lent =
+    unless 14 (ltb bad (length (c .outputs)))
+    (unless 14 (statesClaimed c states)
+    (within lent (terminalClauses c (q .relevant) (predicate q) bad states)))
+
+-- `relation_row_completeness_cnf`
+unfoldable pub relationRow : Asked → ℕ → List ℕ → Lent → Answer (List Clause)
+relationRow q source targets lent = andThen (asked q lent) (λ c. relationOn c q source targets lent)
 
 -- `transducer_row_completeness_cnf`
 unfoldable pub transducerRow : Asked → ℕ → List ℕ → List ℕ → Lent → Answer (List Clause)
-transducerRow q source observed outcomes lent =
-    andThen (asked q lent) (λ c.
-    unless 14 (isState c source)
-    (unless 14 (outcomesClaimed c observed (outcomesOf outcomes))
-    (within lent (transducerClauses c (q .relevant) (predicate q) source observed (outcomesOf outcomes)))))
+transducerRow q source observed outcomes lent = andThen (asked q lent) (λ c. transducerOn c q source observed outcomes lent)
 
 -- `terminal_completeness_cnf`
 unfoldable pub terminalList : Asked → ℕ → List ℕ → Lent → Answer (List Clause)
-terminalList q bad states lent =
-    andThen (asked q lent) (λ c.
-    unless 14 (ltb bad (length (c .outputs)))
-    (unless 14 (statesClaimed c states)
-    (within lent (terminalClauses c (q .relevant) (predicate q) bad states))))
+terminalList q bad states lent = andThen (asked q lent) (λ c. terminalOn c q bad states lent)

@@ -1,6 +1,6 @@
 -- Laws of what the composer tests before and beside the composition: pairs, room, safety.
 use Prim.Native.Nat.{ℕ, zero, suc, _+_, _-_, _*_, _/_, _≤_, _<_}
-use mathlib.Core.Bool.{Bool, true, false, cond, not, _&&_}
+use mathlib.Core.Bool.{Bool, true, false, cond, not, _&&_, and-false}
 use mathlib.Core.List.{List, [], _∷_}
 use mathlib.Core.Logic.{_⊎_, inl, inr}
 use mathlib.Core.Path.{_≡_, refl, sym, ap, _∙_}
@@ -12,7 +12,7 @@ use Rattle.lists.specs.Answer.{got}
 use Rattle.lists.specs.Parts.{Bytes}
 use Rattle.lists.specs.Words.{inOrder}
 use Rattle.lists.proofs.AnswerLaws.{got-same}
-use Rattle.lists.proofs.BoolLaws.{and-false, below-or}
+use Rattle.lists.proofs.BoolLaws.{below-or}
 use Rattle.lists.proofs.PairLaws.{pair-rest, no-pair, order-none}
 use Rattle.witness_text.specs.declared.AagCounts.{AagCounts}
 use Rattle.text.specs.Texts.{limited}

@@ -14,7 +14,7 @@ use Rattle.witness_text.specs.declared.AagCounts.{AagCounts}
 use Rattle.witness.specs.Sections.{Sections, variables}
 use Rattle.witness.specs.Reading.{countsIn}
 use Rattle.composition.specs.Composing.{mapsRight, compose}
-use Rattle.composition.specs.Calling.{size, sizes, readAll, composeSections, textsIn}
+use Rattle.composition.specs.Calling.{size, sizes, readAll, composeSections, textsIn, composeRead}
 use Rattle.joint.specs.Joint.{totalOf, inputCount, latchCount, gateCount}
 use Rattle.gathering.specs.declared.Totals.{Totals}
 use Rattle.gathering.specs.declared.Checked.{Checked}
@@ -25,9 +25,10 @@ use Rattle.laying.specs.declared.Places.{Places}
 use Rattle.laying.specs.declared.Laid.{Laid}
 use Rattle.laying.specs.declared.Laid.the-variants as laid
 use Rattle.laying.specs.Laid.{Fitting, LaidOut, CanLay, Lays}
+use Rattle.laying.proofs.StageLaws.{fitting-same}
 use Rattle.compose.specs.declared.Composed.{Composed}
 use Rattle.compose.specs.declared.Composed.the-variants as composed
-use Rattle.compose.specs.Steps.{firstRoom, roomBeside, Answers, composeRead, ModelIs, ModelSome, ComposesWitnesses, ComposesFitting, LaidRight, LaidSome, ComposesLaid}
+use Rattle.compose.specs.Steps.{firstRoom, roomBeside, Answers, ModelIs, ModelSome, ComposesWitnesses, ComposesFitting, LaidRight, LaidSome, ComposesLaid}
 use Rattle.compose.proofs.CallLaws.{room-enough}
 
 -- a refusal leaves the result bytes as they are
@@ -38,19 +39,6 @@ pub answers-same : (out : Bytes) (a b : Answer Bytes) (out' : Bytes) (r : Compos
 answers-same out a b out' r e k = rw e k
 
 -- ---- laid out
-
-fitting-same : (mc : AagCounts) (t : Totals) (buffer : Bytes) (pairs work work' : List ℕ) (m : Sections) (ws : List Sections) → length work' ≡ length work
-    → Fitting mc t buffer pairs work m ws → Fitting mc t buffer pairs work' m ws
-fitting-same mc t buffer pairs work work' m ws e f =
-    record {
-      readable = f .readable;
-      model = f .model;
-      few = f .few;
-      inputs = f .inputs;
-      latches = f .latches;
-      gates = f .gates;
-      room = omega (arith, f .room);
-    }
 
 wrong-literal : (room : ℕ) (m : Sections) (ws : List Sections) → all (mapsRight m) ws ≡ false → composeSections room m ws ≡ refused 16
 unfolding compose
@@ -67,7 +55,7 @@ module _ (mc : AagCounts) (t : Totals) (buffer : Bytes) (pairs work work' : List
         record { fitting = fitting-same mc t buffer pairs work work' m ws same f; right = o .0; ready = o .1 }
 
     pub fitting-laid : CanLay mc t buffer pairs work → LaidSome mc t buffer pairs work' at
-    fitting-laid k = record { m = k .m; ws = k .ws; laid = right (k .m) (k .ws) (k .fitting) }
+    fitting-laid k = record { m = k .m; ws = k .ws; holds = right (k .m) (k .ws) (k .holds) }
 
     pub fitting-composed : (out' : Bytes) (r : Composed) → ComposesLaid mc t buffer pairs work' at out out' r → ComposesFitting mc t buffer pairs work out out' r
     fitting-composed out' r c = record { each = λ m ws f. c .each m ws (right m ws f) }
@@ -167,14 +155,12 @@ module _ (mc : AagCounts) (buffer : Bytes) (pairs work : List ℕ) (out : Bytes)
             readable = record { pairsHold = i .pairsHold; reads = all-read .1 };
             model = i .counts;
             few = i .few;
-            inputs = counted .inputs ∙ omega arith;
-            latches = counted .latches ∙ omega arith;
-            gates = counted .gates ∙ omega arith;
+            totals = record { inputs = counted .inputs ∙ omega arith; latches = counted .latches ∙ omega arith; gates = counted .gates ∙ omega arith };
             room = leb-true (16 * sizes (m ∷ all-read .0) + 1024) (length work) (long-enough m i);
           }
 
       pub witnesses-fit : ModelSome buffer pairs mc → CanLay mc t buffer pairs work
-      witnesses-fit k = record { m = k .m; ws = all-read .0; fitting = fitting (k .m) (k .is) }
+      witnesses-fit k = record { m = k .m; ws = all-read .0; holds = fitting (k .m) (k .is) }
 
       pub witnesses-composed : (out' : Bytes) (r : Composed) → ComposesFitting mc t buffer pairs work out out' r → ComposesWitnesses mc buffer pairs work out out' r
       witnesses-composed out' r h =

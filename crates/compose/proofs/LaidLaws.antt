@@ -6,7 +6,6 @@ use mathlib.Core.Path.{_≡_, refl, sym, ap, _∙_, subst}
 use native.Mathlib.Nat.{zero-add}
 use native.Mathlib.Omega.{arith}
 use borrow.Author.Tests.{le-leb, lt-leb}
-use lib.Dec.{leb}
 use lib.ListN.{length, take, drop}
 use Rattle.lists.specs.Answer.{Answer, got, refused, andThen, unless}
 use Rattle.lists.specs.Parts.{Bytes, put, front}
@@ -16,22 +15,23 @@ use Rattle.witness_text.specs.declared.AagCounts.{AagCounts}
 use Rattle.witness.specs.Sections.{Sections}
 use Rattle.composition.specs.Composing.{composed, compose}
 use Rattle.composition.specs.Printing.{printed}
-use Rattle.composition.specs.Calling.{composeSections}
+use Rattle.composition.specs.Calling.{composeSections, printedWithin}
 use Rattle.joint.proofs.AmountLaws.{leaf-count-most}
 use Rattle.joint.proofs.GateLaws.{composed-gates-most}
 use Rattle.gathering.specs.declared.Totals.{Totals}
 use Rattle.gathering.specs.Checking.{FewInOrder}
 use Rattle.laying.specs.declared.Places.{Places}
+use Rattle.laying.specs.Laid.{Some}
 use Rattle.merging.specs.declared.Merged.{Merged}
 use Rattle.merging.specs.declared.Merging.{Merging}
 use Rattle.merging.specs.declared.Merging.the-variants as merging
-use Rattle.merging.specs.Merged.{Mergeable, Done, Outcome, Some, Goes}
+use Rattle.merging.specs.Merged.{Mergeable, Done, Outcome, Goes}
 use Rattle.merging.proofs.CallLaws.{readable-range, readable-few, ready-merge, ready-can, ready-kept, refused-composes, done-composes}
 use Rattle.composed_text.proofs.PartLaws.{composed-parts}
 use Rattle.writing.specs.Written.{Printable, PrintableSome, PrintsText, fromHeader}
 use Rattle.compose.specs.declared.Composed.{Composed}
 use Rattle.compose.specs.declared.Composed.the-variants as composed
-use Rattle.compose.specs.Steps.{Answers, TestsSafety, allSafe, writeComposed, Measures, Writes, LaidRight, LaidSome, ComposesLaid}
+use Rattle.compose.specs.Steps.{Answers, TestsSafety, allSafe, Measures, Writes, LaidRight, LaidSome, ComposesLaid}
 use Rattle.compose.proofs.ChainLaws.{refuses, answers-same}
 
 module _ (buffer : Bytes) (pairs work : List ℕ) (at : Places) (c : Merged) (t : Totals) where
@@ -56,8 +56,8 @@ module _ (buffer : Bytes) (pairs work : List ℕ) (at : Places) (c : Merged) (t 
     too-long l =
         record {
           each = λ m ws k.
-              subst (λ (x : Bytes). Answers out (writeComposed (length out) m ws) x (composed.Refused 20)) (sym (h .same))
-              (refuses out (writeComposed (length out) m ws) 20 (rw (lt-leb (length (printed (composed m ws))) (length out) (omega (arith, h .size m ws k, ap length (h .same), l))) refl));
+              subst (λ (x : Bytes). Answers out (printedWithin (length out) (composed m ws)) x (composed.Refused 20)) (sym (h .same))
+              (refuses out (printedWithin (length out) (composed m ws)) 20 (rw (lt-leb (length (printed (composed m ws))) (length out) (omega (arith, h .size m ws k, ap length (h .same), l))) refl));
         }
 
     pub written : length out < 9223372036854775808 → size ≤ length out₁ → (out' : Bytes) (r : ℕ) → PrintsText fromHeader buffer pairs work at c t out₁ 0 out' r → Writes buffer pairs work at c t out out' (composed.Got r)
@@ -73,27 +73,27 @@ module _ (buffer : Bytes) (pairs work : List ℕ) (at : Places) (c : Merged) (t 
         }
       where
         answered : (m : Sections) (ws : List Sections) (out' : Bytes) (r : ℕ) → length (printed (composed m ws)) ≤ length out → out' ≡ front out (printed (composed m ws)) → r ≡ length (printed (composed m ws))
-            → Answers out (writeComposed (length out) m ws) out' (composed.Got r)
+            → Answers out (printedWithin (length out) (composed m ws)) out' (composed.Got r)
         answered m ws out' r f s n =
-            answers-same out (writeComposed (length out) m ws) (got (printed (composed m ws))) out' (composed.Got r)
+            answers-same out (printedWithin (length out) (composed m ws)) (got (printed (composed m ws))) out' (composed.Got r)
             (rw (le-leb (length (printed (composed m ws))) (length out) f) refl) (record { returns = ap composed.Got n; result = s })
 
 -- ---- merging and 19
 
 module _ (mc : AagCounts) (t : Totals) (buffer : Bytes) (pairs work : List ℕ) (at : Places) where
   pub laid-can : LaidSome mc t buffer pairs work at → Some (Mergeable mc t at work)
-  laid-can k = ready-can mc t buffer pairs work work (k .m) (k .ws) at (k .laid .fitting) (k .laid .ready)
+  laid-can k = ready-can mc t buffer pairs work work (k .m) (k .ws) at (k .holds .fitting) (k .holds .ready)
 
   pub laid-pairs : LaidSome mc t buffer pairs work at → FewInOrder buffer pairs
-  laid-pairs k = k .laid .fitting .readable .pairsHold
+  laid-pairs k = k .holds .fitting .readable .pairsHold
 
   module _ (work' : List ℕ) (x : Merging) (g : Goes (Mergeable mc t at work) at work work' x) (same : length work' ≡ length work) where
     outcome : (m : Sections) (ws : List Sections) → LaidRight mc t buffer pairs work at m ws → Outcome m ws at work work' x
     outcome m ws k = g .goes m ws (ready-merge mc t buffer pairs work work m ws at (k .fitting) (k .ready))
 
     -- 16 to 20 of sections that compose to an answer
-    answer-of : (room : ℕ) (m : Sections) (ws : List Sections) (a : Answer Sections) → compose m ws ≡ a → composeSections room m ws ≡ andThen a (λ s. unless 20 (leb (length (printed s)) room) (got (printed s)))
-    answer-of room m ws a e = ap (λ (z : Answer Sections). andThen z (λ s. unless 20 (leb (length (printed s)) room) (got (printed s)))) e
+    answer-of : (room : ℕ) (m : Sections) (ws : List Sections) (a : Answer Sections) → compose m ws ≡ a → composeSections room m ws ≡ andThen a (printedWithin room)
+    answer-of room m ws a e = ap (λ (z : Answer Sections). andThen z (printedWithin room)) e
 
     pub laid-refused : (out : Bytes) (k : ℕ) → x ≡ merging.Refused k → ComposesLaid mc t buffer pairs work at out out (composed.Refused k)
     laid-refused out k e =
@@ -108,7 +108,7 @@ module _ (mc : AagCounts) (t : Totals) (buffer : Bytes) (pairs work : List ℕ) 
       done m ws l = subst (Outcome m ws at work work') e (outcome m ws l)
 
       left : (room : ℕ) (m : Sections) (ws : List Sections) → LaidRight mc t buffer pairs work at m ws
-          → composeSections room m ws ≡ andThen (unless 19 (allSafe ws) (got (composed m ws))) (λ s. unless 20 (leb (length (printed s)) room) (got (printed s)))
+          → composeSections room m ws ≡ andThen (unless 19 (allSafe ws) (got (composed m ws))) (printedWithin room)
       left room m ws l = answer-of room m ws (unless 19 (allSafe ws) (got (composed m ws))) (done-composes m ws (l .right) at work work' c (done m ws l))
 
       printable : (m : Sections) (ws : List Sections) → LaidRight mc t buffer pairs work at m ws → Printable buffer pairs work' at c t m ws
@@ -122,15 +122,15 @@ module _ (mc : AagCounts) (t : Totals) (buffer : Bytes) (pairs work : List ℕ) 
             regions = y .regions;
             listed = y .listed;
             result = d .result;
-            inputs = f .inputs;
-            gates = f .gates;
+            inputs = f .totals .inputs;
+            gates = f .totals .gates;
             few = omega (arith, few, leaf-count-most m ws, composed-gates-most m ws (readable-range buffer pairs ws (f .readable)));
             fewBits = omega (arith, few, y .regions .bits);
             fits = y .fits;
           }
 
       pub laid-printable : LaidSome mc t buffer pairs work at → PrintableSome buffer pairs work' at c t
-      laid-printable k = record { m = k .m; ws = k .ws; holds = printable (k .m) (k .ws) (k .laid) }
+      laid-printable k = record { m = k .m; ws = k .ws; holds = printable (k .m) (k .ws) (k .holds) }
 
       module _ (b : Bool) (s : TestsSafety buffer pairs b) where
         pub laid-unsafe : b ≡ false → (out : Bytes) → ComposesLaid mc t buffer pairs work at out out (composed.Refused 19)
@@ -144,6 +144,6 @@ module _ (mc : AagCounts) (t : Totals) (buffer : Bytes) (pairs work : List ℕ) 
         laid-written f out out' r h =
             record {
               each = λ m ws l.
-                  answers-same out (composeSections (length out) m ws) (writeComposed (length out) m ws) out' r
+                  answers-same out (composeSections (length out) m ws) (printedWithin (length out) (composed m ws)) out' r
                   (left (length out) m ws l ∙ rw (sym (s ws (l .fitting .readable)) ∙ f) refl) (h .each m ws (printable m ws l));
             }

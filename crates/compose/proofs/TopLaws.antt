@@ -1,6 +1,6 @@
 -- Laws of the composer's call: the model's text, 1 and 2, and the whole promise.
 use Prim.Native.Nat.{ℕ, _+_, _/_, _≤_, _<_}
-use mathlib.Core.Bool.{Bool, true, false}
+use mathlib.Core.Bool.{Bool, true, false, and-false}
 use mathlib.Core.List.{List}
 use mathlib.Core.Path.{_≡_, refl, sym, ap, _∙_, subst}
 use native.Mathlib.Omega.{arith}
@@ -11,7 +11,6 @@ use lib.Seq.{take-at}
 use Rattle.lists.specs.Answer.{Answer, got, refused, andThen}
 use Rattle.lists.specs.Parts.{Bytes, part, zeros}
 use Rattle.lists.specs.Words.{inOrder}
-use Rattle.lists.proofs.BoolLaws.{and-false}
 use Rattle.lists.proofs.WordLaws.{pairs-count}
 use Rattle.text.specs.Texts.{limited}
 use Rattle.witness_text.specs.declared.AagCounts.{AagCounts}
@@ -21,14 +20,14 @@ use Rattle.witness.specs.declared.ReadAag.the-variants as read
 use Rattle.witness.specs.Sections.{Sections}
 use Rattle.witness.specs.Reading.{readAag, countsIn, countsRead}
 use Rattle.witness.proofs.AcceptedLaws.{read-accepted, read-got, read-refused}
-use Rattle.composition.specs.Calling.{readAll, composeTexts, textsIn, composeCall}
+use Rattle.composition.specs.Calling.{readAll, composeTexts, textsIn, composeCall, composeRead}
 use Rattle.composition.specs.Meaning.{Composition}
 use Rattle.composition.proofs.DemandLaws.{composition-means}
 use Rattle.gathering.specs.Checking.{FewInOrder}
 use Rattle.compose.specs.declared.Composed.{Composed}
 use Rattle.compose.specs.declared.Composed.the-variants as composed
 use Rattle.compose.specs.Promise.{composedAnswer, resultBytes, Composes}
-use Rattle.compose.specs.Steps.{Answers, composeRead, ModelIs, ModelSome, ComposesWitnesses}
+use Rattle.compose.specs.Steps.{Answers, ModelIs, ModelSome, ComposesWitnesses}
 use Rattle.compose.proofs.ChainLaws.{refuses, answers-same}
 
 -- ---- the model

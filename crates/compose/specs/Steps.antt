@@ -1,11 +1,11 @@
 -- For the contracts of the composer's inner functions: what each of them answers.
-use Prim.Native.Nat.{ℕ, _+_, _-_, _*_, _/_, _≤_}
+use Prim.Native.Nat.{ℕ, _+_, _-_, _/_, _≤_}
 use mathlib.Core.Bool.{Bool, true, cond, _&&_}
-use mathlib.Core.List.{List, _∷_}
+use mathlib.Core.List.{List}
 use mathlib.Core.Path.{_≡_}
 use lib.Dec.{leb, ltb}
 use lib.ListN.{length}
-use Rattle.lists.specs.Answer.{Answer, got, andThen, unless}
+use Rattle.lists.specs.Answer.{Answer, andThen}
 use Rattle.lists.specs.Parts.{Bytes}
 use Rattle.lists.specs.Tests.{all}
 use Rattle.witness_text.specs.declared.AagCounts.{AagCounts}
@@ -13,12 +13,12 @@ use Rattle.witness.specs.Sections.{Sections, variables}
 use Rattle.witness.specs.Reading.{countsIn}
 use Rattle.composition.specs.Composing.{isSome, safety, mapsRight, composed}
 use Rattle.composition.specs.Printing.{printed}
-use Rattle.composition.specs.Calling.{sizes, readAll, composeSections, textsIn}
+use Rattle.composition.specs.Calling.{readAll, composeSections, textsIn, composeRead, printedWithin}
 use Rattle.gathering.specs.declared.Totals.{Totals}
 use Rattle.gathering.specs.Checking.{FewInOrder}
 use Rattle.gathering.specs.Gathered.{Readable}
 use Rattle.laying.specs.declared.Places.{Places}
-use Rattle.laying.specs.Laid.{Fitting, Ready}
+use Rattle.laying.specs.Laid.{Fitting, Ready, Some}
 use Rattle.printing.specs.Prints.{capped}
 use Rattle.merging.specs.declared.Merged.{Merged}
 use Rattle.writing.specs.Written.{Printable}
@@ -63,10 +63,7 @@ pub record ModelSome (buffer : Bytes) (pairs : List ℕ) (mc : AagCounts) : Type
   pub m : Sections
   pub is : ModelIs buffer pairs mc m
 
--- 15 to 20 of witnesses that are read
-abbrev pub composeRead : ℕ → ℕ → Sections → List Sections → Answer Bytes
-composeRead words room m ws = unless 15 (leb (16 * sizes (m ∷ ws) + 1024) words) (composeSections room m ws)
-
+-- 3 to 11 of the witnesses, and 15 to 20
 pub record ComposesWitnesses (mc : AagCounts) (buffer : Bytes) (pairs work : List ℕ) (out out' : Bytes) (r : Composed) : Type 0 where
   pub each : (m : Sections) → ModelIs buffer pairs mc m → Answers out (andThen (readAll (textsIn buffer pairs)) (composeRead (length work) (length out) m)) out' r
 
@@ -80,22 +77,17 @@ pub record LaidRight (mc : AagCounts) (t : Totals) (buffer : Bytes) (pairs work 
   pub right : all (mapsRight m) ws ≡ true
   pub ready : Ready buffer pairs m ws at work
 
-pub record LaidSome (mc : AagCounts) (t : Totals) (buffer : Bytes) (pairs work : List ℕ) (at : Places) : Type 0 where
-  pub m : Sections
-  pub ws : List Sections
-  pub laid : LaidRight mc t buffer pairs work at m ws
-
--- 20 of a composition that is merged
-abbrev pub writeComposed : ℕ → Sections → List Sections → Answer Bytes
-writeComposed room m ws = unless 20 (leb (length (printed (composed m ws))) room) (got (printed (composed m ws)))
+abbrev pub LaidSome : AagCounts → Totals → Bytes → List ℕ → List ℕ → Places → Type 0
+LaidSome mc t buffer pairs work at = Some (LaidRight mc t buffer pairs work at)
 
 -- the length of the text is counted, and nothing is written
 pub record Measures (buffer : Bytes) (pairs work : List ℕ) (at : Places) (c : Merged) (t : Totals) (out out' : Bytes) (r : ℕ) : Type 0 where
   pub same : out' ≡ out
   pub size : (m : Sections) (ws : List Sections) → Printable buffer pairs work at c t m ws → r ≡ capped (length (printed (composed m ws)))
 
+-- 20 of a composition that is merged
 pub record Writes (buffer : Bytes) (pairs work : List ℕ) (at : Places) (c : Merged) (t : Totals) (out out' : Bytes) (r : Composed) : Type 0 where
-  pub each : (m : Sections) (ws : List Sections) → Printable buffer pairs work at c t m ws → Answers out (writeComposed (length out) m ws) out' r
+  pub each : (m : Sections) (ws : List Sections) → Printable buffer pairs work at c t m ws → Answers out (printedWithin (length out) (composed m ws)) out' r
 
 -- 17 to 20
 pub record ComposesLaid (mc : AagCounts) (t : Totals) (buffer : Bytes) (pairs work : List ℕ) (at : Places) (out out' : Bytes) (r : Composed) : Type 0 where

@@ -19,7 +19,7 @@ use Rattle.composition.proofs.KeepLaws.{composed-latches-length}
 use Rattle.composition.proofs.PrintableLaws.{gates-length}
 use Rattle.composed_text.specs.declared.Counts.{Counts}
 use Rattle.composed_text.specs.Header.{headerOf, countsOf}
-use Rattle.composed_text.specs.Text.{closingText, textWith, partsOf, latchesOf, composedCounts, entryNames, composedText}
+use Rattle.composed_text.specs.Text.{closingText, textWith, partsOf, latchesOf, composedCounts, entryNames}
 use Rattle.composed_text.proofs.HeaderLaws.{header-is}
 
 -- what comes behind some lines
@@ -95,8 +95,10 @@ module _ (m : Sections) (ws : List Sections) where
       (composed-latches-length (suc (length (inputFirsts m ws))) (latchFirsts m ws) (allDefined (whole m ws)))
       ∙ ap (countsWith (length (inputFirsts m ws)) (length (latchFirsts m ws))) (gates-length (suc (leafCount m ws)) (composedGates m ws))
 
-  -- what is printed of the composition
-  pub composed-parts : printed (composed m ws) ≡ composedText m ws
+  -- what is printed of the composition, part by part
+  pub composed-parts : printed (composed m ws)
+      ≡ textWith (composedCounts m ws) (wordsOf latchWords (latchesOf m ws)) (literalsOf safety (whole m ws)) (literalsOf (λ s. s .constraints) (whole m ws))
+      (gatesFrom (suc (leafCount m ws)) (composedGates m ws)) (entryNames (inputFirsts m ws)) (entryNames (latchFirsts m ws))
   composed-parts =
       printed-parts (composed m ws) refl
       ∙ ap₂ (λ (n : Counts) (names : List (Option Bytes)). textWith n (wordsOf latchWords (latchesOf m ws)) (literalsOf safety (whole m ws)) (literalsOf (λ s. s .constraints) (whole m ws))

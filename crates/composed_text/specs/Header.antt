@@ -1,4 +1,4 @@
--- The header of the composition by its counts.
+-- For the contracts of the composer's inner functions: the header of the composition by its counts.
 use Prim.Native.Nat.{ℕ}
 use mathlib.Core.List.{List, [], _∷_, _++_, map}
 use lib.ListN.{length}

@@ -1,4 +1,4 @@
--- The text of the composition, in the parts that are printed one after the other.
+-- For the contracts of the composer's inner functions: the text of the composition, in the parts that are printed one after the other.
 use Prim.Native.Nat.{ℕ, suc, _+_}
 use mathlib.Core.List.{List, [], _∷_, _++_, map}
 use mathlib.Core.Option.{Option, some}
@@ -11,7 +11,6 @@ use Rattle.aiger.specs.declared.Gate.{Gate}
 use Rattle.witness.specs.Sections.{NamedLatch, Sections, latchNames}
 use Rattle.witness_words.specs.Loaded.{latchWords}
 use Rattle.composition.specs.Numbering.{Entry, inputFirsts, latchFirsts, leafCount}
-use Rattle.composition.specs.Sharing.{gatesFrom}
 use Rattle.composition.specs.Composing.{safety, literalsOf, whole, allDefined, composedGates, composedLatches}
 use Rattle.composition.specs.Printing.{gateLines, symbolLines, closing}
 use Rattle.composed_text.specs.declared.Counts.{Counts}
@@ -57,9 +56,3 @@ composedCounts m ws =
 -- the names of entries
 abbrev pub entryNames : List Entry → List (Option Bytes)
 entryNames es = map (λ e. some (e .name)) es
-
--- the text of the composition, each part as it is printed
-abbrev pub composedText : Sections → List Sections → Bytes
-composedText m ws =
-    textWith (composedCounts m ws) (wordsOf latchWords (latchesOf m ws)) (literalsOf safety (whole m ws)) (literalsOf (λ s. s .constraints) (whole m ws))
-    (gatesFrom (suc (leafCount m ws)) (composedGates m ws)) (entryNames (inputFirsts m ws)) (entryNames (latchFirsts m ws))

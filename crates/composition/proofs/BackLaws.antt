@@ -35,7 +35,7 @@ use Rattle.witness.specs.Comments.{plainComments}
 use Rattle.witness.specs.Order.{Body, bodyOf, wellNumbered}
 use Rattle.witness.specs.Reading.{namedLatches, sectionsFrom, sectionsOf, afterHeader, readAag, countsIn}
 use Rattle.composition.specs.Printing.{headerLine, symbolLines, closing, tailLines, bodyLines, printed}
-use Rattle.composition.proofs.RangeLaws.{InRange}
+use Rattle.composition.specs.Ranges.{InRange}
 use Rattle.composition.proofs.NameLaws.{Plain, PlainName, plain-bytes, plain-line}
 use Rattle.composition.proofs.SymbolLaws.{symbolsFrom, symbols-back, name-of-other, name-first, name-later, indices-of-other, indices-once}
 use Rattle.composition.proofs.BodyLaws.{Small, evens, lineLatches, bodyIn, body-back, body-numbered}

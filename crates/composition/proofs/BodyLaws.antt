@@ -27,8 +27,7 @@ use Rattle.witness.specs.Sections.{NamedLatch, Sections, leaves, variables}
 use Rattle.witness.specs.Order.{Body, bodyOf, defines, latchNumbered, gateNumbered, wellNumbered}
 use Rattle.witness.specs.Reading.{countsIn}
 use Rattle.composition.specs.Printing.{inputLines, latchLines, literalLines, gateLines, tailLines, bodyLines}
-use Rattle.composition.proofs.SolveLaws.{GateAt, GatesFrom}
-use Rattle.composition.proofs.RangeLaws.{Within, LatchWithin, InRange}
+use Rattle.composition.specs.Ranges.{Within, LatchWithin, InRange, GateAt, GatesFrom}
 
 -- a number that a text may have
 abbrev pub Small : ℕ → Type 0

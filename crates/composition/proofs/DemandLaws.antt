@@ -19,9 +19,9 @@ use Rattle.witness.specs.Reading.{readAag}
 use Rattle.composition.specs.Numbering.{leafCount}
 use Rattle.composition.specs.Composing.{mapsRight, composedGates, whole, gatesFit, allDefined, agree, isSome, safety, composed, compose}
 use Rattle.composition.specs.Printing.{printed}
-use Rattle.composition.specs.Calling.{readAll, sizes, composeSections, composeTexts, textsIn, composeCall}
+use Rattle.composition.specs.Calling.{readAll, sizes, composeSections, composeTexts, textsIn, composeCall, printedWithin, composeRead}
 use Rattle.composition.specs.Meaning.{Composition}
-use Rattle.composition.proofs.RangeLaws.{InRange}
+use Rattle.composition.specs.Ranges.{InRange}
 use Rattle.composition.proofs.MeaningLaws.{composed-means}
 use Rattle.composition.proofs.NameLaws.{Granted, read-granted}
 use Rattle.composition.proofs.BackLaws.{read-printed}
@@ -92,12 +92,12 @@ made model ts text m ws s rm rs few cs c e =
 -- the same for the text that is made of the texts
 texts-mean : (work room : ℕ) (model : Bytes) (ts : List Bytes) (text : Bytes) → length ts ≤ 64 → composeTexts work room model ts ≡ got text → Composition model ts text
 texts-mean work room model ts text few e =
-    let a = andThen-got (readAag limited false model) (λ m. andThen (readAll ts) (λ ws. unless 15 (leb (16 * sizes (m ∷ ws) + 1024) work) (composeSections room m ws))) text e in
+    let a = andThen-got (readAag limited false model) (λ m. andThen (readAll ts) (composeRead work room m)) text e in
     let m : Sections = a .0 in
-    let b = andThen-got (readAll ts) (λ ws. unless 15 (leb (16 * sizes (m ∷ ws) + 1024) work) (composeSections room m ws)) text (a .2) in
+    let b = andThen-got (readAll ts) (composeRead work room m) text (a .2) in
     let ws : List Sections = b .0 in
     let e16 = unless-got 15 (composeSections room m ws) text (leb (16 * sizes (m ∷ ws) + 1024) work) (b .2) in
-    let c = andThen-got (compose m ws) (λ s. unless 20 (leb (length (printed s)) room) (got (printed s))) text e16 in
+    let c = andThen-got (compose m ws) (printedWithin room) text e16 in
     let s : Sections = c .0 in
     made model ts text m ws s (a .1) (b .1) few (c .1) (compose-got m ws s (c .1))
     (got-same (printed s) text (unless-got 20 (got (printed s)) text (leb (length (printed s)) room) (c .2)))

@@ -1,6 +1,6 @@
 -- What the composition keeps: bads, constraints, and next and reset values of latches.
 use Prim.Native.Nat.{ℕ, zero, suc, _+_, _≤_, _<_}
-use mathlib.Core.Bool.{Bool, true}
+use mathlib.Core.Bool.{true}
 use mathlib.Core.List.{List, [], _∷_, map}
 use mathlib.Core.Path.{_≡_, refl, ap, _∙_}
 use native.Mathlib.Nat.{add-zero, add-suc, suc-add}
@@ -8,35 +8,24 @@ use native.Mathlib.Omega.{arith}
 use lib.Dec.{eqb}
 use lib.ListN.{length, getD}
 use borrow.Author.Tests.{eqb-true}
-use Rattle.lists.specs.Firsts.{joinedAll}
 use Rattle.lists.specs.Tests.{all, any, Each}
+use Rattle.lists.specs.Words.{wordsOf}
 use Rattle.lists.proofs.BoolLaws.{and-left, and-right}
-use Rattle.lists.proofs.FirstLaws.{begins-at, any-joined, all-joined}
+use Rattle.lists.proofs.FirstLaws.{begins-at}
 use Rattle.lists.proofs.SetLaws.{any-set, all-set}
-use Rattle.lists.proofs.TestLaws.{any-map, all-map, each-so, each-split}
+use Rattle.lists.proofs.TestLaws.{any-map, all-map, each-so, each-split, any-each, all-each}
+use Rattle.lists.proofs.WordLaws.{any-words, all-words}
 use Rattle.aiger.specs.Gates.{variable, Valuation, value}
 use Rattle.witness.specs.Sections.{NamedLatch, Sections, variables}
 use Rattle.composition.specs.Numbering.{Entry, Placed}
 use Rattle.composition.specs.Sharing.{translate}
 use Rattle.composition.specs.Composing.{Defined, definedFrom, definedIn, allDefined, definitionOf, sameDefined, composedLatches, orOutputs, safety, literalsOf}
 use Rattle.composition.specs.Meaning.{Valued, unsafe, constrained, noLatch, LatchKept, LatchesKept, AllLatchesKept}
+use Rattle.composition.specs.Ranges.{Within, LatchWithin}
 use Rattle.composition.proofs.ShareLaws.{translate-value}
-use Rattle.composition.proofs.RangeLaws.{Within, LatchWithin}
 use Rattle.composition.proofs.WholeLaws.{Matched, Both, Ready}
 
 -- ---- literals
-
--- tests that agree on each element agree on the list
-module _ {A : Type 0} (f g : A → Bool) where
-  -- where some element is asked for
-  any-each : (xs : List A) → Each (λ x. f x ≡ g x) xs → any f xs ≡ any g xs
-  any-each [] e = refl
-  any-each (x ∷ xs) e = rw (e .0, any-each xs (e .1))
-
-  -- where all are
-  all-each : (xs : List A) → Each (λ x. f x ≡ g x) xs → all f xs ≡ all g xs
-  all-each [] e = refl
-  all-each (x ∷ xs) e = rw (e .0, all-each xs (e .1))
 
 module _ (u : Valuation) (x : Valued) (q : Placed) (t : Matched u x q) where
   -- a literal of the witness has the value of the composed one
@@ -56,7 +45,7 @@ module _ (u : Valuation) (x : Valued) (q : Placed) (t : Matched u x q) where
   all-kept ls e = all-map (translate (q .vars)) (value u) ls ∙ all-each (λ l. value u (translate (q .vars) l)) (value (x .values)) ls (literals-kept ls e)
 
 -- safety literals are in range where bads and outputs are
-safety-within : (m : ℕ) (bs os : List ℕ) → Each (Within m) bs → Each (Within m) os → Each (Within m) (orOutputs bs os)
+pub safety-within : (m : ℕ) (bs os : List ℕ) → Each (Within m) bs → Each (Within m) os → Each (Within m) (orOutputs bs os)
 safety-within m [] os e f = f
 safety-within m (b ∷ bs) os e f = e
 
@@ -91,12 +80,12 @@ module _ (u : Valuation) (I L : ℕ) where
   module _ (xs : List Valued) (qs : List Placed) (b : Both (Matched u) xs qs) (e : Each (Ready u I L) xs) where
     -- some composed bad is true exactly when some safety literal of some witness is
     pub bads-kept : any (value u) (literalsOf safety qs) ≡ any unsafe xs
-    bads-kept = any-set (value u) (joinedAll (map (translatedIn safety) qs)) ∙ any-joined (translatedIn safety) (value u) qs ∙ bads-at xs qs b e
+    bads-kept = any-set (value u) (wordsOf (translatedIn safety) qs) ∙ any-words (translatedIn safety) (value u) qs ∙ bads-at xs qs b e
 
     -- all composed constraints hold exactly when every constraint of every witness does
     pub constraints-kept : all (value u) (literalsOf (λ s. s .constraints) qs) ≡ all constrained xs
     constraints-kept =
-        all-set (value u) (joinedAll (map (translatedIn (λ s. s .constraints)) qs)) ∙ all-joined (translatedIn (λ s. s .constraints)) (value u) qs ∙ constraints-at xs qs b e
+        all-set (value u) (wordsOf (translatedIn (λ s. s .constraints)) qs) ∙ all-words (translatedIn (λ s. s .constraints)) (value u) qs ∙ constraints-at xs qs b e
 
 -- ---- latches
 

@@ -15,10 +15,10 @@ use Rattle.composition.specs.Numbering.{inputEntries, latchEntries, inpu
 use Rattle.composition.specs.Sharing.{gatesAfter, wholeAfter}
 use Rattle.composition.specs.Composing.{Defined, allDefined, definitionOf, sameDefined, agree, composedGates, whole, composed}
 use Rattle.composition.specs.Meaning.{Fixed, Valued, given, Solution, Takes, Keeps, InputsPlaced, Means}
-use Rattle.composition.proofs.SolveLaws.{GatesFrom, sections-solved, sections-fixed}
+use Rattle.composition.specs.Ranges.{InRange, GatesFrom}
+use Rattle.composition.proofs.SolveLaws.{sections-solved, sections-fixed}
 use Rattle.composition.proofs.ShareLaws.{OperandsFrom, operands-gates}
 use Rattle.composition.proofs.PlacedLaws.{firsts-apart, firsts-owned, Seated, placed-seated, placed-everyone}
-use Rattle.composition.proofs.RangeLaws.{InRange}
 use Rattle.composition.proofs.WholeLaws.{after-order, Matched, Both, Ready, match-all}
 use Rattle.composition.proofs.KeepLaws.{bads-kept, constraints-kept, composed-latches-length, composed-latch-at, Agreed, all-latches-kept}
 

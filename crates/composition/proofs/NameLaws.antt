@@ -32,7 +32,8 @@ use Rattle.witness.specs.Names.{Tail, withSymbol, tailOf, isInput, isLatch, nam
 use Rattle.witness.specs.Order.{Body}
 use Rattle.witness.specs.Reading.{namedLatches, readAag, countsIn}
 use Rattle.witness.proofs.AcceptedLaws.{Parts, body-parts, symbols-tail, read-accepted}
-use Rattle.composition.proofs.RangeLaws.{InRange, read-range}
+use Rattle.composition.proofs.RangeLaws.{read-range}
+use Rattle.composition.specs.Ranges.{InRange}
 
 -- a byte that a line of a witness may have: not above 127, neither 13 nor 10
 abbrev pub plain : ℕ → Bool

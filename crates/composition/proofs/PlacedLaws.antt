@@ -9,11 +9,11 @@ use native.Mathlib.Omega.{arith}
 use lib.Dec.{ltb, eqb}
 use lib.ListN.{length, getD, length-append, length-map, List·getD-append, List·getD-eq-default}
 use lib.Seq.{getD-append-add}
-use borrow.Author.Tests.{ltb-true, ltb-false, eqb-true, eqb-false, eq-eqb, ne-eqb}
+use borrow.Author.Tests.{ltb-true, ltb-false, eqb-true, eq-eqb}
 use Rattle.lists.specs.Firsts.{place, appearing}
 use Rattle.lists.specs.Parts.{Bytes}
 use Rattle.lists.specs.Tests.{any, Each}
-use Rattle.lists.proofs.BoolLaws.{true-false, and-left, and-right}
+use Rattle.lists.proofs.BoolLaws.{true-false, and-left, and-right, eqb-shift}
 use Rattle.lists.proofs.FirstLaws.{place-inside, appearing-any, appearing-owned, place-apart}
 use Rattle.lists.proofs.TestLaws.{any-cong, each-so, each-split}
 use Rattle.witness.specs.Sections.{Sections, leaves, latchNames}
@@ -50,14 +50,6 @@ entry-alike x y z h = ap (λ (k : Key). sameKey k (z .key)) (key-same (x .key) (
 -- an entry stands among the first ones
 abbrev Among : List Entry → Entry → Type 0
 Among firsts e = any (sameEntry e) firsts ≡ true
-
--- numbers from n on are the same exactly when they are so from 0 on
-eqb-shift : (n a b : ℕ) → eqb (n + a) (n + b) ≡ eqb a b
-eqb-shift n a b = go (eqb a b) refl
-  where
-    go : (q : Bool) → eqb a b ≡ q → eqb (n + a) (n + b) ≡ q
-    go true e = eq-eqb (n + a) (n + b) (omega (arith, eqb-true a b e))
-    go false e = let d : a ≡ b → ⊥ = eqb-false a b e in ne-eqb (n + a) (n + b) (λ s. d (omega arith))
 
 -- two of the first ones have one variable exactly when they are the same
 numbered-apart : (n : ℕ) (firsts : List Entry) (e f : Entry) → Among firsts e → Among firsts f → eqb (numbered n firsts e) (numbered n firsts f) ≡ sameEntry e f

@@ -8,12 +8,13 @@ use native.Mathlib.Omega.{arith}
 use lib.Dec.{leb, eqb}
 use lib.ListN.{length, length-append}
 use borrow.Author.Tests.{leb-true, le-leb}
-use Rattle.lists.specs.Firsts.{joinedAll}
 use Rattle.lists.specs.Parts.{Bytes}
 use Rattle.lists.specs.Tests.{all, Each}
-use Rattle.lists.proofs.FirstLaws.{begins-self, each-joined-all, appearing-length, each-appearing}
+use Rattle.lists.specs.Words.{wordsOf}
+use Rattle.lists.proofs.FirstLaws.{begins-self, appearing-length, each-appearing}
 use Rattle.lists.proofs.SetLaws.{all-set, set-length}
 use Rattle.lists.proofs.TestLaws.{all-of-each, each-of-all, each-so, each-map, each-any, each-append}
+use Rattle.lists.proofs.WordLaws.{each-words}
 use Rattle.aiger.specs.Gates.{variable}
 use Rattle.decimal.specs.Decimal.{decimal}
 use Rattle.witness.specs.Sections.{NamedLatch, Sections, variables, latchNames}
@@ -24,9 +25,9 @@ use Rattle.composition.specs.Mapping.{equals, mapsByName, mappingOf, mod
 use Rattle.composition.specs.Numbering.{Entry, sameEntry, private-input, private-latch, privateName, entryOf, entriesFrom, inputsIn, latchesIn, inputEntries, latchEntries, inputFirsts, latchFirsts, Placed, placed, leafCount}
 use Rattle.composition.specs.Sharing.{translate, Operands, gatesFrom}
 use Rattle.composition.specs.Composing.{composedGates, whole, gatesFit, Defined, definedFrom, definedIn, allDefined, definitionOf, composedLatches, safety, literalsOf, composed}
+use Rattle.composition.specs.Ranges.{Within, LatchWithin, InRange}
 use Rattle.composition.proofs.ShareLaws.{Low}
 use Rattle.composition.proofs.PlacedLaws.{inputs-in-length, latches-in-length, placed-seated}
-use Rattle.composition.proofs.RangeLaws.{Within, LatchWithin, InRange}
 use Rattle.composition.proofs.WholeLaws.{whole-low}
 use Rattle.composition.proofs.MeaningLaws.{composed-leaves, composed-gates}
 use Rattle.composition.proofs.NameLaws.{Plain, PlainName, Granted}
@@ -47,13 +48,13 @@ module _ (m : ℕ) where
 
   -- a list of each witness in the literals of the composition
   abbrev translatedAll : (Sections → List ℕ) → List Placed → List ℕ
-  translatedAll list qs = joinedAll (map (λ q. map (translate (q .vars)) (list (q .sections))) qs)
+  translatedAll list qs = wordsOf (λ q. map (translate (q .vars)) (list (q .sections))) qs
 
   -- so are all of them
   all-within : (list : Sections → List ℕ) (qs : List Placed) → Each LowIn qs → all (λ l. leb l (2 * m + 1)) (translatedAll list qs) ≡ true
   all-within list qs e =
       all-of-each (λ l. leb l (2 * m + 1)) (translatedAll list qs)
-      (each-joined-all (λ q. map (translate (q .vars)) (list (q .sections))) (λ l. leb l (2 * m + 1) ≡ true) qs
+      (each-words (λ q. map (translate (q .vars)) (list (q .sections))) (λ l. leb l (2 * m + 1) ≡ true) qs
       (each-so LowIn (λ q. Each (λ l. leb l (2 * m + 1) ≡ true) (map (translate (q .vars)) (list (q .sections))))
       (λ q h. each-map (translate (q .vars)) (λ l. leb l (2 * m + 1) ≡ true) (list (q .sections))
       (each-any (λ l. leb (translate (q .vars) l) (2 * m + 1) ≡ true) (λ l. le-leb (translate (q .vars) l) (2 * m + 1) (translate-within (q .vars) h l)) (list (q .sections))))
@@ -81,7 +82,7 @@ module _ (m : ℕ) where
   -- so are those of all witnesses
   all-defined-within : (qs : List Placed) → Each LowIn qs → Each DefinedWithin (allDefined qs)
   all-defined-within qs e =
-      each-joined-all definedIn DefinedWithin qs
+      each-words definedIn DefinedWithin qs
       (each-so LowIn (λ q. Each DefinedWithin (definedIn q)) (λ q h. defined-within (q .vars) h (suc (length (q .sections .inputs))) (q .sections .latches)) qs e)
 
   -- and the first of a variable

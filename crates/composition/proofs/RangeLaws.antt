@@ -1,5 +1,5 @@
 -- What an accepted text grants of its sections: gates one after the other with smaller operands, and literals in range.
-use Prim.Native.Nat.{ℕ, suc, _+_, _*_, _≤_}
+use Prim.Native.Nat.{ℕ, suc, _+_, _*_}
 use mathlib.Core.Bool.{Bool, true}
 use mathlib.Core.List.{List, [], _∷_}
 use mathlib.Core.Path.{_≡_, subst}
@@ -18,27 +18,11 @@ use Rattle.aiger.specs.Defined.{literal, ordered}
 use Rattle.aiger.proofs.DefinedLaws.{literal-low, orders}
 use Rattle.witness_text.specs.declared.Latch.{Latch}
 use Rattle.witness_text.specs.Symbols.{Symbol}
-use Rattle.witness.specs.Sections.{NamedLatch, Sections, leaves, variables}
+use Rattle.witness.specs.Sections.{Sections, leaves, variables}
 use Rattle.witness.specs.Order.{Body, defines, latchNumbered, gateNumbered, wellNumbered}
 use Rattle.witness.specs.Reading.{namedLatches, sectionsFrom, readAag, countsIn}
 use Rattle.witness.proofs.AcceptedLaws.{read-accepted}
-use Rattle.composition.proofs.SolveLaws.{GateAt, GatesFrom}
-
--- a literal of a variable up to m
-abbrev pub Within : ℕ → ℕ → Type 0
-Within m l = l ≤ 2 * m + 1
-
--- the two literals of a latch
-abbrev pub LatchWithin : ℕ → NamedLatch → Type 0
-LatchWithin m q = Within m (q .next) × Within m (q .reset)
-
--- what 11 asks of sections
-pub record InRange (s : Sections) : Type 0 where
-  pub gates : GatesFrom (suc (leaves s)) (s .gates)
-  pub latches : Each (LatchWithin (variables s)) (s .latches)
-  pub outputs : Each (Within (variables s)) (s .outputs)
-  pub bads : Each (Within (variables s)) (s .bads)
-  pub constraints : Each (Within (variables s)) (s .constraints)
+use Rattle.composition.specs.Ranges.{GateAt, GatesFrom, Within, LatchWithin, InRange}
 
 -- literals that the reader's test passes are in range
 literals-within : (m : ℕ) (ls : List ℕ) → all (literal m) ls ≡ true → Each (Within m) ls

@@ -17,7 +17,8 @@ use Rattle.aiger.specs.declared.Gate.{Gate}
 use Rattle.aiger.specs.Gates.{variable, Valuation, value, Conjunction}
 use Rattle.aiger.proofs.DefinedLaws.{value-even}
 use Rattle.composition.specs.Sharing.{translate, Operands, sameOperands, unordered, translated, Shared, shareGates, gatesFrom}
-use Rattle.composition.proofs.SolveLaws.{GateAt, GatesFrom, output-value}
+use Rattle.composition.specs.Ranges.{GateAt, GatesFrom}
+use Rattle.composition.proofs.SolveLaws.{output-value}
 
 -- ---- literals
 

@@ -1,5 +1,5 @@
 -- Gates one after the other, each with smaller operands: inputs and latches fix every value, and for all values of these there are values of the gates.
-use Prim.Native.Nat.{ℕ, zero, suc, _+_, _*_, _%_, _≤_, _<_}
+use Prim.Native.Nat.{ℕ, zero, suc, _+_, _%_, _≤_, _<_}
 use mathlib.Core.Bool.{Bool, true, false, cond, _&&_}
 use mathlib.Core.List.{List, [], _∷_}
 use mathlib.Core.Path.{_≡_, refl, sym, _∙_}
@@ -14,17 +14,7 @@ use Rattle.aiger.specs.Gates.{variable, Valuation, value, Conjunction, Follows}
 use Rattle.aiger.proofs.DefinedLaws.{value-even, value-same}
 use Rattle.witness.specs.Sections.{Sections, leaves, variables}
 use Rattle.composition.specs.Meaning.{SameLeaves, Solution}
-
--- the gate of variable n, whose operands have smaller variables
-pub record GateAt (n : ℕ) (g : Gate) : Type 0 where
-  pub output : g .output ≡ 2 * n
-  pub left : variable (g .left) < n
-  pub right : variable (g .right) < n
-
--- the gates of the variables n, n + 1, ..
-abbrev pub GatesFrom : ℕ → List Gate → Type 0
-GatesFrom n [] = Unit {0}
-GatesFrom n (g ∷ gs) = GateAt n g × GatesFrom (suc n) gs
+use Rattle.composition.specs.Ranges.{GateAt, GatesFrom}
 
 -- the value of a gate's output is that of its variable
 pub output-value : (v : Valuation) (n : ℕ) (g : Gate) → GateAt n g → value v (g .output) ≡ v n

@@ -11,9 +11,9 @@ use Rattle.witness.specs.Sections.{variables}
 use Rattle.composition.specs.Numbering.{Placed}
 use Rattle.composition.specs.Sharing.{Operands, Shared, shareWitness, gatesAfter, wholeAfter, gatesFrom}
 use Rattle.composition.specs.Meaning.{Valued, Takes}
+use Rattle.composition.specs.Ranges.{InRange}
 use Rattle.composition.proofs.ShareLaws.{OperandsFrom, Low, low-more, Sound, sound-shared, shared-goes, gates-solved, Agrees, shared-values}
 use Rattle.composition.proofs.PlacedLaws.{Seated, seated-low}
-use Rattle.composition.proofs.RangeLaws.{InRange}
 
 -- the variables of a witness's inputs and latches, and the composed gates before it
 abbrev before : Placed → List Operands → Shared

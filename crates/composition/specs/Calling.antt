@@ -26,20 +26,21 @@ abbrev pub sizes : List Sections → ℕ
 sizes [] = 0
 sizes (s ∷ ss) = size s + sizes ss
 
--- 16 to 20: the text of the composition, where `room` bytes are lent for it
-abbrev pub composeSections : ℕ → Sections → List Sections → Answer Bytes
-composeSections room m ws =
-    andThen (compose m ws) (λ s.
-    unless 20 (leb (length (printed s)) room)
-    (got (printed s)))
+-- 20: the text of sections, where `room` bytes are lent for it
+abbrev pub printedWithin : ℕ → Sections → Answer Bytes
+printedWithin room s = unless 20 (leb (length (printed s)) room) (got (printed s))
 
--- 3 to 20: "The model is read, with 3 to 11, before the witnesses, and these in their order"; `work` words are lent
+-- 16 to 20: the text of the composition
+abbrev pub composeSections : ℕ → Sections → List Sections → Answer Bytes
+composeSections room m ws = andThen (compose m ws) (printedWithin room)
+
+-- 15 to 20, where `work` words are lent
+abbrev pub composeRead : ℕ → ℕ → Sections → List Sections → Answer Bytes
+composeRead work room m ws = unless 15 (leb (16 * sizes (m ∷ ws) + 1024) work) (composeSections room m ws)
+
+-- 3 to 20: "The model is read, with 3 to 11, before the witnesses, and these in their order"
 abbrev pub composeTexts : ℕ → ℕ → Bytes → List Bytes → Answer Bytes
-composeTexts work room model ts =
-    andThen (readAag limited false model) (λ m.
-    andThen (readAll ts) (λ ws.
-    unless 15 (leb (16 * sizes (m ∷ ws) + 1024) work)
-    (composeSections room m ws)))
+composeTexts work room model ts = andThen (readAag limited false model) (λ m. andThen (readAll ts) (composeRead work room m))
 
 -- the witness texts: parts of a buffer by pairs of offset and length
 abbrev pub textsIn : Bytes → List ℕ → List Bytes

@@ -6,9 +6,10 @@ use mathlib.Core.Option.{Option, some}
 use lib.Dec.{eqb, leb}
 use lib.ListN.{length, getD}
 use Rattle.lists.specs.Answer.{Answer, got, unless}
-use Rattle.lists.specs.Firsts.{joinedAll, setOf}
 use Rattle.lists.specs.Parts.{Bytes}
 use Rattle.lists.specs.Tests.{all, allFrom}
+use Rattle.lists.specs.Sets.{setOf}
+use Rattle.lists.specs.Words.{wordsOf}
 use Rattle.witness.specs.Sections.{NamedLatch, Sections, latchNames}
 use Rattle.composition.specs.declared.ModelLeaves.{ModelLeaves}
 use Rattle.composition.specs.declared.Mapping.{Mapping}
@@ -64,7 +65,7 @@ abbrev pub definedIn : Placed → List Defined
 definedIn p = definedFrom (p .vars) (suc (length (p .sections .inputs))) (p .sections .latches)
 
 abbrev pub allDefined : List Placed → List Defined
-allDefined ps = joinedAll (map definedIn ps)
+allDefined ps = wordsOf definedIn ps
 
 -- the first definition of the composed variable x
 abbrev pub definitionOf : ℕ → List Defined → Defined
@@ -101,7 +102,7 @@ isSome (l ∷ ls) = true
 
 -- a list of each witness in the literals of the composition; "Bads and constraints are ascending sets"
 abbrev pub literalsOf : (Sections → List ℕ) → List Placed → List ℕ
-literalsOf list ps = setOf (joinedAll (map (λ p. map (translate (p .vars)) (list (p .sections))) ps))
+literalsOf list ps = setOf (wordsOf (λ p. map (translate (p .vars)) (list (p .sections))) ps)
 
 -- ---- the composition
 

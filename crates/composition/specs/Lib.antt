@@ -4,6 +4,7 @@ pub mod Numbering
 pub mod Sharing
 pub mod Keys
 pub mod Composing
+pub mod Ranges
 pub mod Printing
 pub mod Calling
 pub mod Meaning

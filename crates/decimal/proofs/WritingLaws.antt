@@ -16,7 +16,7 @@ use Rattle.text.specs.Numbers.{numberOf}
 use Rattle.decimal.specs.declared.Written.{Written}
 use Rattle.decimal.specs.declared.Written.the-variants.{Next, NoRoom}
 use Rattle.decimal.specs.Decimal.{decimal}
-use Rattle.decimal.specs.Writing.{writtenAt, written}
+use Rattle.decimal.specs.Writing.{writtenAt, written, Wrote}
 use Rattle.decimal.proofs.ReadLaws.{decimal-read}
 use Rattle.decimal.proofs.FigureLaws.{figures, figures-length, decimal-figures}
 
@@ -35,11 +35,6 @@ module _ (o : Bytes) (at : ℕ) (bytes : Bytes) where
       (rw (fits, n), rw fits e)
 
 -- ---- what a caller learns
-
-pub record Wrote (o : Bytes) (at : ℕ) (bytes o′ : Bytes) (next : ℕ) : Type 0 where
-  pub after : next ≡ at + length bytes
-  pub fits : next ≤ length o
-  pub is : o′ ≡ put o at bytes
 
 pub record Kept (o : Bytes) (at : ℕ) (bytes o′ : Bytes) : Type 0 where
   pub over : length o < at + length bytes

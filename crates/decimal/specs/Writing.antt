@@ -1,6 +1,7 @@
 -- Bytes written into a lent buffer, where they fit.
-use Prim.Native.Nat.{ℕ, _+_}
+use Prim.Native.Nat.{ℕ, _+_, _≤_}
 use mathlib.Core.Bool.{cond}
+use mathlib.Core.Path.{_≡_}
 use lib.Dec.{leb}
 use lib.ListN.{length}
 use Rattle.lists.specs.Parts.{Bytes, put}
@@ -14,3 +15,9 @@ writtenAt room at bytes = cond (leb (at + length bytes) room) (Next (at + length
 -- the buffer afterwards: "On acceptance, elements past the result keep theirs", and where the bytes do not fit, all keep theirs
 unfoldable pub written : Bytes → ℕ → Bytes → Bytes
 written o at bytes = cond (leb (at + length bytes) (length o)) (put o at bytes) o
+
+-- the bytes fit, stand in their place, and `next` is the place after them
+pub record Wrote (o : Bytes) (at : ℕ) (bytes o′ : Bytes) (next : ℕ) : Type 0 where
+  pub after : next ≡ at + length bytes
+  pub fits : next ≤ length o
+  pub is : o′ ≡ put o at bytes

@@ -13,7 +13,7 @@ use Rattle.lists.specs.Words.{inOrder, lengths}
 use Rattle.lists.proofs.BoolLaws.{and-left, and-right}
 use Rattle.lists.proofs.MapLaws.{map-at}
 use Rattle.lists.proofs.TestLaws.{all-at, each-of-all, each-so}
-use Rattle.lists.proofs.WordLaws.{pairs-count, pairs-at}
+use Rattle.lists.proofs.WordLaws.{pairs-count, pairs-at, twice}
 use Rattle.cnf.specs.declared.Table.{Table}
 use Rattle.cnf.specs.Clauses.{clausesIn}
 use Rattle.cnf.specs.Appending.{Appends, Space}
@@ -23,9 +23,6 @@ use Rattle.boundary.specs.Boundary.{indexes}
 use Rattle.encoding.specs.Encoding.{Clausal, Bounded}
 
 -- ---- pairs by their index
-
-twice : (i : ℕ) → 2 * suc i ≡ suc (suc (2 * i))
-twice i = omega arith
 
 twice-one : (i : ℕ) → suc (suc (2 * i)) + 1 ≡ suc (suc (2 * i + 1))
 twice-one i = omega arith

@@ -10,16 +10,16 @@ use lib.Dec.{eqb}
 use lib.ListN.{length, getD, take, set, length-append}
 use lib.Seq.{take-all, take-suc-set}
 use Rattle.lists.specs.Parts.{zeros}
-use Rattle.lists.specs.Sets.{member, holds, withBit}
+use Rattle.lists.specs.Sets.{member, holds, withBit, Marked}
 use Rattle.lists.specs.Tests.{any, Each}
 use Rattle.lists.proofs.BitSetLaws.{with-length}
-use Rattle.lists.proofs.OnceLaws.{Marked, marked-no-bit, marked-bit, member-snoc}
+use Rattle.lists.proofs.OnceLaws.{marked-no-bit, marked-bit, member-snoc}
 use Rattle.lists.proofs.RestLaws.{take-next}
 use Rattle.lists.proofs.TestLaws.{any-map, each-map, each-append, each-at, each-any}
+use Rattle.lists.proofs.AnyLaws.{member-any, any-same}
 use Rattle.cnf.specs.declared.Table.{Table}
 use Rattle.cnf.specs.Appending.{Appends, PushesFilled, NarrowWords}
 use Rattle.cnf.specs.Simplified.{cnfWord}
-use Rattle.cnf.proofs.AnyLaws.{member-any, any-same}
 use Rattle.cnf.proofs.AppendLaws.{appends-same}
 use Rattle.cnf.proofs.MemberLaws.{simplified-members}
 use Rattle.cnf.proofs.SimplifyLaws.{filled-narrow}

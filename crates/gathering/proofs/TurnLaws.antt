@@ -22,8 +22,8 @@ use Rattle.witness.specs.Reading.{countsIn}
 use Rattle.witness_words.specs.Loaded.{latchWords, operandWords, wordCount}
 use Rattle.composition.specs.Composing.{orOutputs}
 use Rattle.composition.specs.Calling.{readAll, textsIn}
-use Rattle.composition.proofs.RangeLaws.{Within, LatchWithin, InRange, read-range}
-use Rattle.composition.proofs.SolveLaws.{GatesFrom}
+use Rattle.composition.specs.Ranges.{Within, LatchWithin, InRange, GatesFrom}
+use Rattle.composition.proofs.RangeLaws.{read-range}
 use Rattle.joint.specs.declared.Before.{Before}
 use Rattle.joint.specs.declared.Literals.{Literals}
 use Rattle.joint.specs.declared.Literals.the-variants as literals

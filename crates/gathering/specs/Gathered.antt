@@ -1,6 +1,6 @@
 -- For the contracts of the functions that load and gather: how the words of all witnesses stand.
 use Prim.Native.Nat.{ℕ, _+_, _-_, _*_, _≤_, _<_}
-use mathlib.Core.Bool.{Bool, cond}
+use mathlib.Core.Bool.{cond}
 use mathlib.Core.List.{List, [], _∷_, _++_, map}
 use mathlib.Core.Option.{some}
 use mathlib.Core.Path.{_≡_}
@@ -8,21 +8,18 @@ use lib.Dec.{eqb}
 use lib.ListN.{length, take, drop, getD}
 use Rattle.lists.specs.Answer.{got}
 use Rattle.lists.specs.Parts.{Bytes, part, put}
-use Rattle.lists.specs.Tests.{all}
 use Rattle.lists.specs.Words.{pairsOf}
 use Rattle.witness_text.specs.declared.AagCounts.{AagCounts}
 use Rattle.witness.specs.Sections.{Sections, leaves, namesIn}
 use Rattle.witness_words.specs.Loaded.{nameFrom, literalWords, wordCount}
 use Rattle.witness_words.specs.Loading.{HasRoom, Loadable}
-use Rattle.composition.specs.Mapping.{mapsByName}
-use Rattle.composition.specs.Composing.{leavesRight}
 use Rattle.composition.specs.Calling.{readAll, textsIn}
 use Rattle.joint.specs.declared.Before.{Before}
 use Rattle.joint.specs.declared.Shift.{Shift}
 use Rattle.joint.specs.declared.Literals.{Literals}
 use Rattle.joint.specs.declared.Literals.the-variants as literals
 use Rattle.joint.specs.declared.Leaves.{Leaves}
-use Rattle.joint.specs.Joint.{totalOf, inputCount, latchCount, shiftedLiteral, gathered, listOf, namesOf, modelOf}
+use Rattle.joint.specs.Joint.{totalOf, inputCount, latchCount, shiftedLiteral, gathered, listOf, namesOf}
 use Rattle.gathering.specs.declared.Range.{Range}
 use Rattle.gathering.specs.Checking.{FewInOrder}
 
@@ -167,7 +164,3 @@ RightTotals buffer pairs i q = (ws : List Sections) → Readable buffer pairs ws
 
 abbrev pub leafCountOf : Leaves → Sections → ℕ
 leafCountOf leaf s = length (namesOf leaf s)
-
--- 16, of the inputs, or latches, of all witnesses
-abbrev pub allRight : Leaves → Sections → List Sections → Bool
-allRight leaf m ws = all (λ s. leavesRight (modelOf leaf m) (mapsByName s) (namesOf leaf s)) ws

@@ -12,7 +12,7 @@ use Rattle.lists.specs.Tests.{any, Each}
 use Rattle.lists.specs.Words.{wordsOf}
 use Rattle.lists.proofs.FirstLaws.{place-inside, appearing-length, appearing-any}
 use Rattle.lists.proofs.TestLaws.{each-append, each-map, each-so}
-use Rattle.lists.proofs.WordLaws.{words-length}
+use Rattle.lists.proofs.WordLaws.{words-length, each-words}
 use Rattle.aiger.specs.declared.Gate.{Gate}
 use Rattle.aiger.specs.Gates.{variable}
 use Rattle.witness.specs.Sections.{Sections, leaves, variables, latchNames}
@@ -20,10 +20,9 @@ use Rattle.witness_words.specs.Loaded.{latchWords, operandWords}
 use Rattle.composition.specs.declared.ModelLeaves.{ModelLeaves}
 use Rattle.composition.specs.Mapping.{mapsByName}
 use Rattle.composition.specs.Numbering.{Entry, sameEntry, inputsIn, latchesIn, inputEntries, latchEntries, inputFirsts, latchFirsts, numbered, leafCount}
-use Rattle.composition.specs.Composing.{orOutputs}
+use Rattle.composition.specs.Ranges.{Within, LatchWithin, InRange, GatesFrom}
 use Rattle.composition.proofs.PlacedLaws.{entry-self, inputs-in-length, latches-in-length}
-use Rattle.composition.proofs.RangeLaws.{Within, LatchWithin, InRange}
-use Rattle.composition.proofs.SolveLaws.{GatesFrom}
+use Rattle.composition.proofs.KeepLaws.{safety-within}
 use Rattle.joint.specs.declared.Before.{Before}
 use Rattle.joint.specs.declared.Literals.{Literals}
 use Rattle.joint.specs.declared.Literals.the-variants as literals
@@ -149,21 +148,11 @@ leaf-vars-most m ws =
 
 -- ---- joint literals
 
--- what holds of each word of each element holds of all words
-each-words : {B : Type 0} (words : B → List ℕ) (P : ℕ → Type 0) (l : List B) → Each (λ x. Each P (words x)) l → Each P (wordsOf words l)
-each-words words P [] e = tt
-each-words words P (x ∷ l) e = each-append P (words x) (wordsOf words l) (e .0) (each-words words P l (e .1))
-
 -- the operands of gates are in range
 operands-within : (n most : ℕ) (gs : List Gate) → GatesFrom n gs → n + length gs ≤ suc most → Each (Within most) (wordsOf operandWords gs)
 operands-within n most [] at h = tt
 operands-within n most (g ∷ gs) at h =
     (omega (arith, at .0 .left), (omega (arith, at .0 .right), operands-within (suc n) most gs (at .1) (omega arith)))
-
--- the safety of a witness is in range
-safety-within : (most : ℕ) (bs os : List ℕ) → Each (Within most) bs → Each (Within most) os → Each (Within most) (orOutputs bs os)
-safety-within most [] os h k = k
-safety-within most (b ∷ bs) os h k = h
 
 -- every list of literals of a witness is in range
 pub lists-within : (kind : Literals) (s : Sections) → InRange s → Each (Within (variables s)) (listOf kind s)

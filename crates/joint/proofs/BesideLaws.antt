@@ -8,7 +8,7 @@ use Rattle.lists.specs.Firsts.{place, joined}
 use Rattle.aiger.specs.declared.Gate.{Gate}
 use Rattle.aiger.specs.Gates.{gateFrom}
 use Rattle.composition.specs.Sharing.{Operands, sameOperands, unordered, translated, Shared, shareGates}
-use Rattle.composition.proofs.SolveLaws.{GateAt, GatesFrom}
+use Rattle.composition.specs.Ranges.{GateAt, GatesFrom}
 use Rattle.joint.specs.declared.Shift.{Shift}
 use Rattle.joint.specs.Joint.{shiftedLiteral}
 use Rattle.joint.proofs.ShiftLaws.{Keeps, shifted-translated, keeps-snoc}

@@ -19,8 +19,8 @@ use Rattle.composition.specs.declared.Mapping.the-variants as mapping
 use Rattle.composition.specs.Mapping.{mapsByName, mappingOf}
 use Rattle.composition.specs.Numbering.{Key, shared, alone, sameKey, Entry, sameEntry, privateName, entryOf, entriesFrom}
 use Rattle.joint.specs.declared.Leaves.{Leaves}
-use Rattle.joint.specs.Joint.{namesOf, modelOf}
-use Rattle.joint.proofs.OriginLaws.{unnamedOf, entriesIn, entriesOf}
+use Rattle.joint.specs.Joint.{namesOf, modelOf, unnamedOf, entriesOf}
+use Rattle.joint.proofs.OriginLaws.{entriesIn, entries-none, entries-split}
 
 -- a private key of an earlier witness, or of witness w with a number below k; or a shared one
 abbrev Earlier : ℕ → ℕ → Key → Type 0
@@ -104,16 +104,17 @@ module _ (p : ModelLeaves) (unnamed : Bytes) (w : ℕ) where
 
 -- the private entries of all witnesses are new, behind those of earlier ones
 all-fresh : (kind : Leaves) (m : Sections) (w : ℕ) (ws : List Sections) (seen : List Entry) → Each (λ a. Earlier w 0 (a .key)) seen → Fresh seen (entriesOf kind m w ws)
-all-fresh kind m w [] seen h = tt
+all-fresh kind m w [] seen h = rw (entries-none kind m w) tt
 all-fresh kind m w (s ∷ ss) seen h =
     let p : ModelLeaves = modelOf kind m in
     let es : List Entry = entriesIn kind m w s in
-    fresh-append seen es (entriesOf kind m (suc w) ss)
+    rw (entries-split kind m w s ss)
+    (fresh-append seen es (entriesOf kind m (suc w) ss)
     (witness-fresh p (unnamedOf kind) w (mapsByName s) 0 (namesOf kind s) seen h)
     (all-fresh kind m (suc w) ss (appearing sameEntry seen es)
     (each-appearing sameEntry (λ a. Earlier (suc w) 0 (a .key)) seen es
     (each-so (λ a. Earlier w 0 (a .key)) (λ a. Earlier (suc w) 0 (a .key)) (λ a. earlier-next w 0 (a .key)) seen h)
-    (witness-earlier p (unnamedOf kind) w (mapsByName s) 0 (namesOf kind s))))
+    (witness-earlier p (unnamedOf kind) w (mapsByName s) 0 (namesOf kind s)))))
 
 -- the private entries of all witnesses are new
 pub entries-fresh : (kind : Leaves) (m : Sections) (ws : List Sections) → Fresh [] (entriesOf kind m 0 ws)

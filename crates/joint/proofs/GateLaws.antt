@@ -15,26 +15,17 @@ use Rattle.witness_words.specs.Loaded.{operandWords}
 use Rattle.composition.specs.Numbering.{Entry, inputEntries, latchEntries, inputFirsts, latchFirsts, numbered, leafCount}
 use Rattle.composition.specs.Sharing.{sameOperands, translated, Shared, shareGates}
 use Rattle.composition.specs.Composing.{composedGates}
-use Rattle.composition.proofs.RangeLaws.{InRange}
+use Rattle.composition.specs.Ranges.{InRange, GatesFrom}
 use Rattle.composition.proofs.ShareLaws.{Low, Sound, sound-shared, shared-goes}
-use Rattle.composition.proofs.SolveLaws.{GatesFrom}
 use Rattle.joint.specs.declared.Shift.{Shift}
 use Rattle.joint.specs.declared.Before.{Before}
 use Rattle.joint.specs.declared.Literals.the-variants as literals
 use Rattle.joint.specs.Joint.{totalOf, inputCount, latchCount, gateCount, shiftedLiteral, nothingBefore, beyond, shiftOf, gatheredFrom, jointLiterals, joint, listOf}
-use Rattle.joint.specs.Numbers.{leafVars}
+use Rattle.joint.specs.Numbers.{leafVars, jointGates, jointShared}
 use Rattle.joint.proofs.ShiftLaws.{Room, shifted-variable, shifted-below}
 use Rattle.joint.proofs.AmountLaws.{joint-operands-length, input-entries-length, latch-entries-length, leaf-vars-length, leaf-vars-most, Amounts, amounts-all, amounts-room, amounts-next}
 use Rattle.joint.proofs.BesideLaws.{shiftedGate}
 use Rattle.joint.proofs.SideLaws.{gatesBeside, Together, all-together}
-
--- the gates of the joint circuit
-abbrev pub jointGates : List Sections → List Gate
-jointGates ws = pairsOf (gateFrom 0) (joint (listOf literals.Operands) ws)
-
--- the composed variables of all joint variables, and the composed gates
-abbrev pub jointShared : Sections → List Sections → Shared
-jointShared m ws = shareGates (suc (leafCount m ws)) (jointGates ws) (record { vars = leafVars m ws; gates = [] })
 
 -- ---- the joint operands as gates
 

@@ -1,6 +1,6 @@
 -- The numbers that the origin words get, with a table of the model's literals, are those of their entries at first appearance.
 use Prim.Native.Nat.{ℕ, suc, _+_, _*_, _/_, _%_, _<_}
-use mathlib.Core.Bool.{Bool, true, false, cond}
+use mathlib.Core.Bool.{Bool, true, false, cond, or-false}
 use mathlib.Core.List.{List, [], _∷_, _++_, map}
 use mathlib.Core.Path.{_≡_, refl, sym, ap, ap₂, subst, _∙_}
 use native.Mathlib.Omega.{arith}
@@ -12,7 +12,6 @@ use Rattle.lists.specs.Bits.{odd}
 use Rattle.lists.specs.Firsts.{place, joined, appearing}
 use Rattle.lists.specs.Parts.{zeros}
 use Rattle.lists.specs.Tests.{any}
-use Rattle.lists.proofs.BoolLaws.{or-false}
 use Rattle.lists.proofs.FirstLaws.{place-outside, place-append, place-same, joined-has, joined-any}
 use Rattle.lists.proofs.TestLaws.{any-append, any-cong}
 use Rattle.lists.proofs.ZeroLaws.{zeros-length, zeros-at}
@@ -23,10 +22,10 @@ use Rattle.composition.proofs.PlacedLaws.{entry-self, entry-alike}
 use Rattle.composition.proofs.WholeLaws.{Both}
 use Rattle.joint.specs.declared.Leaves.{Leaves}
 use Rattle.joint.specs.declared.Leaves.the-variants as leaf
-use Rattle.joint.specs.Joint.{modelOf, origins}
+use Rattle.joint.specs.Joint.{modelOf, origins, entriesOf}
 use Rattle.joint.specs.Numbers.{Numbers, withNumber, slot, numberAll}
 use Rattle.joint.proofs.RiseLaws.{place-joined, place-first}
-use Rattle.joint.proofs.OriginLaws.{OfKind, Says, entriesOf, entries-inputs, entries-latches, origins-say}
+use Rattle.joint.proofs.OriginLaws.{OfKind, Says, origins-say}
 use Rattle.joint.proofs.FreshLaws.{New, Fresh, entries-fresh}
 
 -- the numbers r that entries get, where `firsts` have the numbers n, n + 1, ..
@@ -201,18 +200,13 @@ number-origins kind m ws n some =
 -- the same for the inputs
 inputs-numbered : (m : Sections) (ws : List Sections)
     → Numbered 1 (inputFirsts m ws) (inputEntries m 0 ws) (numberAll 0 1 (origins leaf.Inputs m ws) (zeros (length (m .inputs))))
-inputs-numbered m ws =
-    subst (λ (es : List Entry). Numbered 1 (appearing sameEntry [] es) es (numberAll 0 1 (origins leaf.Inputs m ws) (zeros (length (m .inputs)))))
-    (entries-inputs m 0 ws) (number-origins leaf.Inputs m ws 1 (omega arith))
+inputs-numbered m ws = number-origins leaf.Inputs m ws 1 (omega arith)
 
 -- the same for the latches, behind the inputs
 latches-numbered : (m : Sections) (ws : List Sections)
     → Numbered (suc (length (inputFirsts m ws))) (latchFirsts m ws) (latchEntries m 0 ws)
     (numberAll (length (m .inputs)) (suc (length (inputFirsts m ws))) (origins leaf.Latches m ws) (zeros (length (m .latches))))
-latches-numbered m ws =
-    let n : ℕ = suc (length (inputFirsts m ws)) in
-    subst (λ (es : List Entry). Numbered n (appearing sameEntry [] es) es (numberAll (length (m .inputs)) n (origins leaf.Latches m ws) (zeros (length (m .latches)))))
-    (entries-latches m 0 ws) (number-origins leaf.Latches m ws n (omega arith))
+latches-numbered m ws = number-origins leaf.Latches m ws (suc (length (inputFirsts m ws))) (omega arith)
 
 -- The inputs of all witnesses get the composed variables of their entries.
 pub input-numbers : (m : Sections) (ws : List Sections)

@@ -3,7 +3,7 @@ use Prim.Native.Nat.{ℕ, suc, _+_, _*_, _/_, _%_, _≤_, _<_}
 use mathlib.Core.Bool.{Bool, true, false, cond, not, _&&_}
 use mathlib.Core.List.{List, [], _∷_, _++_}
 use mathlib.Core.Option.{Option, some, none}
-use mathlib.Core.Path.{_≡_, refl, ap}
+use mathlib.Core.Path.{_≡_, refl}
 use native.Mathlib.Omega.{arith}
 use lib.Dec.{ltb, leb}
 use lib.ListN.{drop}
@@ -23,39 +23,29 @@ use Rattle.composition.specs.declared.ModelLeaves.{ModelLeaves}
 use Rattle.composition.specs.declared.Mapping.{Mapping}
 use Rattle.composition.specs.declared.Mapping.the-variants as mapping
 use Rattle.composition.specs.Mapping.{equals, isOf, ontoNumber, byName, byPosition, mapsByName, mappingOf}
-use Rattle.composition.specs.Numbering.{Key, shared, alone, Entry, private-input, private-latch, entryOf, entriesFrom, inputEntries, latchEntries}
+use Rattle.composition.specs.Numbering.{Key, shared, alone, Entry, entryOf, entriesFrom}
 use Rattle.composition.proofs.WholeLaws.{Both}
 use Rattle.joint.specs.declared.Before.{Before}
 use Rattle.joint.specs.declared.Leaves.{Leaves}
 use Rattle.joint.specs.declared.Leaves.the-variants as leaf
-use Rattle.joint.specs.Joint.{beyond, nothingBefore, gatheredFrom, namesOf, modelOf, originWord, originsFrom, jointOrigins, origins}
+use Rattle.joint.specs.Joint.{beyond, nothingBefore, gatheredFrom, namesOf, modelOf, originWord, originsFrom, jointOrigins, origins, unnamedOf, entriesOf}
 use Rattle.joint.specs.Numbers.{slot}
 
 -- ---- the entries of a kind
-
--- the bytes that stand for a name that there is not
-abbrev pub unnamedOf : Leaves → Bytes
-unnamedOf leaf.Inputs = private-input
-unnamedOf leaf.Latches = private-latch
 
 -- the entries of witness w
 abbrev pub entriesIn : Leaves → Sections → ℕ → Sections → List Entry
 entriesIn kind m w s = entriesFrom (modelOf kind m) (unnamedOf kind) w (mapsByName s) 0 (namesOf kind s)
 
--- the entries of all witnesses; the first witness has the index w
-abbrev pub entriesOf : Leaves → Sections → ℕ → List Sections → List Entry
-entriesOf kind m w [] = []
-entriesOf kind m w (s ∷ ss) = entriesIn kind m w s ++ entriesOf kind m (suc w) ss
+-- those of no witness
+pub entries-none : (kind : Leaves) (m : Sections) (w : ℕ) → entriesOf kind m w [] ≡ []
+entries-none leaf.Inputs m w = refl
+entries-none leaf.Latches m w = refl
 
--- those of inputs
-pub entries-inputs : (m : Sections) (w : ℕ) (ws : List Sections) → entriesOf leaf.Inputs m w ws ≡ inputEntries m w ws
-entries-inputs m w [] = refl
-entries-inputs m w (s ∷ ss) = ap (λ (r : List Entry). entriesIn leaf.Inputs m w s ++ r) (entries-inputs m (suc w) ss)
-
--- those of latches
-pub entries-latches : (m : Sections) (w : ℕ) (ws : List Sections) → entriesOf leaf.Latches m w ws ≡ latchEntries m w ws
-entries-latches m w [] = refl
-entries-latches m w (s ∷ ss) = ap (λ (r : List Entry). entriesIn leaf.Latches m w s ++ r) (entries-latches m (suc w) ss)
+-- those of a witness and of those after it
+pub entries-split : (kind : Leaves) (m : Sections) (w : ℕ) (s : Sections) (ss : List Sections) → entriesOf kind m w (s ∷ ss) ≡ entriesIn kind m w s ++ entriesOf kind m (suc w) ss
+entries-split leaf.Inputs m w s ss = refl
+entries-split leaf.Latches m w s ss = refl
 
 -- ---- what a word says
 
@@ -146,12 +136,13 @@ both-append R (x ∷ xs) us (y ∷ ys) vs r t = (r .0, both-append R xs us ys vs
 -- the words of witnesses say their keys
 all-say : (kind : Leaves) (m : Sections) (w : ℕ) (b : Before) (ws : List Sections)
     → Both (λ x e. Says (modelOf kind m) x (e .key)) (gatheredFrom (jointOrigins kind m) w b ws) (entriesOf kind m w ws)
-all-say kind m w b [] = tt
+all-say kind m w b [] = rw (entries-none kind m w) tt
 all-say kind m w b (s ∷ ss) =
-    both-append (λ x e. Says (modelOf kind m) x (e .key)) (jointOrigins kind m w b s) (gatheredFrom (jointOrigins kind m) (suc w) (beyond b s) ss)
+    rw (entries-split kind m w s ss)
+    (both-append (λ x e. Says (modelOf kind m) x (e .key)) (jointOrigins kind m w b s) (gatheredFrom (jointOrigins kind m) (suc w) (beyond b s) ss)
     (entriesIn kind m w s) (entriesOf kind m (suc w) ss)
     (words-say (modelOf kind m) (unnamedOf kind) w (mapsByName s) 0 (namesOf kind s))
-    (all-say kind m (suc w) (beyond b s) ss)
+    (all-say kind m (suc w) (beyond b s) ss))
 
 -- each origin word says the key of its entry
 pub origins-say : (kind : Leaves) (m : Sections) (ws : List Sections) → Both (λ x e. Says (modelOf kind m) x (e .key)) (origins kind m ws) (entriesOf kind m 0 ws)

@@ -9,24 +9,18 @@ use lib.ListN.{length, length-append}
 use borrow.Author.Tests.{eq-eqb, ne-eqb}
 use Rattle.lists.specs.Firsts.{place, joined, appearing}
 use Rattle.lists.specs.Tests.{any}
-use Rattle.lists.proofs.BoolLaws.{or-left, or-right}
-use Rattle.lists.proofs.FirstLaws.{place-inside, place-outside, place-begins, joined-any, appearing-begins}
+use Rattle.lists.proofs.FirstLaws.{place-inside, place-outside, place-begins, joined-any, appearing-begins, place-new}
 use Rattle.composition.specs.Numbering.{Entry, sameEntry, numbered}
 use Rattle.composition.proofs.PlacedLaws.{entry-self}
 
 module _ {A : Type 0} (same : A → A → Bool) (self : (x : A) → same x x ≡ true) where
-  -- one that is new stands at the end
-  pub place-new : (x : A) (ys : List A) → any (same x) ys ≡ false → place same x (ys ++ (x ∷ [])) ≡ length ys
-  place-new x [] h = rw (self x)
-  place-new x (y ∷ ys) h = rw (or-left (same x y) (any (same x) ys) h) (ap suc (place-new x ys (or-right (same x y) (any (same x) ys) h)))
-
   -- joining x keeps its place
   pub place-joined : (x : A) (ys : List A) → place same x (joined same x ys) ≡ place same x ys
   place-joined x ys = go (any (same x) ys) refl
     where
       go : (q : Bool) → any (same x) ys ≡ q → place same x (cond q ys (ys ++ (x ∷ []))) ≡ place same x ys
       go true e = refl
-      go false e = place-new x ys e ∙ sym (place-outside same x ys e)
+      go false e = place-new same self x ys e ∙ sym (place-outside same x ys e)
 
   -- and so does all that appears later
   pub place-first : (x : A) (ys zs : List A) → place same x (appearing same (joined same x ys) zs) ≡ place same x ys

@@ -11,8 +11,8 @@ use Rattle.aiger.specs.declared.Gate.{Gate}
 use Rattle.witness.specs.Sections.{Sections, leaves, variables}
 use Rattle.composition.specs.Numbering.{Entry, inputsIn, latchesIn, inputEntries, latchEntries, numbered, Placed, placedFrom}
 use Rattle.composition.specs.Sharing.{Operands, Shared, shareGates, shareWitness, gatesAfter, wholeAfter}
+use Rattle.composition.specs.Ranges.{InRange}
 use Rattle.composition.proofs.PlacedLaws.{inputs-in-length, latches-in-length}
-use Rattle.composition.proofs.RangeLaws.{InRange}
 use Rattle.composition.proofs.ShareLaws.{shared-goes}
 use Rattle.joint.specs.declared.Shift.{Shift}
 use Rattle.joint.specs.declared.Before.{Before}

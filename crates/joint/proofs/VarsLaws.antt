@@ -5,9 +5,9 @@ use mathlib.Core.Path.{_≡_, refl, sym, ap, ap₂, _∙_}
 use native.Mathlib.Omega.{arith}
 use lib.ListN.{length, getD, length-append, length-map}
 use lib.Seq.{getD-append-add}
-use Rattle.lists.specs.Firsts.{joinedAll, setOf}
 use Rattle.lists.specs.Tests.{Each}
 use Rattle.lists.specs.Words.{wordsOf}
+use Rattle.lists.specs.Sets.{setOf}
 use Rattle.lists.proofs.FirstLaws.{Begins, begins-at}
 use Rattle.lists.proofs.MapLaws.{each-maps}
 use Rattle.lists.proofs.TestLaws.{each-so}
@@ -17,19 +17,19 @@ use Rattle.witness_words.specs.Loaded.{latchWords}
 use Rattle.composition.specs.Numbering.{Entry, inputsIn, latchesIn, latchEntries, inputFirsts, latchFirsts, numbered, Placed, placedFrom, placed, leafCount}
 use Rattle.composition.specs.Sharing.{Operands, translate, shareWitness, wholeAfter}
 use Rattle.composition.specs.Composing.{whole, Defined, definedFrom, definedIn, allDefined, safety, literalsOf}
+use Rattle.composition.specs.Ranges.{Within, InRange}
 use Rattle.composition.proofs.PlacedLaws.{inputs-in-length, latches-in-length, placed-everyone}
-use Rattle.composition.proofs.RangeLaws.{Within, InRange}
 use Rattle.composition.proofs.ShareLaws.{shared-goes}
 use Rattle.joint.specs.declared.Shift.{Shift}
 use Rattle.joint.specs.declared.Before.{Before}
 use Rattle.joint.specs.declared.Literals.{Literals}
 use Rattle.joint.specs.declared.Literals.the-variants as literals
 use Rattle.joint.specs.Joint.{totalOf, inputCount, latchCount, shiftedLiteral, nothingBefore, beyond, shiftOf, gatheredFrom, jointLiterals, joint, listOf}
-use Rattle.joint.specs.Numbers.{definedPairs}
+use Rattle.joint.specs.Numbers.{jointShared}
 use Rattle.joint.proofs.ShiftLaws.{shifted-translated}
 use Rattle.joint.proofs.AmountLaws.{lists-within}
 use Rattle.joint.proofs.SideLaws.{Kept, AllKept}
-use Rattle.joint.proofs.GateLaws.{jointShared, joint-together}
+use Rattle.joint.proofs.GateLaws.{joint-together}
 
 -- the literals of a witness in the literals of the composition
 abbrev pub translatedList : Literals → Placed → List ℕ
@@ -57,7 +57,7 @@ module _ (kind : Literals) (i q : ℕ) (all : List ℕ) where
 
   -- those of all
   all-translated : (w : ℕ) (b : Before) (ps : List Placed) → AllKept i q b all ps
-      → map (translate all) (gatheredFrom (jointLiterals (listOf kind) i q) w b (map (λ p. p .sections) ps)) ≡ joinedAll (map (translatedList kind) ps)
+      → map (translate all) (gatheredFrom (jointLiterals (listOf kind) i q) w b (map (λ p. p .sections) ps)) ≡ wordsOf (translatedList kind) ps
   all-translated w b [] k = refl
   all-translated w b (p ∷ ps) k =
       let s : Sections = p .sections in
@@ -68,7 +68,7 @@ module _ (kind : Literals) (i q : ℕ) (all : List ℕ) where
 module _ (m : Sections) (ws : List Sections) (r : Each InRange ws) where
   -- a joint list, translated, is the list of each witness, translated
   pub joint-translated : (kind : Literals)
-      → map (translate (jointShared m ws .vars)) (joint (listOf kind) ws) ≡ joinedAll (map (λ p. map (translate (p .vars)) (listOf kind (p .sections))) (whole m ws))
+      → map (translate (jointShared m ws .vars)) (joint (listOf kind) ws) ≡ wordsOf (translatedList kind) (whole m ws)
   joint-translated kind =
       let i : ℕ = totalOf inputCount ws in
       let q : ℕ = totalOf latchCount ws in
@@ -85,6 +85,13 @@ module _ (m : Sections) (ws : List Sections) (r : Each InRange ws) where
   joint-constraints = ap setOf (sym (joint-translated literals.Constraints))
 
 -- ---- latches
+
+-- latches with these composed variables, and two words each, next and reset
+abbrev pub definedPairs : List ℕ → List ℕ → List Defined
+definedPairs [] words = []
+definedPairs (x ∷ xs) [] = []
+definedPairs (x ∷ xs) (next ∷ []) = []
+definedPairs (x ∷ xs) (next ∷ reset ∷ words) = record { variable = x; next = next; reset = reset } ∷ definedPairs xs words
 
 -- two words for each latch
 two-words : (vars : List ℕ) (qs : List NamedLatch) → length (map (translate vars) (wordsOf latchWords qs)) ≡ 2 * length qs
@@ -137,7 +144,7 @@ module _ (m : Sections) (is qs : List Entry) (n : ℕ) where
   -- those of all
   all-defined : (w : ℕ) (ws : List Sections) (cs : List Operands)
       → allDefined (wholeAfter n (placedFrom m is qs w ws) cs)
-      ≡ definedPairs (map asLatch (latchEntries m w ws)) (joinedAll (map (translatedList literals.Latches) (wholeAfter n (placedFrom m is qs w ws) cs)))
+      ≡ definedPairs (map asLatch (latchEntries m w ws)) (wordsOf (translatedList literals.Latches) (wholeAfter n (placedFrom m is qs w ws) cs))
   all-defined w [] cs = refl
   all-defined w (s ∷ ss) cs =
       let leaf : List ℕ = 0 ∷ (map (numbered 1 is) (inputsIn m w s) ++ map asLatch (latchesIn m w s)) in
@@ -146,7 +153,7 @@ module _ (m : Sections) (is qs : List Entry) (n : ℕ) where
       let next : List Placed = wholeAfter n (placedFrom m is qs (suc w) ss) (shareWitness n p cs .gates) in
       let ys : List ℕ = map asLatch (latchesIn m w s) in
       let us : List ℕ = map (translate vars) (wordsOf latchWords (s .latches)) in
-      let vs : List ℕ = joinedAll (map (translatedList literals.Latches) next) in
+      let vs : List ℕ = wordsOf (translatedList literals.Latches) next in
       let zs : List ℕ = map asLatch (latchEntries m (suc w) ss) in
       let ny : length ys ≡ length (s .latches) = length-map (latchesIn m w s) asLatch ∙ latches-in-length m w s in
       ap₂ (λ ds es. ds ++ es) (witness-defined w s vars (shared-goes n (s .gates) (record { vars = leaf; gates = cs }) .vars)) (all-defined (suc w) ss (shareWitness n p cs .gates))

@@ -15,6 +15,7 @@ use Rattle.composition.specs.declared.ModelLeaves.{ModelLeaves}
 use Rattle.composition.specs.declared.Mapping.{Mapping}
 use Rattle.composition.specs.declared.Mapping.the-variants as mapping
 use Rattle.composition.specs.Mapping.{mapsByName, mappingOf, modelInputs, modelLatches}
+use Rattle.composition.specs.Numbering.{Entry, private-input, private-latch, inputEntries, latchEntries}
 use Rattle.composition.specs.Composing.{safety}
 use Rattle.joint.specs.declared.Shift.{Shift}
 use Rattle.joint.specs.declared.Before.{Before}
@@ -98,6 +99,16 @@ namesOf leaf.Latches s = latchNames s
 abbrev pub modelOf : Leaves → Sections → ModelLeaves
 modelOf leaf.Inputs m = modelInputs m
 modelOf leaf.Latches m = modelLatches m
+
+-- what stands for a private name where there is none
+abbrev pub unnamedOf : Leaves → Bytes
+unnamedOf leaf.Inputs = private-input
+unnamedOf leaf.Latches = private-latch
+
+-- the entries of all witnesses in their order; the first witness has the index w
+abbrev pub entriesOf : Leaves → Sections → ℕ → List Sections → List Entry
+entriesOf leaf.Inputs m w ws = inputEntries m w ws
+entriesOf leaf.Latches m w ws = latchEntries m w ws
 
 -- what one of them is, as a word: the literal of the model, which is even, or an odd number that says the index w of the only witness that has it
 abbrev pub originWord : ℕ → Mapping → ℕ

@@ -5,9 +5,14 @@ use mathlib.Core.List.{List, [], _∷_, _++_, map}
 use lib.Dec.{eqb}
 use lib.ListN.{length, getD, set}
 use Rattle.lists.specs.Bits.{odd}
+use Rattle.lists.specs.Words.{pairsOf}
+use Rattle.aiger.specs.declared.Gate.{Gate}
+use Rattle.aiger.specs.Gates.{gateFrom}
 use Rattle.witness.specs.Sections.{Sections}
-use Rattle.composition.specs.Numbering.{inputEntries, latchEntries, inputFirsts, latchFirsts, numbered}
-use Rattle.composition.specs.Composing.{Defined}
+use Rattle.composition.specs.Numbering.{inputEntries, latchEntries, inputFirsts, latchFirsts, numbered, leafCount}
+use Rattle.composition.specs.Sharing.{Shared, shareGates}
+use Rattle.joint.specs.declared.Literals.the-variants as literals
+use Rattle.joint.specs.Joint.{joint, listOf}
 
 -- the numbers given, the table afterwards, and the next number
 pub record Numbers : Type 0 where
@@ -36,9 +41,10 @@ leafVars m ws =
     0 ∷ (map (numbered 1 (inputFirsts m ws)) (inputEntries m 0 ws)
     ++ map (numbered (suc (length (inputFirsts m ws))) (latchFirsts m ws)) (latchEntries m 0 ws))
 
--- latches with these composed variables, and two words each, next and reset
-abbrev pub definedPairs : List ℕ → List ℕ → List Defined
-definedPairs [] words = []
-definedPairs (x ∷ xs) [] = []
-definedPairs (x ∷ xs) (next ∷ []) = []
-definedPairs (x ∷ xs) (next ∷ reset ∷ words) = record { variable = x; next = next; reset = reset } ∷ definedPairs xs words
+-- the gates of the joint circuit
+abbrev pub jointGates : List Sections → List Gate
+jointGates ws = pairsOf (gateFrom 0) (joint (listOf literals.Operands) ws)
+
+-- the composed variables of all joint variables, and the composed gates
+abbrev pub jointShared : Sections → List Sections → Shared
+jointShared m ws = shareGates (suc (leafCount m ws)) (jointGates ws) (record { vars = leafVars m ws; gates = [] })

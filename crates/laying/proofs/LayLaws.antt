@@ -1,12 +1,11 @@
 -- Laws of the last two regions that are read, and of the whole.
 use Prim.Native.Nat.{ℕ, _+_, _*_, _/_, _≤_}
-use mathlib.Core.Bool.{Bool, true, _&&_}
+use mathlib.Core.Bool.{Bool, true, _&&_, and-false}
 use mathlib.Core.List.{List, [], _∷_, _++_}
 use mathlib.Core.Path.{_≡_, sym, ap, _∙_, subst}
 use native.Mathlib.Omega.{arith}
 use lib.ListN.{length}
 use Rattle.lists.specs.Parts.{Bytes}
-use Rattle.lists.proofs.BoolLaws.{and-false}
 use Rattle.witness_text.specs.declared.AagCounts.{AagCounts}
 use Rattle.witness.specs.Sections.{Sections}
 use Rattle.witness.specs.Reading.{countsIn}
@@ -26,7 +25,7 @@ use Rattle.laying.specs.declared.Laid.{Laid}
 use Rattle.laying.specs.declared.Laid.the-variants as laid
 use Rattle.laying.specs.Laid.{Fitting, Ready, LaidOut, CanLay, Lays, knownLength, Stage, Staged, Goes, GoesRight, LaidRight, rightLeaves, nothing, withConstraints, withInputs, PlacesFit, placesOf}
 use Rattle.laying.proofs.RoomLaws.{amounts}
-use Rattle.laying.proofs.StageLaws.{long}
+use Rattle.laying.proofs.StageLaws.{literals-long, fitting-same}
 use Rattle.laying.proofs.ReadyLaws.{stage-ready}
 use Rattle.laying.proofs.OriginLaws.{right-both, RoomyLeaves, modelBy, leaves-can, leaves-wrong, leaves-right, leaves-next}
 
@@ -40,7 +39,7 @@ roomy-inputs l =
     record {
       most = λ m ws.
           let n = amounts ws in
-          omega (arith, n .latches, n .operands, n .safety, n .constraints, n .all, long literals.Latches ws, long literals.Operands ws, long literals.Safety ws, long literals.Constraints ws);
+          omega (arith, n .latches, n .operands, n .safety, n .constraints, n .all, literals-long literals.Latches ws, literals-long literals.Operands ws, literals-long literals.Safety ws, literals-long literals.Constraints ws);
     }
 
 pub roomy-leaves : (l : Lists) → RoomyLeaves (withInputs l (l .end)) leaf.Latches
@@ -55,10 +54,10 @@ roomy-leaves l =
             n .safety,
             n .constraints,
             n .all,
-            long literals.Latches ws,
-            long literals.Operands ws,
-            long literals.Safety ws,
-            long literals.Constraints ws,
+            literals-long literals.Latches ws,
+            literals-long literals.Operands ws,
+            literals-long literals.Safety ws,
+            literals-long literals.Constraints ws,
             input-origins-length m ws,
             latch-total m ws,
           );
@@ -114,10 +113,10 @@ table-most m ws l b table e =
       n .safety,
       n .constraints,
       n .all,
-      long literals.Latches ws,
-      long literals.Operands ws,
-      long literals.Safety ws,
-      long literals.Constraints ws,
+      literals-long literals.Latches ws,
+      literals-long literals.Operands ws,
+      literals-long literals.Safety ws,
+      literals-long literals.Constraints ws,
       input-origins-length m ws,
       latch-origins-length m ws,
     )
@@ -152,7 +151,7 @@ module _ (l : Lists) (mc : AagCounts) (t : Totals) (buffer : Bytes) (pairs work 
         record {
           fits =
               regions-room table (sizes ws) (size m) (mc .inputs) (mc .latches) (t .inputs) (t .latches) (t .gates) (length work') (behind m ws k)
-              (model-size mc m (f .model)) (leaves-size ws (t .inputs) (t .latches) (t .gates) (f .inputs) (f .latches) (f .gates)) (f .room);
+              (model-size mc m (f .model)) (leaves-size ws (t .inputs) (t .latches) (t .gates) (f .totals .inputs) (f .totals .latches) (f .totals .gates)) (f .room);
         }
 
     pub places-fit : Staged mc t buffer pairs work (withInputs l (l .end)) b → PlacesFit l table mc t (length work')
@@ -173,30 +172,21 @@ module _ (mc : AagCounts) (t : Totals) (buffer : Bytes) (pairs work : List ℕ) 
   pub lay-load : CanLay mc t buffer pairs work → CanLoad buffer pairs work
   lay-load k =
       let n = amounts (k .ws) in
-      record { ws = k .ws; readable = k .fitting .readable; room = omega (arith, n .words, n .all, k .fitting .room) }
+      record { ws = k .ws; readable = k .holds .readable; room = omega (arith, n .words, n .all, k .holds .room) }
 
   module _ (work' : List ℕ) (a : ℕ) (g : LoadsAll buffer pairs work' a) (same : length work' ≡ length work) where
     begin : (m : Sections) (ws : List Sections) → Fitting mc t buffer pairs work m ws → Stage mc t buffer pairs work' [] a m ws
     begin m ws f =
         let x = g ws (f .readable) in
         record {
-          fitting =
-              record {
-                readable = f .readable;
-                model = f .model;
-                few = f .few;
-                inputs = f .inputs;
-                latches = f .latches;
-                gates = f .gates;
-                room = omega (arith, f .room);
-              };
+          fitting = fitting-same mc t buffer pairs work work' m ws same f;
           blocks = x .0;
           standing = tt;
           to-is = omega (arith, x .1);
         }
 
     pub lay-staged : CanLay mc t buffer pairs work → Staged mc t buffer pairs work' nothing a
-    lay-staged k = record { m = k .m; ws = k .ws; holds = begin (k .m) (k .ws) (k .fitting) }
+    lay-staged k = record { m = k .m; ws = k .ws; holds = begin (k .m) (k .ws) (k .holds) }
 
     pub lay-goes : (work'' : List ℕ) (r : Laid) → Goes mc t buffer pairs work' nothing a work'' r → Lays mc t buffer pairs work work'' r
     lay-goes work'' r h m ws f = h .goes m ws (begin m ws f)

@@ -15,7 +15,7 @@ use Rattle.gathering.specs.declared.Totals.{Totals}
 use Rattle.laying.specs.declared.Lists.{Lists}
 use Rattle.laying.specs.Laid.{Has, Regions, Listed, Ready, Stage, withInputs, PlacesFit, placesOf}
 use Rattle.laying.proofs.RoomLaws.{amounts}
-use Rattle.laying.proofs.StageLaws.{long}
+use Rattle.laying.proofs.StageLaws.{literals-long}
 
 module _ (l : Lists) (mc : AagCounts) (t : Totals) (buffer : Bytes) (pairs work : List ℕ) (b table : ℕ) (m : Sections) (ws : List Sections)
     (k : Stage mc t buffer pairs work (withInputs l (l .end) m ws ++ record { place = b; words = origins leaf.Latches m ws } ∷ []) table m ws) where
@@ -27,12 +27,15 @@ module _ (l : Lists) (mc : AagCounts) (t : Totals) (buffer : Bytes) (pairs work 
       let s = k .standing in
       record {
         blocks = k .blocks;
-        latches = has _ (l .latches) (joint (listOf literals.Latches) ws) (s .0);
-        operands = has _ (l .operands) (joint (listOf literals.Operands) ws) (s .1 .0);
-        safety = has _ (l .safety) (joint (listOf literals.Safety) ws) (s .1 .1 .0);
-        constraints = has _ (l .constraints) (joint (listOf literals.Constraints) ws) (s .1 .1 .1 .0);
-        inputOrigins = has _ (l .end) (origins leaf.Inputs m ws) (s .1 .1 .1 .1 .0);
-        latchOrigins = has _ b (origins leaf.Latches m ws) (s .1 .1 .1 .1 .1 .0);
+        stands =
+            record {
+              latches = has _ (l .latches) (joint (listOf literals.Latches) ws) (s .0);
+              operands = has _ (l .operands) (joint (listOf literals.Operands) ws) (s .1 .0);
+              safety = has _ (l .safety) (joint (listOf literals.Safety) ws) (s .1 .1 .0);
+              constraints = has _ (l .constraints) (joint (listOf literals.Constraints) ws) (s .1 .1 .1 .0);
+              inputOrigins = has _ (l .end) (origins leaf.Inputs m ws) (s .1 .1 .1 .1 .0);
+              latchOrigins = has _ b (origins leaf.Latches m ws) (s .1 .1 .1 .1 .1 .0);
+            };
       }
 
   last-place : b + length (origins leaf.Latches m ws) ≡ table
@@ -42,15 +45,15 @@ module _ (l : Lists) (mc : AagCounts) (t : Totals) (buffer : Bytes) (pairs work 
   regions =
       let s = k .standing in
       let n = amounts ws in
-      let f = k .fitting in
-      let mi : mc .inputs ≡ length (m .inputs) = ap (λ (c : AagCounts). c .inputs) (f .model) in
-      let ml : mc .latches ≡ length (m .latches) = ap (λ (c : AagCounts). c .latches) (f .model) in
+      let f = k .fitting .totals in
+      let mi : mc .inputs ≡ length (m .inputs) = ap (λ (c : AagCounts). c .inputs) (k .fitting .model) in
+      let ml : mc .latches ≡ length (m .latches) = ap (λ (c : AagCounts). c .latches) (k .fitting .model) in
       record {
         latches = s .0 .0;
-        operands = omega (arith, s .0 .0, s .1 .0 .0, long literals.Latches ws, n .latches);
-        safety = omega (arith, s .1 .0 .0, s .1 .1 .0 .0, long literals.Operands ws, n .operands);
-        constraints = omega (arith, s .1 .1 .0 .0, s .1 .1 .1 .0 .0, long literals.Safety ws);
-        inputOrigins = omega (arith, s .1 .1 .1 .0 .0, s .1 .1 .1 .1 .0 .0, long literals.Constraints ws);
+        operands = omega (arith, s .0 .0, s .1 .0 .0, literals-long literals.Latches ws, n .latches);
+        safety = omega (arith, s .1 .0 .0, s .1 .1 .0 .0, literals-long literals.Operands ws, n .operands);
+        constraints = omega (arith, s .1 .1 .0 .0, s .1 .1 .1 .0 .0, literals-long literals.Safety ws);
+        inputOrigins = omega (arith, s .1 .1 .1 .0 .0, s .1 .1 .1 .1 .0 .0, literals-long literals.Constraints ws);
         latchOrigins = omega (arith, s .1 .1 .1 .1 .0 .0, s .1 .1 .1 .1 .1 .0 .0, input-origins-length m ws);
         table = omega (arith, last-place, latch-origins-length m ws);
         vars = omega (arith, mi, ml);

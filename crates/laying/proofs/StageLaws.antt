@@ -18,9 +18,18 @@ use Rattle.gathering.specs.declared.Totals.{Totals}
 use Rattle.gathering.specs.Gathered.{wordTotal, Readable, CanGather, Gathers, literalCount}
 use Rattle.gathering.proofs.BlockLaws.{blocks-same}
 use Rattle.laying.specs.declared.Laid.{Laid}
-use Rattle.laying.specs.Laid.{Has, Known, knownLength, Stage, Staged, Goes, literalsAt, nothing, withLatches, withOperands, withSafety}
+use Rattle.laying.specs.Laid.{Has, Known, knownLength, Stage, Staged, Goes, literalsAt, nothing, withLatches, withOperands, withSafety, Fitting}
 use Rattle.laying.proofs.HasLaws.{has-put, standing-more, known-more}
 use Rattle.laying.proofs.RoomLaws.{amounts}
+
+-- how long a joint list of literals is
+pub literals-long : (kind : Literals) (ws : List Sections) → length (joint (listOf kind) ws) ≡ totalOf (literalCount kind) ws
+literals-long kind ws = joint-length (listOf kind) ws
+
+-- other words of the same length do as well
+pub fitting-same : (mc : AagCounts) (t : Totals) (buffer : Bytes) (pairs work work' : List ℕ) (m : Sections) (ws : List Sections) → length work' ≡ length work
+    → Fitting mc t buffer pairs work m ws → Fitting mc t buffer pairs work' m ws
+fitting-same mc t buffer pairs work work' m ws e f = record { readable = f .readable; model = f .model; few = f .few; totals = f .totals; room = omega (arith, f .room) }
 
 -- ---- any list behind others
 
@@ -38,16 +47,7 @@ module _ (mc : AagCounts) (t : Totals) (buffer : Bytes) (pairs work : List ℕ) 
     pub stage-more : (to' : ℕ) → to' ≡ to + length ys → Stage mc t buffer pairs work' (ks ++ record { place = to; words = ys } ∷ []) to' m ws
     stage-more to' f =
         record {
-          fitting =
-              record {
-                readable = k .fitting .readable;
-                model = k .fitting .model;
-                few = k .fitting .few;
-                inputs = k .fitting .inputs;
-                latches = k .fitting .latches;
-                gates = k .fitting .gates;
-                room = omega (arith, k .fitting .room, same);
-              };
+          fitting = fitting-same mc t buffer pairs work work' m ws same (k .fitting);
           blocks = blocks-same (textsIn buffer pairs) ws work work' (kept (wordTotal ws) stage-behind) (k .blocks);
           standing =
               standing-more work work' to (wordTotal ws) ks (record { place = to; words = ys }) (kept to (omega arith)) same (k .to-is) refl
@@ -64,8 +64,8 @@ module _ (mc : AagCounts) (t : Totals) (buffer : Bytes) (pairs work : List ℕ) 
     stage-gathered work' r g =
         let made = g ws (k .fitting .readable) in
         let words : gathered (jointLiterals (listOf kind) (t .inputs) (t .latches)) ws ≡ joint (listOf kind) ws =
-        ap₂ (λ (i q : ℕ). gathered (jointLiterals (listOf kind) i q) ws) (k .fitting .inputs) (k .fitting .latches) in
-        let long : length (joint (listOf kind) ws) ≡ totalOf (literalCount kind) ws = joint-length (listOf kind) ws in
+        ap₂ (λ (i q : ℕ). gathered (jointLiterals (listOf kind) i q) ws) (k .fitting .totals .inputs) (k .fitting .totals .latches) in
+        let long : length (joint (listOf kind) ws) ≡ totalOf (literalCount kind) ws = literals-long kind ws in
         stage-more work' (joint (listOf kind) ws) (made .0 ∙ ap (put work to) words) (omega (arith, long, room)) r (made .1 ∙ ap (λ (j : ℕ). to + j) (sym long))
 
 -- the totals are those of the witnesses
@@ -74,7 +74,7 @@ pub stage-totals : (mc : AagCounts) (t : Totals) (buffer : Bytes) (pairs work : 
 stage-totals mc t buffer pairs work ks to s vs r =
     let f = s .holds .fitting in
     let e : s .ws ≡ vs = got-same (s .ws) vs (sym (f .readable .reads) ∙ r .reads) in
-    (f .inputs ∙ ap (totalOf inputCount) e, f .latches ∙ ap (totalOf latchCount) e)
+    (f .totals .inputs ∙ ap (totalOf inputCount) e, f .totals .latches ∙ ap (totalOf latchCount) e)
 
 -- ---- a list in its turn
 
@@ -101,22 +101,19 @@ module _ (ks : Sections → List Sections → List Known) (kind : Literals) (roo
 
 -- ---- the lists have room
 
-pub long : (kind : Literals) (ws : List Sections) → length (joint (listOf kind) ws) ≡ totalOf (literalCount kind) ws
-long kind ws = joint-length (listOf kind) ws
-
 pub roomy-latches : Roomy nothing literals.Latches
 roomy-latches = record { most = λ m ws. let n = amounts ws in omega (arith, n .latches, n .all) }
 
 pub roomy-operands : (a : ℕ) → Roomy (withLatches a) literals.Operands
-roomy-operands a = record { most = λ m ws. let n = amounts ws in omega (arith, n .latches, n .operands, n .all, long literals.Latches ws) }
+roomy-operands a = record { most = λ m ws. let n = amounts ws in omega (arith, n .latches, n .operands, n .all, literals-long literals.Latches ws) }
 
 pub roomy-safety : (a b : ℕ) → Roomy (withOperands a b) literals.Safety
-roomy-safety a b = record { most = λ m ws. let n = amounts ws in omega (arith, n .latches, n .operands, n .safety, n .all, long literals.Latches ws, long literals.Operands ws) }
+roomy-safety a b = record { most = λ m ws. let n = amounts ws in omega (arith, n .latches, n .operands, n .safety, n .all, literals-long literals.Latches ws, literals-long literals.Operands ws) }
 
 pub roomy-constraints : (a b c : ℕ) → Roomy (withSafety a b c) literals.Constraints
 roomy-constraints a b c =
     record {
       most = λ m ws.
           let n = amounts ws in
-          omega (arith, n .latches, n .operands, n .safety, n .constraints, n .all, long literals.Latches ws, long literals.Operands ws, long literals.Safety ws);
+          omega (arith, n .latches, n .operands, n .safety, n .constraints, n .all, literals-long literals.Latches ws, literals-long literals.Operands ws, literals-long literals.Safety ws);
     }

@@ -51,25 +51,39 @@ pub record Regions (m : Sections) (ws : List Sections) (at : Places) : Type 0 wh
   pub limits : at .limits ≡ at .bads + at .bits
   pub end : at .end ≡ at .limits + at .bits
 
+-- something holds of some model and witnesses
+pub record Some (Stage : Sections → List Sections → Type 0) : Type 0 where
+  pub m : Sections
+  pub ws : List Sections
+  pub holds : Stage m ws
+
+-- the totals are those of the witnesses
+pub record Summed (t : Totals) (ws : List Sections) : Type 0 where
+  pub inputs : t .inputs ≡ totalOf inputCount ws
+  pub latches : t .latches ≡ totalOf latchCount ws
+  pub gates : t .gates ≡ totalOf gateCount ws
+
 -- the witnesses and the model of a call that 1 to 11 and 15 let pass, and the totals counted of them
 pub record Fitting (mc : AagCounts) (t : Totals) (buffer : Bytes) (pairs work : List ℕ) (m : Sections) (ws : List Sections) : Type 0 where
   pub readable : Readable buffer pairs ws
   pub model : mc ≡ countsIn m
   pub few : variables m ≤ 2000000
-  pub inputs : t .inputs ≡ totalOf inputCount ws
-  pub latches : t .latches ≡ totalOf latchCount ws
-  pub gates : t .gates ≡ totalOf gateCount ws
+  pub totals : Summed t ws
   pub room : 16 * sizes (m ∷ ws) + 1024 ≤ length work
 
--- what is read of the witnesses stands in its place
-pub record Listed (buffer : Bytes) (pairs : List ℕ) (m : Sections) (ws : List Sections) (at : Places) (work : List ℕ) : Type 0 where
-  pub blocks : Blocks (textsIn buffer pairs) ws work
+-- the joint lists and the origins stand in their places
+pub record Stands (at : Places) (work : List ℕ) (m : Sections) (ws : List Sections) : Type 0 where
   pub latches : Has work (at .latches) (joint (listOf literals.Latches) ws)
   pub operands : Has work (at .operands) (joint (listOf literals.Operands) ws)
   pub safety : Has work (at .safety) (joint (listOf literals.Safety) ws)
   pub constraints : Has work (at .constraints) (joint (listOf literals.Constraints) ws)
   pub inputOrigins : Has work (at .«input_origins») (origins leaf.Inputs m ws)
   pub latchOrigins : Has work (at .«latch_origins») (origins leaf.Latches m ws)
+
+-- and in front of them what is read of the witnesses
+pub record Listed (buffer : Bytes) (pairs : List ℕ) (m : Sections) (ws : List Sections) (at : Places) (work : List ℕ) : Type 0 where
+  pub blocks : Blocks (textsIn buffer pairs) ws work
+  pub stands : Stands at work m ws
 
 -- all of it, within the words
 pub record Ready (buffer : Bytes) (pairs : List ℕ) (m : Sections) (ws : List Sections) (at : Places) (work : List ℕ) : Type 0 where
@@ -82,10 +96,8 @@ abbrev pub LaidOut : Bytes → List ℕ → Sections → List Sections → List 
 LaidOut buffer pairs m ws work (laid.At at) = (all (mapsRight m) ws ≡ true) × Ready buffer pairs m ws at work
 LaidOut buffer pairs m ws work laid.Wrong = all (mapsRight m) ws ≡ false
 
-pub record CanLay (mc : AagCounts) (t : Totals) (buffer : Bytes) (pairs work : List ℕ) : Type 0 where
-  pub m : Sections
-  pub ws : List Sections
-  pub fitting : Fitting mc t buffer pairs work m ws
+abbrev pub CanLay : AagCounts → Totals → Bytes → List ℕ → List ℕ → Type 0
+CanLay mc t buffer pairs work = Some (Fitting mc t buffer pairs work)
 
 abbrev pub Lays : AagCounts → Totals → Bytes → List ℕ → List ℕ → List ℕ → Laid → Type 0
 Lays mc t buffer pairs work work' r = (m : Sections) (ws : List Sections) → Fitting mc t buffer pairs work m ws → LaidOut buffer pairs m ws work' r
@@ -115,10 +127,8 @@ pub record Stage (mc : AagCounts) (t : Totals) (buffer : Bytes) (pairs work : Li
   pub to-is : to ≡ wordTotal ws + knownLength ks
 
 -- the same, for some model and witnesses
-pub record Staged (mc : AagCounts) (t : Totals) (buffer : Bytes) (pairs work : List ℕ) (ks : Sections → List Sections → List Known) (to : ℕ) : Type 0 where
-  pub m : Sections
-  pub ws : List Sections
-  pub holds : Stage mc t buffer pairs work (ks m ws) to m ws
+abbrev pub Staged : AagCounts → Totals → Bytes → List ℕ → List ℕ → (Sections → List Sections → List Known) → ℕ → Type 0
+Staged mc t buffer pairs work ks to = Some (λ m ws. Stage mc t buffer pairs work (ks m ws) to m ws)
 
 -- what follows from a stage
 pub record Goes (mc : AagCounts) (t : Totals) (buffer : Bytes) (pairs work : List ℕ) (ks : Sections → List Sections → List Known) (to : ℕ) (work' : List ℕ) (r : Laid) : Type 0 where

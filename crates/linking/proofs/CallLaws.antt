@@ -1,10 +1,8 @@
 -- For callers: composed variables are small, composed latches are numbered in turn, their definitions are the words of the composition's latches, and only the variables that a latch names count.
 use Prim.Native.Nat.{ℕ, suc, _+_, _-_, _*_, _%_, _≤_, _<_}
-use mathlib.Core.Bool.{true}
 use mathlib.Core.List.{List, [], _∷_, map}
 use mathlib.Core.Path.{_≡_, refl, sym, ap}
 use native.Mathlib.Omega.{arith}
-use borrow.Author.Tests.{eq-eqb}
 use lib.ListN.{length, getD, drop}
 use lib.Seq.{getD-take}
 use Rattle.lists.specs.Firsts.{appearing}
@@ -16,9 +14,10 @@ use Rattle.lists.proofs.WordLaws.{pairs-count}
 use Rattle.aiger.specs.Gates.{variable, gateFrom}
 use Rattle.witness.specs.Sections.{NamedLatch}
 use Rattle.witness_words.specs.Loaded.{latchWords}
-use Rattle.composition.specs.Numbering.{Key, shared, alone, sameKey, Entry, sameEntry, numbered}
+use Rattle.composition.specs.Numbering.{Entry, sameEntry, numbered}
 use Rattle.composition.specs.Sharing.{translate}
 use Rattle.composition.specs.Composing.{Defined, definedFrom, composedLatches}
+use Rattle.composition.proofs.PlacedLaws.{entry-self}
 use Rattle.linking.specs.Linked.{gatesAt, Sharable, sharedIn}
 use Rattle.linking.specs.Latches.{InTurn, metIn, definitionsFrom}
 use Rattle.linking.proofs.FirstLaws.{numbers-in-turn, numbers-met}
@@ -33,17 +32,13 @@ variables-small operands count vars known table leaves work s =
     shared-low 1073741824 (suc leaves) (gatesAt operands count work) (record { vars = part work vars (vars + known); gates = [] })
     (omega (arith, pairs-count (gateFrom 0) ws, size, s .few)) (s .small)
 
-key-self : (k : Key) → sameKey k k ≡ true
-key-self (shared l) = eq-eqb l l refl
-key-self (alone w k) = rw (eq-eqb w w refl, eq-eqb k k refl)
-
 -- the composed variables of entries come in turn, and there are as many as entries appear
 module _ (first : ℕ) (es : List Entry) where
   pub entries-in-turn : InTurn first 0 (map (numbered first (appearing sameEntry [] es)) es)
-  entries-in-turn = numbers-in-turn sameEntry (λ e. key-self (e .key)) first es []
+  entries-in-turn = numbers-in-turn sameEntry entry-self first es []
 
   pub entries-met : metIn first 0 (map (numbered first (appearing sameEntry [] es)) es) ≡ length (appearing sameEntry [] es)
-  entries-met = numbers-met sameEntry (λ e. key-self (e .key)) first es []
+  entries-met = numbers-met sameEntry entry-self first es []
 
 -- the definitions that are stored are the latches of the composition
 pub composed-words : (ds : List Defined) (x : ℕ) (es : List Entry) → definitionsFrom x (length es) ds ≡ wordsOf latchWords (composedLatches x es ds)

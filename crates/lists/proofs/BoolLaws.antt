@@ -1,10 +1,12 @@
 -- What a test made of tests says of them, and which way a test goes. (`Bool·not-not`, `and-true`, .. are in `mathlib.Core.Bool`.)
-use Prim.Native.Nat.{ℕ, _≤_, _<_}
+use Prim.Native.Nat.{ℕ, _+_, _≤_, _<_}
 use mathlib.Core.Path.{_≡_, refl, sym, _∙_}
 use mathlib.Core.Bool.{Bool, true, false, not, _&&_, _||_, xor, cond, true≢false}
 use mathlib.Core.Logic.{_⊎_, inl, inr}
 use native.Mathlib.Decide.{decLt}
 use native.Mathlib.Omega.{arith}
+use lib.Dec.{eqb}
+use borrow.Author.Tests.{eqb-true, eqb-false, eq-eqb, ne-eqb}
 
 pub true-false : {X : Type 0} {b : Bool} → b ≡ true → b ≡ false → X
 true-false h k = absurd (true≢false (sym h ∙ k))
@@ -68,20 +70,38 @@ xor-turns true false = refl
 xor-turns false true = refl
 xor-turns false false = refl
 
-pub and-false : (b : Bool) → (b && false) ≡ false
-and-false true = refl
-and-false false = refl
-
-pub and-true : (b : Bool) → (b && true) ≡ b
-and-true true = refl
-and-true false = refl
-
-pub or-false : (b : Bool) → (b || false) ≡ b
-or-false true = refl
-or-false false = refl
-
 pub and-swap : (a b c d : Bool) → ((a && b) && (c && d)) ≡ ((a && c) && (b && d))
 and-swap false b c d = refl
 and-swap true false true d = refl
 and-swap true false false d = refl
 and-swap true true c d = refl
+
+pub or-swap : (a b c d : Bool) → ((a || b) || (c || d)) ≡ ((a || c) || (b || d))
+or-swap true b c d = refl
+or-swap false true true d = refl
+or-swap false true false d = refl
+or-swap false false c d = refl
+
+pub and-swap-left : (a b c : Bool) → (a && (b && c)) ≡ (b && (a && c))
+and-swap-left true b c = refl
+and-swap-left false true c = refl
+and-swap-left false false c = refl
+
+pub or-swap-left : (a b c : Bool) → (a || (b || c)) ≡ (b || (a || c))
+or-swap-left true true c = refl
+or-swap-left true false c = refl
+or-swap-left false b c = refl
+
+-- tests of numbers that say the same
+pub eqb-same : (a b c d : ℕ) → (a ≡ b → c ≡ d) → (c ≡ d → a ≡ b) → eqb a b ≡ eqb c d
+eqb-same a b c d f g = go (eqb a b) refl
+  where
+    go : (t : Bool) → eqb a b ≡ t → eqb a b ≡ eqb c d
+    go true e = e ∙ sym (eq-eqb c d (f (eqb-true a b e)))
+    go false e = e ∙ sym (ne-eqb c d (λ q. eqb-false a b e (g q)))
+
+pub eqb-swap : (a b : ℕ) → eqb a b ≡ eqb b a
+eqb-swap a b = eqb-same a b b a (λ q. sym q) (λ q. sym q)
+
+pub eqb-shift : (n a b : ℕ) → eqb (n + a) (n + b) ≡ eqb a b
+eqb-shift n a b = eqb-same (n + a) (n + b) a b (λ q. omega arith) (λ q. omega arith)

@@ -3,7 +3,7 @@ use Prim.Native.Nat.{ℕ}
 use mathlib.Core.Path.{_≡_, refl}
 use mathlib.Core.Bool.{true, false}
 use mathlib.Core.List.{[], _∷_}
-use Rattle.lists.specs.Answer.{Answer, got, refused, unless, accepted, andThen}
+use Rattle.lists.specs.Answer.{Answer, got, refused, unless, andThen}
 use Rattle.lists.specs.Parts.{part, put, front}
 use Rattle.lists.specs.Words.{pairsOf, triplesOf}
 use Rattle.lists.specs.Bits.{bits, packed}
@@ -21,12 +21,6 @@ second-applies = refl
 
 pub none-applies : tried (unless 3 true (got 7)) (unless 4 true (got 8)) ≡ got 8
 none-applies = refl
-
-pub accepted-got : accepted {A = ℕ} (got 8) ≡ true
-accepted-got = refl
-
-pub accepted-refused : accepted {A = ℕ} (refused 3) ≡ false
-accepted-refused = refl
 
 -- places count from 0, and the end is not included
 pub middle : part {A = ℕ} (5 ∷ 6 ∷ 7 ∷ 8 ∷ []) 1 3 ≡ 6 ∷ 7 ∷ []

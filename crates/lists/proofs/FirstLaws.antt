@@ -1,7 +1,7 @@
--- Laws of `place`, `joined`, `appearing` and `joinedAll`: first appearances. (Ascending sets: SetLaws.)
+-- Laws of `place`, `joined` and `appearing`: first appearances.
 use Prim.Native.Nat.{ℕ, suc, _+_, _≤_, _<_}
 use mathlib.Core.Bool.{Bool, true, false, cond, _||_, or-true}
-use mathlib.Core.List.{List, [], _∷_, _++_, map, append-assoc, append-nil}
+use mathlib.Core.List.{List, [], _∷_, _++_, append-assoc, append-nil}
 use mathlib.Core.Logic.{_⊎_, inl, inr, ⊎-elim}
 use mathlib.Core.Path.{_≡_, refl, sym, ap, _∙_}
 use native.Mathlib.Omega.{arith}
@@ -9,10 +9,10 @@ use lib.Dec.{eqb}
 use lib.ListN.{length, getD, length-append, List·getD-append}
 use lib.Seq.{getD-append-seam}
 use borrow.Author.Tests.{eq-eqb, ne-eqb}
-use Rattle.lists.specs.Firsts.{place, joined, appearing, joinedAll}
-use Rattle.lists.specs.Tests.{all, any, Each}
+use Rattle.lists.specs.Firsts.{place, joined, appearing}
+use Rattle.lists.specs.Tests.{any, Each}
 use Rattle.lists.proofs.BoolLaws.{true-false, below-or, or-left, or-right}
-use Rattle.lists.proofs.TestLaws.{all-append, any-append, each-append}
+use Rattle.lists.proofs.TestLaws.{any-append, each-append}
 
 -- ---- a list that begins with another
 
@@ -41,24 +41,6 @@ module _ {A : Type 0} where
   -- it is at least as long
   pub begins-length : (xs ys : List A) → Begins xs ys → length xs ≤ length ys
   begins-length xs ys b = omega (arith, ap length (b .is), length-append xs (b .rest))
-
--- ---- lists one after the other
-
-module _ {A B : Type 0} (f : A → List B) where
-  -- a test of all lists joined is a test of each list
-  pub any-joined : (p : B → Bool) (xs : List A) → any p (joinedAll (map f xs)) ≡ any (λ x. any p (f x)) xs
-  any-joined p [] = refl
-  any-joined p (x ∷ xs) = any-append p (f x) (joinedAll (map f xs)) ∙ rw (any-joined p xs)
-
-  -- likewise where all are asked for
-  pub all-joined : (p : B → Bool) (xs : List A) → all p (joinedAll (map f xs)) ≡ all (λ x. all p (f x)) xs
-  all-joined p [] = refl
-  all-joined p (x ∷ xs) = all-append p (f x) (joinedAll (map f xs)) ∙ rw (all-joined p xs)
-
-  -- what holds of each element of each list holds of each of them joined
-  pub each-joined-all : (P : B → Type 0) (xs : List A) → Each (λ x. Each P (f x)) xs → Each P (joinedAll (map f xs))
-  each-joined-all P [] e = tt
-  each-joined-all P (x ∷ xs) e = each-append P (f x) (joinedAll (map f xs)) (e .0) (each-joined-all P xs (e .1))
 
 -- ---- places
 

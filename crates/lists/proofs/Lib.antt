@@ -14,6 +14,7 @@ pub mod OnceLaws
 pub mod DistinctLaws
 pub mod CountLaws
 pub mod RisingLaws
+pub mod AnyLaws
 pub mod FirstLaws
 pub mod SetLaws
 pub mod Examples

@@ -4,23 +4,17 @@ use mathlib.Core.Path.{_≡_, refl, sym, _∙_}
 use mathlib.Core.Bool.{Bool, true, false, not, _&&_, _||_, or-assoc, or-true, or-false, and-false}
 use mathlib.Core.List.{List, [], _∷_, _++_}
 use native.Mathlib.Omega.{arith}
-use borrow.Author.Tests.{eqb-true, eqb-false, eq-eqb, ne-eqb}
+use borrow.Author.Tests.{eqb-true, eqb-false, ne-eqb}
 use lib.Dec.{eqb}
 use lib.ListN.{length, getD, take, drop, set, take-append-drop}
 use lib.Seq.{take-all, getD-set-same, getD-set-other}
 use Rattle.lists.specs.Parts.{zeros}
 use Rattle.lists.specs.Sets.{member, distinct, holds, withBit}
-use Rattle.lists.proofs.BoolLaws.{true-false}
+pub use Rattle.lists.specs.Sets.{Marked}
+use Rattle.lists.proofs.BoolLaws.{true-false, eqb-swap}
 use Rattle.lists.proofs.BitSetLaws.{with-same, with-other, holds-zeros}
 use Rattle.lists.proofs.RestLaws.{take-next}
 use Rattle.lists.proofs.ZeroLaws.{zeros-at}
-
-eqb-swap : (a b : ℕ) → eqb a b ≡ eqb b a
-eqb-swap a b = go (eqb a b) refl
-  where
-    go : (t : Bool) → eqb a b ≡ t → eqb a b ≡ eqb b a
-    go true e = e ∙ sym (eq-eqb b a (sym (eqb-true a b e)))
-    go false e = e ∙ sym (ne-eqb b a (λ q. eqb-false a b e (sym q)))
 
 pub member-append : (x : ℕ) (xs ys : List ℕ) → member x (xs ++ ys) ≡ (member x xs || member x ys)
 member-append x [] ys = refl
@@ -60,10 +54,6 @@ module _ (l : List ℕ) (i d : ℕ) (h : i < length l) where
 
 pub once-end : (l : List ℕ) (i : ℕ) → distinct (take i l) ≡ true → length l ≤ i → distinct l ≡ true
 once-end l i k h = rw (take-all i l h) at k
-
--- f says which numbers below size stand in xs
-pub record Marked (size : ℕ) (f : ℕ → Bool) (xs : List ℕ) : Type 0 where
-  pub says : (k : ℕ) → k < size → f k ≡ member k xs
 
 pub marked-none : (size : ℕ) (f : ℕ → Bool) → ((k : ℕ) → f k ≡ false) → Marked size f []
 marked-none size f h = record { says = λ k b. h k }

@@ -1,13 +1,13 @@
 -- Laws of `all`, `any`, `Each` and `every`, and the loops that compute them.
 use Prim.Native.Nat.{ℕ, zero, suc, _+_, _-_, _≤_, _<_}
 use mathlib.Core.Path.{_≡_, refl, sym, _∙_}
-use mathlib.Core.Bool.{Bool, true, false, not, _&&_, _||_, and-assoc, or-assoc}
+use mathlib.Core.Bool.{Bool, true, false, not, _&&_, _||_, and-assoc, or-assoc, and-true}
 use mathlib.Core.List.{List, [], _∷_, _++_, map}
 use native.Mathlib.Omega.{arith}
 use lib.ListN.{length, getD, take, drop, drop-of-length-le}
 use Rattle.lists.specs.Parts.{part}
 use Rattle.lists.specs.Tests.{all, any, allFrom, Each, every}
-use Rattle.lists.proofs.BoolLaws.{true-false, and-left, and-right, and-true, and-swap}
+use Rattle.lists.proofs.BoolLaws.{true-false, and-left, and-right, and-swap, or-swap}
 use Rattle.lists.proofs.RestLaws.{rest-more}
 
 module _ {A : Type 0} (p : A → Bool) where
@@ -22,6 +22,10 @@ module _ {A : Type 0} (p : A → Bool) where
   pub all-and : (q : A → Bool) (l : List A) → all (λ x. p x && q x) l ≡ (all p l && all q l)
   all-and q [] = refl
   all-and q (x ∷ l) = rw (all-and q l) (and-swap (p x) (q x) (all p l) (all q l))
+
+  pub any-or : (q : A → Bool) (l : List A) → any (λ x. p x || q x) l ≡ (any p l || any q l)
+  any-or q [] = refl
+  any-or q (x ∷ l) = rw (any-or q l) (or-swap (p x) (q x) (any p l) (any q l))
 
   pub all-at : (l : List A) (i : ℕ) (d : A) → all p l ≡ true → i < length l → p (getD l i d) ≡ true
   all-at [] i d h k = absurd (omega arith)
@@ -77,6 +81,16 @@ module _ {A : Type 0} (p q : A → Bool) (same : (x : A) → p x ≡ q x) where
   pub any-cong : (l : List A) → any p l ≡ any q l
   any-cong [] = refl
   any-cong (x ∷ l) = rw (same x, any-cong l)
+
+-- tests that agree on each element
+module _ {A : Type 0} (p q : A → Bool) where
+  pub all-each : (l : List A) → Each (λ x. p x ≡ q x) l → all p l ≡ all q l
+  all-each [] e = refl
+  all-each (x ∷ l) e = rw (e .0, all-each l (e .1))
+
+  pub any-each : (l : List A) → Each (λ x. p x ≡ q x) l → any p l ≡ any q l
+  any-each [] e = refl
+  any-each (x ∷ l) e = rw (e .0, any-each l (e .1))
 
 module _ {A B : Type 0} (f : A → B) where
   pub all-map : (p : B → Bool) (l : List A) → all p (map f l) ≡ all (λ x. p (f x)) l

@@ -1,17 +1,20 @@
 -- Laws of `pairsOf`, `triplesOf` and `wordsOf`, and the loops over flat words.
 use Prim.Native.Nat.{ℕ, zero, suc, _+_, _*_, _/_, _%_, _≤_, _<_}
 use mathlib.Core.Path.{_≡_, refl, sym, ap, _∙_}
+use mathlib.Core.Bool.{Bool}
 use mathlib.Core.List.{List, [], _∷_, _++_, append-assoc, append-nil}
 use native.Mathlib.Nat.{mul-suc}
 use native.Mathlib.Omega.{arith}
 use lib.ListN.{length, getD, take, drop, set, length-append, length-drop, drop-of-length-le}
 use lib.Seq.{take-nil, drop-nil}
 use Rattle.lists.specs.Parts.{put}
+use Rattle.lists.specs.Tests.{all, any, Each}
 use Rattle.lists.specs.Words.{pairsOf, triplesOf, wordsOf}
 use Rattle.lists.proofs.PartLaws.{put-two}
 use Rattle.lists.proofs.RestLaws.{rest-head, rest-more, take-next}
+use Rattle.lists.proofs.TestLaws.{all-append, any-append, each-append}
 
-twice : (k : ℕ) → 2 * suc k ≡ suc (suc (2 * k))
+pub twice : (k : ℕ) → 2 * suc k ≡ suc (suc (2 * k))
 twice k = omega arith
 
 thrice : (k : ℕ) → 3 * suc k ≡ suc (suc (suc (3 * k)))
@@ -136,6 +139,19 @@ module _ {A B : Type 0} (words : B → List A) where
   pub words-length : (n : ℕ) → ((x : B) → length (words x) ≡ n) → (l : List B) → length (wordsOf words l) ≡ n * length l
   words-length n e [] = omega arith
   words-length n e (x ∷ l) = length-append (words x) (wordsOf words l) ∙ rw (e x, words-length n e l, mul-suc n (length l)) (omega arith)
+
+  -- a test of all words is a test of each element's
+  pub any-words : (p : A → Bool) (l : List B) → any p (wordsOf words l) ≡ any (λ x. any p (words x)) l
+  any-words p [] = refl
+  any-words p (x ∷ l) = any-append p (words x) (wordsOf words l) ∙ rw (any-words p l)
+
+  pub all-words : (p : A → Bool) (l : List B) → all p (wordsOf words l) ≡ all (λ x. all p (words x)) l
+  all-words p [] = refl
+  all-words p (x ∷ l) = all-append p (words x) (wordsOf words l) ∙ rw (all-words p l)
+
+  pub each-words : (P : A → Type 0) (l : List B) → Each (λ x. Each P (words x)) l → Each P (wordsOf words l)
+  each-words P [] e = tt
+  each-words P (x ∷ l) e = each-append P (words x) (wordsOf words l) (e .0) (each-words P l (e .1))
 
   module _ (l : List B) (i : ℕ) (d : B) (h : i < length l) where
     pub words-more : wordsOf words (drop i l) ≡ words (getD l i d) ++ wordsOf words (drop (i + 1) l)

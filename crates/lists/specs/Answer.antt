@@ -12,11 +12,6 @@ module _ {A : Type 0} where
   unless n true r = r
   unless n false r = refused n
 
-  -- "accepted": there is an answer
-  abbrev pub accepted : Answer A → Bool
-  accepted (got a) = true
-  accepted (refused n) = false
-
 module _ {A B : Type 0} where
   -- goes on with the answer, if there is one; an earlier reason stays
   abbrev pub andThen : Answer A → (A → Answer B) → Answer B

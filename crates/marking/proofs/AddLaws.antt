@@ -9,9 +9,8 @@ use borrow.Rule.Slice.PartMut.{putMid}
 use lib.ListN.{length, getD, take, drop, length-map}
 use lib.Seq.{getD-drop, take-all}
 use Rattle.lists.specs.Bits.{bit}
-use Rattle.lists.specs.Firsts.{setOf}
 use Rattle.lists.specs.Parts.{part, put}
-use Rattle.lists.specs.Sets.{holds, withBit}
+use Rattle.lists.specs.Sets.{holds, withBit, setOf}
 use Rattle.lists.proofs.BitSetLaws.{with-length}
 use Rattle.lists.proofs.KeptLaws.{at-kept}
 use Rattle.lists.proofs.MapLaws.{map-at}
@@ -19,7 +18,7 @@ use Rattle.lists.proofs.PartLaws.{part-length, part-at, put-take, put-drop-end,
 use Rattle.lists.proofs.RestLaws.{take-next}
 use Rattle.aiger.specs.Gates.{variable}
 use Rattle.printing.specs.Elements.{elements}
-use Rattle.printing.proofs.SetLaws.{elements-zeros, elements-more, elements-new, elements-old}
+use Rattle.printing.proofs.ElementLaws.{elements-zeros, elements-more, elements-new, elements-old}
 use Rattle.composition.specs.Sharing.{translate}
 use Rattle.linking.specs.Linked.{literalAt}
 use Rattle.marking.specs.Marked.{literalsAt, CanAddOne, AddedOne, CanAdd, Added}

@@ -1,7 +1,7 @@
 -- Worked examples of the definitions.
 use mathlib.Core.List.{[], _∷_}
 use mathlib.Core.Path.{_≡_, refl}
-use Rattle.lists.specs.Firsts.{setOf}
+use Rattle.lists.specs.Sets.{setOf}
 use Rattle.marking.specs.Marked.{turn, numberOne, numbersIn, literalsAt}
 
 -- Origin words of four leaves: the model's variable 4, a private one, 4 again, 3. The model has two variables in front of those two, and the table begins at place 4.

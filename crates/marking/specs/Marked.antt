@@ -6,9 +6,8 @@ use mathlib.Core.Path.{_≡_}
 use lib.Dec.{eqb}
 use lib.ListN.{length, getD, take, drop, set}
 use Rattle.lists.specs.Bits.{odd, bit}
-use Rattle.lists.specs.Firsts.{setOf}
 use Rattle.lists.specs.Parts.{part, put, zeros}
-use Rattle.lists.specs.Sets.{holds, withBit}
+use Rattle.lists.specs.Sets.{holds, withBit, setOf}
 use Rattle.aiger.specs.Gates.{variable}
 use Rattle.printing.specs.Elements.{elements}
 use Rattle.composition.specs.Sharing.{translate}

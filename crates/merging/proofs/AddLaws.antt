@@ -5,9 +5,9 @@ use mathlib.Core.Path.{_≡_, sym, ap, _∙_}
 use native.Mathlib.Omega.{arith}
 use lib.ListN.{length, getD, take}
 use lib.Seq.{getD-drop}
-use Rattle.lists.specs.Firsts.{setOf}
 use Rattle.lists.specs.Parts.{part, zeros}
 use Rattle.lists.specs.Tests.{Each}
+use Rattle.lists.specs.Sets.{setOf}
 use Rattle.lists.proofs.KeptLaws.{take-kept, part-kept}
 use Rattle.lists.proofs.TestLaws.{each-so}
 use Rattle.aiger.specs.Gates.{variable}
@@ -27,13 +27,14 @@ use Rattle.joint.proofs.VarsLaws.{joint-safety, joint-constraints}
 use Rattle.marking.specs.Marked.{Addable, CanAdd, Added, literalsAt}
 use Rattle.marking.proofs.CallLaws.{each-word}
 use Rattle.laying.specs.declared.Places.{Places}
-use Rattle.laying.specs.Laid.{Has, variableTotal, Regions}
+use Rattle.laying.specs.Laid.{Has, variableTotal, Regions, Some}
 use Rattle.laying.proofs.HasLaws.{has-same}
+use Rattle.laying.proofs.StageLaws.{literals-long}
 use Rattle.merging.specs.declared.Merging.the-variants as merging
-use Rattle.merging.specs.Merged.{Base, Some, Goes, Result, Counted, SmallOperands, definitionWords}
+use Rattle.merging.specs.Merged.{Base, Goes, Result, Counted, SmallOperands, definitionWords}
 use Rattle.merging.specs.Stages.{Clean, Shared, LatchesDefined}
 use Rattle.merging.proofs.WordLaws.{clean-part, clean-behind}
-use Rattle.merging.proofs.BaseLaws.{literals-long, base-kept}
+use Rattle.merging.proofs.BaseLaws.{base-kept}
 use Rattle.merging.proofs.DefineLaws.{definitions-long}
 use Rattle.merging.proofs.JointLaws.{Joint, var-low, literals-in, literals-translated, shared-kept}
 

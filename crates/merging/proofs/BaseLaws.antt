@@ -5,22 +5,17 @@ use mathlib.Core.Path.{_≡_, _∙_}
 use native.Mathlib.Omega.{arith}
 use lib.ListN.{length, take}
 use Rattle.witness.specs.Sections.{Sections}
-use Rattle.joint.specs.declared.Literals.{Literals}
 use Rattle.joint.specs.declared.Literals.the-variants as literals
 use Rattle.joint.specs.declared.Leaves.the-variants as leaf
-use Rattle.joint.specs.Joint.{totalOf, joint, listOf, origins}
-use Rattle.joint.proofs.AmountLaws.{joint-length, joint-operands-length, joint-latches-length, input-origins-length, latch-origins-length}
-use Rattle.gathering.specs.Gathered.{literalCount}
+use Rattle.joint.specs.Joint.{joint, listOf, origins}
+use Rattle.joint.proofs.AmountLaws.{joint-operands-length, joint-latches-length, input-origins-length, latch-origins-length}
 use Rattle.laying.specs.declared.Places.{Places}
-use Rattle.laying.specs.Laid.{Has, Regions}
+use Rattle.laying.specs.Laid.{Has, Regions, Stands, Some}
 use Rattle.laying.proofs.HasLaws.{has-same}
+use Rattle.laying.proofs.StageLaws.{literals-long}
 use Rattle.merging.specs.declared.Merging.{Merging}
 use Rattle.merging.specs.declared.Merging.the-variants as merging
-use Rattle.merging.specs.Merged.{Base, Stands, Outcome, Some, Goes}
-
--- how long a joint list of literals is
-pub literals-long : (kind : Literals) (ws : List Sections) → length (joint (listOf kind) ws) ≡ totalOf (literalCount kind) ws
-literals-long kind ws = joint-length (listOf kind) ws
+use Rattle.merging.specs.Merged.{Base, Outcome, Goes}
 
 -- the lists stay where nothing in front of the table is written
 module _ (at : Places) (work work' : List ℕ) (m : Sections) (ws : List Sections) (r : Regions m ws at) (e : take (at .table) work' ≡ take (at .table) work) (n : length work' ≡ length work) where

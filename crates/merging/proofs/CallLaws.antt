@@ -15,31 +15,19 @@ use Rattle.witness_text.specs.declared.AagCounts.{AagCounts}
 use Rattle.witness.specs.Sections.{Sections, variables}
 use Rattle.composition.specs.Composing.{mapsRight, isSome, safety, composed, compose}
 use Rattle.composition.specs.Calling.{textsIn}
+use Rattle.composition.specs.Ranges.{InRange}
 use Rattle.composition.proofs.DemandLaws.{all-read}
 use Rattle.composition.proofs.NameLaws.{Granted}
-use Rattle.composition.proofs.RangeLaws.{InRange}
 use Rattle.joint.specs.Joint.{totalOf}
 use Rattle.gathering.specs.declared.Totals.{Totals}
 use Rattle.gathering.specs.Gathered.{wordTotal, Readable}
 use Rattle.gathering.proofs.BlockLaws.{blocks-same}
 use Rattle.gathering.proofs.TurnLaws.{total-small}
 use Rattle.laying.specs.declared.Places.{Places}
-use Rattle.laying.specs.Laid.{variableTotal, Fitting, Regions, Listed, Ready}
+use Rattle.laying.specs.Laid.{variableTotal, Fitting, Regions, Ready, Some}
 use Rattle.merging.specs.declared.Merged.{Merged}
-use Rattle.merging.specs.Merged.{Stands, Mergeable, Some, Done, Refuses}
+use Rattle.merging.specs.Merged.{Mergeable, Done, Refuses}
 use Rattle.merging.proofs.BaseLaws.{stands-kept}
-
--- the lists that are merged are among those laid out
-listed-stands : (buffer : Bytes) (pairs : List ℕ) (m : Sections) (ws : List Sections) (at : Places) (work : List ℕ) → Listed buffer pairs m ws at work → Stands at work m ws
-listed-stands buffer pairs m ws at work l =
-    record {
-      latches = l .latches;
-      operands = l .operands;
-      safety = l .safety;
-      constraints = l .constraints;
-      inputOrigins = l .inputOrigins;
-      latchOrigins = l .latchOrigins;
-    }
 
 -- ---- before
 
@@ -70,12 +58,12 @@ module _ (mc : AagCounts) (t : Totals) (buffer : Bytes) (pairs work₀ work : Li
   ready-merge =
       record {
         model = record { inputs = ap (λ (n : AagCounts). n .inputs) (f .model); latches = ap (λ (n : AagCounts). n .latches) (f .model) };
-        totals = record { inputs = f .inputs; latches = f .latches; gates = f .gates };
+        totals = f .totals;
         base =
             record {
               plan = record { regions = r .regions; range = readable-range buffer pairs ws (f .readable); few = readable-few buffer pairs ws (f .readable) };
               fits = r .fits;
-              stands = listed-stands buffer pairs m ws at work (r .listed);
+              stands = r .listed .stands;
             };
       }
 
@@ -93,19 +81,13 @@ words-ahead m ws at r = omega (arith, r .latches, r .operands, r .safety, r .con
 pub ready-kept : (buffer : Bytes) (pairs : List ℕ) (m : Sections) (ws : List Sections) (at : Places) (work work' : List ℕ) → take (at .table) work' ≡ take (at .table) work
     → length work' ≡ length work → Ready buffer pairs m ws at work → Ready buffer pairs m ws at work'
 ready-kept buffer pairs m ws at work work' e n r =
-    let s : Stands at work' m ws = stands-kept at work work' m ws (r .regions) e n (listed-stands buffer pairs m ws at work (r .listed)) in
     record {
       regions = r .regions;
       listed =
           record {
             blocks =
                 blocks-same (textsIn buffer pairs) ws work work' (take-kept work' work (at .table) e (wordTotal ws) (words-ahead m ws at (r .regions))) (r .listed .blocks);
-            latches = s .latches;
-            operands = s .operands;
-            safety = s .safety;
-            constraints = s .constraints;
-            inputOrigins = s .inputOrigins;
-            latchOrigins = s .latchOrigins;
+            stands = stands-kept at work work' m ws (r .regions) e n (r .listed .stands);
           };
       fits = omega (arith, r .fits, n);
     }

@@ -13,9 +13,9 @@ use Rattle.witness.specs.Sections.{Sections}
 use Rattle.marking.proofs.CallLaws.{cleared-part}
 use Rattle.gathering.specs.declared.Totals.{Totals}
 use Rattle.laying.specs.declared.Places.{Places}
-use Rattle.laying.specs.Laid.{Regions}
+use Rattle.laying.specs.Laid.{Regions, Some}
 use Rattle.merging.specs.declared.Merging.{Merging}
-use Rattle.merging.specs.Merged.{Mergeable, Some, Goes}
+use Rattle.merging.specs.Merged.{Mergeable, Goes}
 use Rattle.merging.specs.Stages.{Clean, Clearable, Clears, Cleared}
 use Rattle.merging.proofs.WordLaws.{clean-before}
 use Rattle.merging.proofs.BaseLaws.{base-kept, Step, step-some, step-goes}

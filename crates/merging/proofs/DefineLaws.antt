@@ -22,10 +22,9 @@ use Rattle.composition.specs.Composing.{Defined, definedFrom, allDefined, agree
 use Rattle.composition.proofs.KeepLaws.{composed-latches-length}
 use Rattle.joint.specs.declared.Literals.the-variants as literals
 use Rattle.joint.specs.Joint.{totalOf, latchCount, joint, listOf}
-use Rattle.joint.specs.Numbers.{definedPairs}
+use Rattle.joint.specs.Numbers.{jointShared}
 use Rattle.joint.proofs.AmountLaws.{joint-latches-length, latch-entries-length}
-use Rattle.joint.proofs.GateLaws.{jointShared}
-use Rattle.joint.proofs.VarsLaws.{joint-defined}
+use Rattle.joint.proofs.VarsLaws.{joint-defined, definedPairs}
 use Rattle.linking.specs.declared.DefinedLatches.{DefinedLatches}
 use Rattle.linking.specs.declared.DefinedLatches.the-variants as answer
 use Rattle.linking.specs.Latches.{InTurn, metIn, latchFrom, definedAt, definitionsFrom, latchVariables, Definable, Defines}
@@ -33,11 +32,11 @@ use Rattle.linking.proofs.CallLaws.{entries-in-turn, entries-met, composed-word
 use Rattle.marking.proofs.CallLaws.{each-word}
 use Rattle.gathering.specs.declared.Totals.{Totals}
 use Rattle.laying.specs.declared.Places.{Places}
-use Rattle.laying.specs.Laid.{Has, variableTotal, Regions}
+use Rattle.laying.specs.Laid.{Has, variableTotal, Regions, Some}
 use Rattle.laying.proofs.HasLaws.{has-put}
 use Rattle.merging.specs.declared.Merging.{Merging}
 use Rattle.merging.specs.declared.Merging.the-variants as merging
-use Rattle.merging.specs.Merged.{Plan, Some, Goes, latchNumbers, definitionWords}
+use Rattle.merging.specs.Merged.{Plan, Goes, latchNumbers, definitionWords}
 use Rattle.merging.specs.Stages.{GatesShared, LatchesDefined}
 use Rattle.merging.proofs.WordLaws.{part-has, has-at, clean-behind}
 use Rattle.merging.proofs.BaseLaws.{base-kept, Step, step-some, step-goes}

@@ -18,20 +18,20 @@ use Rattle.composition.specs.Keys.{keyOf}
 use Rattle.composition.specs.Composing.{composedGates, gatesFit}
 use Rattle.joint.specs.declared.Literals.the-variants as literals
 use Rattle.joint.specs.Joint.{totalOf, inputCount, gateCount, joint, listOf}
-use Rattle.joint.specs.Numbers.{leafVars}
+use Rattle.joint.specs.Numbers.{leafVars, jointShared}
 use Rattle.joint.proofs.AmountLaws.{joint-operands-length, leaf-vars-length, leaf-vars-most, leaf-count-most}
-use Rattle.joint.proofs.GateLaws.{jointShared, joint-gates, joint-earlier, joint-vars-length}
+use Rattle.joint.proofs.GateLaws.{joint-gates, joint-earlier, joint-vars-length}
 use Rattle.sharing.specs.Table.{Held}
 use Rattle.linking.specs.declared.SharedGates.{SharedGates}
 use Rattle.linking.specs.declared.SharedGates.the-variants as answer
 use Rattle.linking.specs.Linked.{tableEnd, Sharable, sharedIn, Linked, Shares}
 use Rattle.gathering.specs.declared.Totals.{Totals}
 use Rattle.laying.specs.declared.Places.{Places}
-use Rattle.laying.specs.Laid.{Regions}
+use Rattle.laying.specs.Laid.{Regions, Some}
 use Rattle.laying.proofs.HasLaws.{has-same}
 use Rattle.merging.specs.declared.Merging.{Merging}
 use Rattle.merging.specs.declared.Merging.the-variants as merging
-use Rattle.merging.specs.Merged.{Plan, Some, Goes, inputNumbers, latchNumbers}
+use Rattle.merging.specs.Merged.{Plan, Goes, inputNumbers, latchNumbers}
 use Rattle.merging.specs.Stages as stage
 use Rattle.merging.specs.Stages.{LeavesNumbered, GatesShared}
 use Rattle.merging.proofs.WordLaws.{has-part, part-has, has-at, clean-part, clean-behind}

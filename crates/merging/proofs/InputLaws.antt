@@ -16,9 +16,9 @@ use Rattle.marking.specs.Marked.{CanNumber, Numbered, numbersIn}
 use Rattle.marking.proofs.CallLaws.{numbers-stored, numbered-before, numbered-between, numbered-behind}
 use Rattle.gathering.specs.declared.Totals.{Totals}
 use Rattle.laying.specs.declared.Places.{Places}
-use Rattle.laying.specs.Laid.{Regions}
+use Rattle.laying.specs.Laid.{Regions, Some}
 use Rattle.merging.specs.declared.Merging.{Merging}
-use Rattle.merging.specs.Merged.{Plan, Some, Goes, inputNumbers}
+use Rattle.merging.specs.Merged.{Plan, Goes, inputNumbers}
 use Rattle.merging.specs.Stages.{Cleared, InputsNumbered}
 use Rattle.merging.proofs.WordLaws.{has-part, clean-part, clean-kept, clean-behind}
 use Rattle.merging.proofs.BaseLaws.{base-kept, Step, step-some, step-goes}

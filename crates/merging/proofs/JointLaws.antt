@@ -15,8 +15,9 @@ use Rattle.composition.specs.Sharing.{translate}
 use Rattle.composition.specs.Composing.{composedGates}
 use Rattle.joint.specs.declared.Literals.{Literals}
 use Rattle.joint.specs.Joint.{totalOf, inputCount, gateCount, joint, listOf}
+use Rattle.joint.specs.Numbers.{jointShared}
 use Rattle.joint.proofs.AmountLaws.{leaf-count-most, joint-literals-most}
-use Rattle.joint.proofs.GateLaws.{jointShared, joint-vars-most, joint-vars-length, composed-gates-most}
+use Rattle.joint.proofs.GateLaws.{joint-vars-most, joint-vars-length, composed-gates-most}
 use Rattle.marking.specs.Marked.{literalsAt}
 use Rattle.marking.proofs.CallLaws.{literals-part}
 use Rattle.laying.specs.declared.Places.{Places}

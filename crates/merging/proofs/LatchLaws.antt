@@ -18,9 +18,9 @@ use Rattle.marking.specs.Marked.{CanNumber, Numbered, numbersIn}
 use Rattle.marking.proofs.CallLaws.{numbers-stored, numbered-before, numbered-between, numbered-behind}
 use Rattle.gathering.specs.declared.Totals.{Totals}
 use Rattle.laying.specs.declared.Places.{Places}
-use Rattle.laying.specs.Laid.{Has, Regions}
+use Rattle.laying.specs.Laid.{Has, Regions, Some}
 use Rattle.merging.specs.declared.Merging.{Merging}
-use Rattle.merging.specs.Merged.{Plan, Some, Goes, inputNumbers, latchNumbers}
+use Rattle.merging.specs.Merged.{Plan, Goes, inputNumbers, latchNumbers}
 use Rattle.merging.specs.Stages.{InputsNumbered, LeavesNumbered}
 use Rattle.merging.proofs.WordLaws.{has-part, has-join, clean-part, clean-behind}
 use Rattle.merging.proofs.BaseLaws.{base-kept, Step, step-some, step-goes}

@@ -16,40 +16,25 @@ use Rattle.composition.specs.Numbering.{inputEntries, latchEntries, inputFirsts
 use Rattle.composition.specs.Sharing.{Operands}
 use Rattle.composition.specs.Keys.{keyOf}
 use Rattle.composition.specs.Composing.{composedGates, whole, gatesFit, allDefined, agree, composedLatches, safety, literalsOf}
-use Rattle.composition.proofs.RangeLaws.{InRange}
+use Rattle.composition.specs.Ranges.{InRange}
 use Rattle.joint.specs.declared.Literals.the-variants as literals
 use Rattle.joint.specs.declared.Leaves.the-variants as leaf
-use Rattle.joint.specs.Joint.{totalOf, inputCount, latchCount, gateCount, joint, listOf, origins}
+use Rattle.joint.specs.Joint.{totalOf, inputCount, gateCount}
 use Rattle.sharing.specs.Table.{Held}
 use Rattle.gathering.specs.declared.Totals.{Totals}
 use Rattle.laying.specs.declared.Places.{Places}
-use Rattle.laying.specs.Laid.{Has, variableTotal, Regions}
+use Rattle.laying.specs.Laid.{Has, variableTotal, Regions, Summed, Stands}
 use Rattle.merging.specs.declared.Merged.{Merged}
 use Rattle.merging.specs.declared.Merging.{Merging}
 use Rattle.merging.specs.declared.Merging.the-variants as merging
 
 -- ---- before
 
--- the totals are those of the witnesses
-pub record Summed (t : Totals) (ws : List Sections) : Type 0 where
-  pub inputs : t .inputs ≡ totalOf inputCount ws
-  pub latches : t .latches ≡ totalOf latchCount ws
-  pub gates : t .gates ≡ totalOf gateCount ws
-
 -- the regions of witnesses in range that are not too many
 pub record Plan (at : Places) (m : Sections) (ws : List Sections) : Type 0 where
   pub regions : Regions m ws at
   pub range : Each InRange ws
   pub few : variableTotal ws ≤ 128000000
-
--- the lists that are merged stand in their places
-pub record Stands (at : Places) (work : List ℕ) (m : Sections) (ws : List Sections) : Type 0 where
-  pub latches : Has work (at .latches) (joint (listOf literals.Latches) ws)
-  pub operands : Has work (at .operands) (joint (listOf literals.Operands) ws)
-  pub safety : Has work (at .safety) (joint (listOf literals.Safety) ws)
-  pub constraints : Has work (at .constraints) (joint (listOf literals.Constraints) ws)
-  pub inputOrigins : Has work (at .«input_origins») (origins leaf.Inputs m ws)
-  pub latchOrigins : Has work (at .«latch_origins») (origins leaf.Latches m ws)
 
 -- all that stays as it is
 pub record Base (at : Places) (work : List ℕ) (m : Sections) (ws : List Sections) : Type 0 where
@@ -124,12 +109,6 @@ Outcome m ws at work work' (merging.Done c) = Done m ws at work work' c
 Outcome m ws at work work' (merging.Refused k) = Refuses m ws k
 
 -- ---- contracts
-
--- something holds of some model and witnesses
-pub record Some (Stage : Sections → List Sections → Type 0) : Type 0 where
-  pub m : Sections
-  pub ws : List Sections
-  pub holds : Stage m ws
 
 -- what comes out, whatever model and witnesses it holds of
 pub record Goes (Stage : Sections → List Sections → Type 0) (at : Places) (work work' : List ℕ) (r : Merging) : Type 0 where

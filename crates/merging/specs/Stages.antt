@@ -11,13 +11,12 @@ use Rattle.composition.specs.Numbering.{inputFirsts, leafCount}
 use Rattle.composition.specs.Keys.{keyOf}
 use Rattle.composition.specs.Composing.{composedGates, whole, gatesFit, allDefined, agree}
 use Rattle.joint.specs.Joint.{totalOf, inputCount, gateCount}
-use Rattle.joint.specs.Numbers.{leafVars}
-use Rattle.joint.proofs.GateLaws.{jointShared}
+use Rattle.joint.specs.Numbers.{leafVars, jointShared}
 use Rattle.sharing.specs.Table.{Held}
 use Rattle.gathering.specs.declared.Totals.{Totals}
 use Rattle.laying.specs.declared.Places.{Places}
-use Rattle.laying.specs.Laid.{Has}
-use Rattle.merging.specs.Merged.{Summed, Base, Model, inputNumbers, latchNumbers, definitionWords}
+use Rattle.laying.specs.Laid.{Has, Summed}
+use Rattle.merging.specs.Merged.{Base, Model, inputNumbers, latchNumbers, definitionWords}
 
 -- the words from one place up to another are 0
 pub record Clean (work : List ℕ) (a e : ℕ) : Type 0 where

@@ -1,5 +1,6 @@
 // The witnesses, laid out in the work words, are merged into the composition: its variables, gates, latches, bads and constraints.
-ghost use Rattle.merging.specs.Merged.{Mergeable, Some, Goes};
+ghost use Rattle.laying.specs.Laid.{Some};
+ghost use Rattle.merging.specs.Merged.{Mergeable, Goes};
 ghost use Rattle.merging.specs.Stages.{Clearable, Clears, Cleared, InputsNumbered, LeavesNumbered, GatesShared, LatchesDefined};
 use gathering::Totals;
 use laying::Places;

@@ -21,26 +21,27 @@ use Rattle.text.specs.declared.Number.the-variants.{Value, Unreadable}
 use Rattle.text.specs.declared.Reader.the-variants.{Witness}
 use Rattle.text.specs.Numbers.{numberOf}
 use Rattle.aiger.specs.Gates.{variable}
-use Rattle.witness.specs.Sections.{Sections, latchNames}
+use Rattle.witness.specs.Sections.{Sections}
 use Rattle.witness.specs.Reading.{countsIn}
 use Rattle.witness_words.specs.Loaded.{wordCount}
 use Rattle.composition.specs.declared.ModelLeaves.{ModelLeaves}
 use Rattle.composition.specs.declared.Mapping.{Mapping}
 use Rattle.composition.specs.declared.Mapping.the-variants.{Private, Onto, Wrong}
 use Rattle.composition.specs.Mapping.{equals, isOf, ontoNumber, mapsByName, mappingOf}
-use Rattle.composition.specs.Numbering.{Entry, shared, numbered, entryOf, entriesFrom, inputEntries, latchEntries}
+use Rattle.composition.specs.Numbering.{Entry, shared, numbered, entryOf, entriesFrom}
 use Rattle.composition.proofs.PlacedLaws.{entries-length}
 use Rattle.joint.specs.declared.Before.{Before}
 use Rattle.joint.specs.declared.Leaves.{Leaves}
 use Rattle.joint.specs.declared.Leaves.the-variants as leaf
 use Rattle.joint.proofs.AmountLaws.{origin-words}
-use Rattle.joint.specs.Joint.{totalOf, beyond, gatheredFrom, namesOf, modelOf, originWord, originsFrom, jointOrigins}
+use Rattle.joint.specs.Joint.{totalOf, beyond, gatheredFrom, namesOf, modelOf, originWord, originsFrom, jointOrigins, unnamedOf, entriesOf}
+use Rattle.joint.proofs.OriginLaws.{entriesIn, entries-none, entries-split}
 use Rattle.gathering.specs.Gathered.{Block, Blocks, leafCountOf}
 use Rattle.gathering.specs.Counts.{leafCounts}
 use Rattle.gathering.proofs.CountLaws.{counts-leaves}
 use Rattle.gathering.proofs.BlockLaws.{words-for}
 use Rattle.naming.specs.declared.Places.{Places}
-use Rattle.naming.specs.Names.{unnamedOf, entriesOf, nameFor}
+use Rattle.naming.specs.Names.{nameFor}
 use Rattle.naming.specs.Symbols.{Row, rowAt, rowsFrom, namesAt, rowsIn, passed}
 use Rattle.naming.proofs.FirstLaws.{rowOf}
 use Rattle.naming.proofs.RowLaws.{leaf-said}
@@ -127,15 +128,6 @@ rows-map row f d k (e ∷ es) h =
 
 -- ---- one witness, and all
 
--- the entries of a witness
-abbrev entriesIn : Leaves → Sections → ℕ → Sections → List Entry
-entriesIn kind m w s = entriesFrom (modelOf kind m) (unnamedOf kind) w (mapsByName s) 0 (namesOf kind s)
-
--- those of a witness and of those after it
-entries-split : (kind : Leaves) (m : Sections) (w : ℕ) (s : Sections) (ss : List Sections) → entriesOf kind m w (s ∷ ss) ≡ entriesIn kind m w s ++ entriesOf kind m (suc w) ss
-entries-split leaf.Inputs m w s ss = refl
-entries-split leaf.Latches m w s ss = refl
-
 -- the rows of all witnesses; the first has the index w
 abbrev pub rowsAll : Leaves → List ℕ → ℕ → List Bytes → List Sections → Places → List Row
 rowsAll kind work w [] ss p = []
@@ -175,19 +167,11 @@ module _ (kind : Leaves) (m : Sections) (first : ℕ) (firsts : List Entry) (wor
           (ap₂ (nameFor kind w) (os j (omega (arith, origin-words (modelOf kind m) w (mapsByName s) 0 (namesOf kind s)))) (leaf-said t s work (p .names) block kind j k .own)
           ∙ sym (entry-at kind (modelOf kind m) w (mapsByName s) 0 (namesOf kind s) j d k))
 
-  -- no witness has no entry
-  entries-none : (w : ℕ) → entriesOf kind m w [] ≡ []
-  entries-none w = none kind
-    where
-      none : (x : Leaves) → entriesOf x m w [] ≡ []
-      none leaf.Inputs = refl
-      none leaf.Latches = refl
-
   -- those of all witnesses
   pub rows-are : (w : ℕ) (b : Before) (ts : List Bytes) (ss : List Sections) (p : Places) → Blocks ts ss (drop (p .names) work)
       → StandsAt work (p .origins) (gatheredFrom (jointOrigins kind m) w b ss) → StandsAt work (p .numbers) (map (numbered first firsts) (entriesOf kind m w ss))
       → rowsAll kind work w ts ss p ≡ map (rowOf first firsts) (entriesOf kind m w ss)
-  rows-are w b [] [] p bs os ns = sym (ap (map (rowOf first firsts)) (entries-none w))
+  rows-are w b [] [] p bs os ns = sym (ap (map (rowOf first firsts)) (entries-none kind m w))
   rows-are w b [] (s ∷ ss) p bs os ns = absurd bs
   rows-are w b (t ∷ ts) [] p bs os ns = absurd bs
   rows-are w b (t ∷ ts) (s ∷ ss) p bs os ns =
@@ -209,20 +193,10 @@ module _ (kind : Leaves) (m : Sections) (first : ℕ) (firsts : List Entry) (wor
 
 -- ---- how many there are
 
--- an origin word for each input, or latch, of all witnesses
-pub origins-total : (kind : Leaves) (m : Sections) (w : ℕ) (b : Before) (ss : List Sections) → length (gatheredFrom (jointOrigins kind m) w b ss) ≡ totalOf (leafCountOf kind) ss
-origins-total kind m w b [] = refl
-origins-total kind m w b (s ∷ ss) =
-    length-append (jointOrigins kind m w b s) (gatheredFrom (jointOrigins kind m) (suc w) (beyond b s) ss)
-    ∙ ap₂ (λ (x y : ℕ). x + y) (origin-words (modelOf kind m) w (mapsByName s) 0 (namesOf kind s)) (origins-total kind m (suc w) (beyond b s) ss)
-
--- and an entry
+-- an entry for each input, or latch, of all witnesses
 pub entries-total : (kind : Leaves) (m : Sections) (w : ℕ) (ss : List Sections) → length (entriesOf kind m w ss) ≡ totalOf (leafCountOf kind) ss
-entries-total leaf.Inputs m w [] = refl
-entries-total leaf.Latches m w [] = refl
-entries-total leaf.Inputs m w (s ∷ ss) =
-    length-append (entriesIn leaf.Inputs m w s) (inputEntries m (suc w) ss)
-    ∙ ap₂ (λ (x y : ℕ). x + y) (entries-length (modelOf leaf.Inputs m) (unnamedOf leaf.Inputs) w (mapsByName s) 0 (s .inputs)) (entries-total leaf.Inputs m (suc w) ss)
-entries-total leaf.Latches m w (s ∷ ss) =
-    length-append (entriesIn leaf.Latches m w s) (latchEntries m (suc w) ss)
-    ∙ ap₂ (λ (x y : ℕ). x + y) (entries-length (modelOf leaf.Latches m) (unnamedOf leaf.Latches) w (mapsByName s) 0 (latchNames s)) (entries-total leaf.Latches m (suc w) ss)
+entries-total kind m w [] = rw (entries-none kind m w) refl
+entries-total kind m w (s ∷ ss) =
+    ap length (entries-split kind m w s ss)
+    ∙ length-append (entriesIn kind m w s) (entriesOf kind m (suc w) ss)
+    ∙ ap₂ (λ (x y : ℕ). x + y) (entries-length (modelOf kind m) (unnamedOf kind) w (mapsByName s) 0 (namesOf kind s)) (entries-total kind m (suc w) ss)

@@ -16,7 +16,8 @@ use Rattle.composition.specs.Numbering.{private-input, private-latch, orElse, p
 use Rattle.composition.specs.Printing.{symbolLine}
 use Rattle.joint.specs.declared.Leaves.{Leaves}
 use Rattle.joint.specs.declared.Leaves.the-variants as leaf
-use Rattle.naming.specs.Names.{kindOf, unnamedOf, ownName, nameFor}
+use Rattle.joint.specs.Joint.{unnamedOf}
+use Rattle.naming.specs.Names.{kindOf, ownName, nameFor}
 
 -- other bytes that are the same
 pub prints-as : (o : Bytes) (at : ℕ) (b c o′ : Bytes) (r : ℕ) → b ≡ c → Prints o at b o′ r → Prints o at c o′ r

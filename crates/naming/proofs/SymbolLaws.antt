@@ -18,7 +18,7 @@ use Rattle.witness_words.specs.Loaded.{wordCount}
 use Rattle.composition.specs.Calling.{textsIn}
 use Rattle.joint.specs.declared.Leaves.{Leaves}
 use Rattle.joint.specs.declared.Leaves.the-variants as leaf
-use Rattle.joint.specs.Joint.{totalOf, nothingBefore, origins}
+use Rattle.joint.specs.Joint.{totalOf, nothingBefore, origins, entriesOf}
 use Rattle.gathering.specs.Counts.{countsAt, leafCounts, CountsListed}
 use Rattle.gathering.specs.Gathered.{Block, Blocks, wordTotal, Readable, leafCountOf}
 use Rattle.gathering.proofs.TextLaws.{FirstRead, Left, left-more, left-none, texts-left}
@@ -27,7 +27,7 @@ use Rattle.gathering.proofs.BlockLaws.{words-for}
 use Rattle.gathering.proofs.TurnLaws.{total-below, total-small}
 use Rattle.naming.specs.declared.Places.{Places}
 use Rattle.naming.specs.declared.Printed.{Printed}
-use Rattle.naming.specs.Names.{kindOf, entriesOf, firstsOf}
+use Rattle.naming.specs.Names.{kindOf, firstsOf}
 use Rattle.naming.specs.Symbols.{Row, newLines, nextAfter, rowsIn, PrintsNew, CanPrintWitness, passed, CanPass, SymbolWords, CanPrintSymbols, PrintsSymbols}
 use Rattle.naming.proofs.PieceLaws.{prints-as}
 use Rattle.naming.proofs.WalkLaws.{newText, rows-append, rows-length, after-least, after-most}

@@ -1,4 +1,4 @@
--- The names of the composition's inputs and latches (item 8 of 01), by the words that say where they come from.
+-- For the contracts of the composer's inner functions: the names of the composition's inputs and latches (item 8 of 01), by the words that say where they come from.
 use Prim.Native.Nat.{ℕ, _+_}
 use mathlib.Core.Bool.{cond}
 use mathlib.Core.List.{List, []}
@@ -8,26 +8,17 @@ use Rattle.lists.specs.Bits.{odd}
 use Rattle.lists.specs.Firsts.{appearing}
 use Rattle.lists.specs.Parts.{Bytes, part}
 use Rattle.witness.specs.Sections.{Sections}
-use Rattle.composition.specs.Numbering.{Entry, sameEntry, private-input, private-latch, privateName, sharedName, inputEntries, latchEntries}
+use Rattle.composition.specs.Numbering.{Entry, sameEntry, privateName, sharedName}
 use Rattle.joint.specs.declared.Leaves.{Leaves}
 use Rattle.joint.specs.declared.Leaves.the-variants as leaf
+use Rattle.joint.specs.Joint.{unnamedOf, entriesOf}
 
 -- the byte that begins the symbol lines: `i` or `l`
 abbrev pub kindOf : Leaves → ℕ
 kindOf leaf.Inputs = 105
 kindOf leaf.Latches = 108
 
--- what stands for a private name where there is none
-abbrev pub unnamedOf : Leaves → Bytes
-unnamedOf leaf.Inputs = private-input
-unnamedOf leaf.Latches = private-latch
-
--- those of all witnesses in their order; the first witness has the index w
-abbrev pub entriesOf : Leaves → Sections → ℕ → List Sections → List Entry
-entriesOf leaf.Inputs m w ws = inputEntries m w ws
-entriesOf leaf.Latches m w ws = latchEntries m w ws
-
--- those of the composition, in the order of first appearance
+-- the inputs, or latches, of the composition, in the order of first appearance
 abbrev pub firstsOf : Leaves → Sections → List Sections → List Entry
 firstsOf leaf m ws = appearing sameEntry [] (entriesOf leaf m 0 ws)
 

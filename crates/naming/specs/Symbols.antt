@@ -16,12 +16,12 @@ use Rattle.composition.specs.Printing.{symbolLine, symbolLines}
 use Rattle.composition.specs.Calling.{textsIn}
 use Rattle.joint.specs.declared.Leaves.{Leaves}
 use Rattle.joint.specs.declared.Leaves.the-variants as leaf
-use Rattle.joint.specs.Joint.{totalOf, origins}
+use Rattle.joint.specs.Joint.{totalOf, origins, entriesOf}
 use Rattle.gathering.specs.Counts.{leafCounts, namesBefore}
 use Rattle.gathering.specs.Gathered.{wordsFor, Blocks, wordTotal, Readable, leafCountOf}
 use Rattle.naming.specs.declared.Places.{Places}
 use Rattle.naming.specs.declared.Printed.{Printed}
-use Rattle.naming.specs.Names.{kindOf, entriesOf, firstsOf, ownName, nameFor}
+use Rattle.naming.specs.Names.{kindOf, firstsOf, ownName, nameFor}
 
 -- a composed variable and the name that one with this variable has
 pub record Row : Type 0 where

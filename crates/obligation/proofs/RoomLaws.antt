@@ -8,53 +8,21 @@ use native.Mathlib.Omega.{arith}
 use lib.ListN.{length, take, drop, length-append, length-map, length-take}
 use Rattle.lists.specs.Bits.{bits}
 use Rattle.lists.specs.Words.{pairsOf, triplesOf, wordsOf, lengths}
-use Rattle.lists.proofs.WordLaws.{words-append, triples-count}
+use Rattle.lists.proofs.WordLaws.{triples-count}
 use Rattle.aiger.specs.declared.Gate.{Gate}
 use Rattle.aiger.specs.Gates.{gateFrom}
 use Rattle.cnf.specs.declared.Table.{Table}
-use Rattle.cnf.specs.Clauses.{Clause, clausesIn, literalsOf}
-use Rattle.cnf.specs.Simplified.{cnfWord, withoutFalse, ascending, dropped, simplified}
+use Rattle.cnf.specs.Clauses.{clausesIn}
+use Rattle.cnf.specs.Simplified.{simplified}
 use Rattle.cnf.specs.Appending.{Appends, Holding}
 use Rattle.cnf.proofs.AppendLaws.{appends-start}
-use Rattle.cnf.proofs.AscendingLaws.{length-ascending}
-use Rattle.cnf.proofs.SignLaws.{length-without}
+use Rattle.cnf.proofs.SizeLaws.{total, total-append, total-more, kept-few}
 use Rattle.completeness.specs.Lists.{valued, sourceLists, predicateLiteral, gateLists}
 use Rattle.claims.specs.Claims.{claimList, stateClaims, outcomeClaims}
 use Rattle.obligation.specs.declared.Made.the-variants.{Clauses}
 use Rattle.obligation.specs.Appended.{Parts, Claimed, frontLists, claimLists, allLists, claimCount, Ready, Roomy, MakesAll, empty}
 use Rattle.obligation.proofs.PromiseLaws.{made-all}
 use Rattle.obligation.proofs.MakingLaws.{front-most, claims-many, claims-few}
-
--- all literals of some lists
-abbrev total : List (List ℕ) → ℕ
-total ls = length (wordsOf (λ l. l) ls)
-
-total-append : (ls ms : List (List ℕ)) → total (ls ++ ms) ≡ total ls + total ms
-total-append ls ms = rw (words-append (λ l. l) ls ms) (length-append (wordsOf (λ l. l) ls) (wordsOf (λ l. l) ms))
-
-total-more : (l : List ℕ) (ls : List (List ℕ)) → total (l ∷ ls) ≡ length l + total ls
-total-more l ls = length-append l (wordsOf (λ l. l) ls)
-
--- ---- a clause has no more literals than its list
-
-kept-one : (l : List ℕ) → length (literalsOf (simplified l)) ≤ length l
-unfolding simplified
-kept-one l = go (dropped l)
-  where
-    clause : Clause
-    clause = ascending (map cnfWord (withoutFalse l))
-
-    go : (b : Bool) → length (literalsOf (cond b [] (clause ∷ []))) ≤ length l
-    go true = omega arith
-    go false =
-        rw (length-append clause [])
-        (omega (arith, length-ascending (map cnfWord (withoutFalse l)), length-map (withoutFalse l) cnfWord, length-without l))
-
-kept-few : (ls : List (List ℕ)) → length (literalsOf (wordsOf simplified ls)) ≤ total ls
-kept-few [] = omega arith
-kept-few (l ∷ ls) =
-    rw (words-append (λ c. c) (simplified l) (wordsOf simplified ls), length-append (literalsOf (simplified l)) (literalsOf (wordsOf simplified ls)), total-more l ls)
-    (omega (arith, kept-one l, kept-few ls))
 
 -- ---- the literals of each part
 

@@ -4,8 +4,7 @@ use mathlib.Core.Bool.{Bool, true, cond}
 use mathlib.Core.List.{List, [], _∷_, _++_, map}
 use mathlib.Core.Path.{_≡_}
 use lib.ListN.{length, take}
-use lib.Dec.{ltb}
-use Rattle.lists.specs.Answer.{Answer, got, unless, andThen}
+use Rattle.lists.specs.Answer.{Answer, got, andThen}
 use Rattle.lists.specs.Bits.{bits}
 use Rattle.lists.specs.Tests.{Each}
 use Rattle.lists.specs.Words.{triplesOf, wordsOf}
@@ -13,10 +12,9 @@ use Rattle.aiger.specs.Gates.{gateFrom}
 use Rattle.model.specs.Checked.{checked}
 use Rattle.cnf.specs.declared.Table.{Table}
 use Rattle.cnf.specs.Clauses.{Clause, clausesIn}
-use Rattle.cnf.specs.Simplified.{simplified}
-use Rattle.completeness.specs.Lists.{sourceLists, predicateLiteral, gateLists, relationClauses, transducerClauses, terminalClauses, outcomesOf}
-use Rattle.completeness.specs.Limits.{bounded, isState, statesClaimed, outcomesClaimed}
-use Rattle.completeness.specs.Calls.{Asked, circuit, predicate, Lent, within}
+use Rattle.completeness.specs.Lists.{sourceLists, predicateLiteral, gateLists}
+use Rattle.completeness.specs.Limits.{bounded}
+use Rattle.completeness.specs.Calls.{Asked, circuit, Lent, within, relationOn, transducerOn, terminalOn}
 use Rattle.encoding.specs.Encoding.{Low, LowGate, Bounded}
 use Rattle.claims.specs.Claims.{LowKeys, stateClaims, outcomeClaims}
 use Rattle.obligation.specs.declared.Made.{Made}
@@ -110,24 +108,15 @@ pub record Asks (q : Asked) : Type 0 where
 abbrev pub ClaimsOf : Bool → Type 0
 ClaimsOf b = b ≡ true
 
--- what is left of each call's definition
+-- what is left of each call
 abbrev pub relationAfter : Asked → ℕ → List ℕ → Lent → Answer (List Clause)
-relationAfter q source targets lent =
-    unless 14 (isState (circuit q) source)
-    (unless 14 (statesClaimed (circuit q) targets)
-    (within lent (relationClauses (circuit q) (q .relevant) (predicate q) source targets)))
+relationAfter q source targets lent = relationOn (circuit q) q source targets lent
 
 abbrev pub transducerAfter : Asked → ℕ → List ℕ → List ℕ → Lent → Answer (List Clause)
-transducerAfter q source observed outcomes lent =
-    unless 14 (isState (circuit q) source)
-    (unless 14 (outcomesClaimed (circuit q) observed (outcomesOf outcomes))
-    (within lent (transducerClauses (circuit q) (q .relevant) (predicate q) source observed (outcomesOf outcomes))))
+transducerAfter q source observed outcomes lent = transducerOn (circuit q) q source observed outcomes lent
 
 abbrev pub terminalAfter : Asked → ℕ → List ℕ → Lent → Answer (List Clause)
-terminalAfter q bad states lent =
-    unless 14 (ltb bad (length (circuit q .outputs)))
-    (unless 14 (statesClaimed (circuit q) states)
-    (within lent (terminalClauses (circuit q) (q .relevant) (predicate q) bad states)))
+terminalAfter q bad states lent = terminalOn (circuit q) q bad states lent
 
 -- the answer and the two result buffers after it
 pub record Continues (answer : Answer (List Clause)) (pairs literals : List ℕ) (r : Made) (pairs' literals' : List ℕ) : Type 0 where

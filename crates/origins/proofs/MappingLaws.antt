@@ -1,6 +1,6 @@
 -- Laws of what one input or latch maps to.
 use Prim.Native.Nat.{ℕ, _+_, _-_, _*_, _/_, _%_, _≤_, _<_}
-use mathlib.Core.Bool.{Bool, true, false, not}
+use mathlib.Core.Bool.{Bool, true, false, not, and-false}
 use mathlib.Core.List.{[], _∷_}
 use mathlib.Core.Option.{some}
 use mathlib.Core.Path.{_≡_, refl, sym, ap, _∙_}
@@ -11,7 +11,6 @@ use lib.Dec.{eqb, ltb}
 use lib.ListN.{length, drop, take}
 use Rattle.lists.specs.Bits.{odd}
 use Rattle.lists.specs.Parts.{Bytes}
-use Rattle.lists.proofs.BoolLaws.{and-false}
 use Rattle.lists.proofs.PartLaws.{tail-lent}
 use Rattle.scan.specs.Same.{beginsWith}
 use Rattle.text.specs.declared.Number.{Number}

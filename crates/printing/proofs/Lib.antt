@@ -3,6 +3,6 @@ pub mod PrintsLaws
 pub mod DigitPairLaws
 pub mod WriteLaws
 pub mod LineLaws
-pub mod SetLaws
+pub mod ElementLaws
 pub mod WordLaws
 pub mod Examples

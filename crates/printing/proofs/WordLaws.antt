@@ -21,7 +21,7 @@ use Rattle.printing.specs.Lines.{literalLines}
 use Rattle.printing.specs.Prints.{Prints}
 use Rattle.printing.proofs.PrintsLaws.{Word, Printing, printing-none, printing-more, printing-as, printing-done}
 use Rattle.printing.proofs.LineLaws.{literal-first}
-use Rattle.printing.proofs.SetLaws.{passing-append}
+use Rattle.printing.proofs.ElementLaws.{passing-append}
 
 -- the bits of `rest` are those of the numbers from k on, `left` of them
 pub record BitsFrom (ws : List ℕ) (k left rest : ℕ) : Type 0 where

@@ -1,4 +1,4 @@
--- The numbers that are in a set of bits.
+-- For the contracts of inner functions: the numbers that are in a set of bits.
 use Prim.Native.Nat.{ℕ, zero, suc, _*_}
 use mathlib.Core.Bool.{Bool, cond}
 use mathlib.Core.List.{List, [], _∷_}

@@ -1,4 +1,4 @@
--- The lines of literals and gates that are printed for variables in a row.
+-- For the contracts of inner functions: the lines of literals and gates that are printed for variables in a row.
 use Prim.Native.Nat.{ℕ, zero, suc, _*_}
 use mathlib.Core.List.{List, [], _∷_, map}
 use Rattle.lists.specs.Parts.{Bytes}

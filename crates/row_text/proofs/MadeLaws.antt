@@ -13,8 +13,7 @@ use Rattle.model.specs.Circuit.{Circuit}
 use Rattle.cnf.specs.declared.Table.{Table}
 use Rattle.cnf.specs.Clauses.{Clause, literalsOf, pairsFrom, returned}
 use Rattle.cnf.proofs.ReturnedLaws.{returned-back}
-use Rattle.decimal.proofs.WritingLaws.{Wrote}
-use Rattle.completeness.specs.Calls.{Asked, Lent, asked, predicate, within, relationRow}
+use Rattle.completeness.specs.Calls.{Asked, Lent, asked, predicate, within, relationRow, relationOn}
 use Rattle.completeness.specs.Limits.{isState, statesClaimed}
 use Rattle.completeness.specs.Lists.{relationClauses}
 use Rattle.obligation.specs.declared.Made.{Made}
@@ -23,6 +22,7 @@ use Rattle.obligation.specs.Promise.{answerOf, sizes, Buffers, lentOf, Makes, M
 use Rattle.row_text.specs.RowProgram.{printed}
 use Rattle.row_text.specs.Steps.{numbersIn, InFront}
 use Rattle.row_text.specs.Made.{madeAnswer, Standing, Printable}
+use Rattle.decimal.specs.Writing.{Wrote}
 
 pub numbers-in : (cs : List Clause) → numbersIn cs ≡ 2 * length cs + length (literalsOf cs)
 numbers-in [] = refl
@@ -57,12 +57,10 @@ module _ (lent : Lent) (cs : List Clause) where
   unfolding relationRow
   row-fits q source targets =
       then-fits {A = Circuit} (asked q lent)
-      (λ c. unless 14 (isState c source) (unless 14 (statesClaimed c targets) (within lent (relationClauses c (q .relevant) (predicate q) source targets))))
+      (λ c. relationOn c q source targets lent)
       (λ c.
-      unless-fits 14 (isState c source) (unless 14 (statesClaimed c targets) (within lent (relationClauses c (q .relevant) (predicate q) source targets)))
-      (λ h.
-      unless-fits 14 (statesClaimed c targets) (within lent (relationClauses c (q .relevant) (predicate q) source targets))
-      (λ k. within-fits (relationClauses c (q .relevant) (predicate q) source targets))))
+      unless-fits 14 (isState c source) _ (λ h.
+      unless-fits 14 (statesClaimed c targets) _ (λ k. within-fits (relationClauses c (q .relevant) (predicate q) source targets))))
 
 -- ---- what was made
 

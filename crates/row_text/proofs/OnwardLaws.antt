@@ -9,9 +9,9 @@ use Rattle.lists.proofs.PartLaws.{put-none, put-put, put-length, put-take-end}
 use Rattle.decimal.specs.declared.Written.{Written}
 use Rattle.decimal.specs.declared.Written.the-variants.{Next, NoRoom}
 use Rattle.decimal.specs.Decimal.{decimal}
-use Rattle.decimal.specs.Writing.{writtenAt, written}
+use Rattle.decimal.specs.Writing.{writtenAt, written, Wrote}
 use Rattle.decimal.proofs.DecimalLaws.{decimal-length-word}
-use Rattle.decimal.proofs.WritingLaws.{Wrote, wrote, kept}
+use Rattle.decimal.proofs.WritingLaws.{wrote, kept}
 use Rattle.row_text.specs.Steps.{Prints}
 
 -- some bytes, and others behind them

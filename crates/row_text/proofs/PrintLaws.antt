@@ -13,7 +13,7 @@ use Rattle.cnf.proofs.ReturnedLaws.{pairs-length}
 use Rattle.lists.proofs.RestLaws.{rest-head, rest-more}
 use Rattle.decimal.specs.Decimal.{decimal}
 use Rattle.decimal.specs.Printed.{numberLine, textOf}
-use Rattle.decimal.proofs.WritingLaws.{Wrote}
+use Rattle.decimal.specs.Writing.{Wrote}
 use Rattle.cnf.specs.Clauses.{Clause, literalsOf, pairsFrom}
 use Rattle.row_text.specs.RowProgram.{clauseLines, rowsWord, refusedWord, printed}
 use Rattle.row_text.specs.Steps.{spacedNumbers, clauseBytes, clausesBytes, numbersIn, InFront, Prints}

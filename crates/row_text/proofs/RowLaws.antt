@@ -13,18 +13,17 @@ use Rattle.lists.proofs.PartLaws.{put-front, part-drop}
 use Rattle.lists.proofs.ZeroLaws.{zeros-length}
 use Rattle.scan.specs.Spans.{span, inLine}
 use Rattle.scan.proofs.SpanLaws.{span-le}
-use Rattle.decimal.proofs.WritingLaws.{Wrote}
 use Rattle.model.specs.declared.Verdict.the-variants.{Valid, Refused}
 use Rattle.model.specs.Circuit.{Circuit}
 use Rattle.transition.specs.declared.ReadTransition.{ReadTransition}
 use Rattle.transition.specs.Reading.{readTransition, Reads}
-use Rattle.cnf.specs.Clauses.{Clause}
 use Rattle.completeness.specs.Calls.{relationRow}
 use Rattle.row_text.specs.declared.Numbers.{Numbers}
 use Rattle.row_text.specs.declared.Numbers.the-variants.{Count, OtherForm}
-use Rattle.row_text.specs.RowProgram.{firstLine, afterLine, pieces, numbersOf, rowFor, rowAnswer, printed, rowText}
+use Rattle.row_text.specs.RowProgram.{firstLine, afterLine, pieces, numbersOf, rowAnswer, printed, rowText, bare, bareOf, rowIn, RowWrites}
 use Rattle.row_text.specs.Steps.{answerIn}
-use Rattle.row_text.specs.Made.{bare, bareOf, rowIn, PrintsIn, PrintsFor, RowWrites}
+use Rattle.row_text.specs.Made.{PrintsIn, PrintsFor}
+use Rattle.decimal.specs.Writing.{Wrote}
 
 -- ---- the model
 
@@ -32,13 +31,13 @@ module _ (o : Bytes) (ns : List ℕ) (t : Bytes) (gates : List ℕ) (work pairs 
   pub for-none : length ns ≡ 0 → Wrote o 0 (printed (refused 14)) o′ n → PrintsIn ns t gates work pairs literals o n o′
   for-none h w = record { wrote = by-list ns h }
     where
-      by-list : (l : List ℕ) → length l ≡ 0 → Wrote o 0 (printed (rowIn l t gates work pairs literals)) o′ n
+      by-list : (l : List ℕ) → length l ≡ 0 → Wrote o 0 (printed (rowIn l t gates (record { work = work; pairs = pairs; literals = literals }))) o′ n
       by-list [] h = w
       by-list (x ∷ xs) h = absurd (omega arith)
 
   module _ (r : ReadTransition) (gates′ work′ : List ℕ) (k : Reads (readTransition t (length gates) work) gates work r gates′ work′) (h : 0 < length ns) where
     row-from : (l : List ℕ) → 0 < length l
-        → rowIn l t gates work pairs literals
+        → rowIn l t gates (record { work = work; pairs = pairs; literals = literals })
         ≡ andThen (readTransition t (length gates) work) (λ c. relationRow (bareOf c gates) (getD l 0 0) (part l 1 (length l)) (record { work = work; pairs = pairs; literals = literals }))
     row-from [] h = absurd (omega arith)
     row-from (x ∷ xs) h =
@@ -76,25 +75,9 @@ module _ (o : Bytes) (ns : List ℕ) (t : Bytes) (gates : List ℕ) (work pairs 
 
 -- ---- what is lent
 
--- the row with so many words of each kind, all 0 at first
-abbrev rowOf : List ℕ → Bytes → ℕ → ℕ → ℕ → ℕ → Answer (List Clause)
-rowOf [] t gates work pairs literals = refused 14
-rowOf (source ∷ targets) t gates work pairs literals =
-    andThen (readTransition t gates work) (λ c. relationRow (bareOf c (zeros gates)) source targets (record { work = work; pairs = pairs; literals = literals }))
-
-row-zeros : (ns : List ℕ) (t : Bytes) (gates work pairs literals : ℕ)
-    → rowIn ns t (zeros gates) (length (zeros work)) (length (zeros pairs)) (length (zeros literals)) ≡ rowOf ns t gates work pairs literals
-row-zeros [] t gates work pairs literals = refl
-row-zeros (source ∷ targets) t gates work pairs literals = rw (zeros-length gates, zeros-length work, zeros-length pairs, zeros-length literals)
-
-row-numerals : (ns : List ℕ) (t : Bytes) → rowOf ns t 6000 2100 16384 16384 ≡ rowFor ns t
-row-numerals [] t = refl
-row-numerals (source ∷ targets) t = refl
-
 pub lent-printed : (ns : List ℕ) (t o o′ : Bytes) (n : ℕ)
     → PrintsIn ns t (zeros 6000) (length (zeros 2100)) (length (zeros 16384)) (length (zeros 16384)) o n o′ → PrintsFor ns t o n o′
-lent-printed ns t o o′ n w =
-    record { wrote = rw (← (row-zeros ns t 6000 2100 16384 16384 ∙ row-numerals ns t)) (w .wrote) }
+lent-printed ns t o o′ n w = record { wrote = rw (zeros-length 2100, zeros-length 16384) at (w .wrote) }
 
 -- ---- the first line
 

@@ -1,7 +1,8 @@
 -- What 01's row program prints for every input ("The row program reads one line ..").
-use Prim.Native.Nat.{ℕ, _+_}
+use Prim.Native.Nat.{ℕ, _+_, _≤_, _<_}
 use mathlib.Core.Bool.{cond}
 use mathlib.Core.List.{List, [], _∷_, _++_}
+use mathlib.Core.Path.{_≡_}
 use lib.Dec.{leb, eqb}
 use lib.ListN.{length, take, drop}
 use Rattle.lists.specs.Answer.{Answer, got, refused, unless, andThen}
@@ -14,6 +15,7 @@ use Rattle.text.specs.Lines.{consHead}
 use Rattle.text.specs.Numbers.{numberOf}
 use Rattle.decimal.specs.Decimal.{decimal}
 use Rattle.decimal.specs.Printed.{numberLine, textOf}
+use Rattle.model.specs.declared.AigerTransition.{AigerTransition}
 use Rattle.model.specs.Circuit.{Circuit, recordOf, wordsOfGates}
 use Rattle.transition.specs.Reading.{readTransition}
 use Rattle.cnf.specs.Clauses.{Clause}
@@ -40,18 +42,26 @@ abbrev pub numbersOf : List Bytes → Answer (List ℕ)
 numbersOf [] = got []
 numbersOf (f ∷ fs) = andThen (pieceNumber (numberOf Transition f)) (λ n. andThen (numbersOf fs) (λ ns. got (n ∷ ns)))
 
+-- "without relevant inputs or predicate"
+abbrev pub bare : AigerTransition → List ℕ → Asked
+bare m gates = record { model = m; gates = gates; relevant = []; pairs = []; words = [] }
+
+-- the model with its gate words in front of those lent
+abbrev pub bareOf : Circuit → List ℕ → Asked
+bareOf c gates = bare (recordOf c) (front gates (wordsOfGates c))
+
+-- "source, then targets", then the model, with gate words lent and so many words of each other kind
+abbrev pub rowIn : List ℕ → Bytes → List ℕ → Lent → Answer (List Clause)
+rowIn [] t gates lent = refused 14
+rowIn (source ∷ targets) t gates lent =
+    andThen (readTransition t (length gates) (lent .work)) (λ c. relationRow (bareOf c gates) source targets lent)
+
 -- "It lends 6,000 gate words, 2,100 work words, 8,192 pairs and 16,384 literals": a pair is two words
 abbrev pub rowLent : Lent
 rowLent = record { work = 2100; pairs = 16384; literals = 16384 }
 
--- "without relevant inputs or predicate"
-abbrev pub askedOf : Circuit → Asked
-askedOf c = record { model = recordOf c; gates = front (zeros 6000) (wordsOfGates c); relevant = []; pairs = []; words = [] }
-
--- "source, then targets", then the model
 abbrev pub rowFor : List ℕ → Bytes → Answer (List Clause)
-rowFor [] t = refused 14
-rowFor (source ∷ targets) t = andThen (readTransition t 6000 2100) (λ c. relationRow (askedOf c) source targets rowLent)
+rowFor ns t = rowIn ns t (zeros 6000) rowLent
 
 -- "3 when longer, then 14 .., before the model is read"
 unfoldable pub rowAnswer : Bytes → Answer (List Clause)
@@ -77,3 +87,12 @@ printed (refused n) = textOf ((refusedWord ++ decimal n) ∷ [])
 -- the output of the program for an input
 unfoldable pub rowText : Bytes → Bytes
 rowText t = printed (rowAnswer t)
+
+-- The promise of the program's function, for every input t and every buffer o: r bytes are written.
+-- Where there are 700,000 bytes, the buffer begins with the program's output, and the bytes past it keep theirs; else all do.
+pub record RowWrites (t o : Bytes) (r : ℕ) (o′ : Bytes) : Type 0 where
+  pub counts : 700000 ≤ length o → r ≡ length (rowText t)
+  pub prints : 700000 ≤ length o → o′ ≡ front o (rowText t)
+  pub fits : r ≤ length o
+  pub none : length o < 700000 → r ≡ 0
+  pub keeps : length o < 700000 → o′ ≡ o

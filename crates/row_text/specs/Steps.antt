@@ -10,7 +10,7 @@ use Rattle.lists.specs.Parts.{Bytes}
 use Rattle.lists.specs.Words.{wordsOf}
 use Rattle.decimal.specs.Decimal.{decimal}
 use Rattle.decimal.specs.Printed.{numberLine}
-use Rattle.decimal.proofs.WritingLaws.{Wrote}
+use Rattle.decimal.specs.Writing.{Wrote}
 use Rattle.cnf.specs.Clauses.{Clause, literalsOf, pairsFrom}
 use Rattle.row_text.specs.declared.Numbers.{Numbers}
 use Rattle.row_text.specs.declared.Numbers.the-variants.{Count, OtherForm}

@@ -1,13 +1,13 @@
 -- Laws for the functions that check several sections, one after the other.
 use Prim.Native.Nat.{ℕ, _+_}
-use mathlib.Core.Bool.{Bool, true, false, _&&_}
+use mathlib.Core.Bool.{Bool, true, false, _&&_, and-true}
 use mathlib.Core.List.{List}
 use mathlib.Core.Path.{_≡_, refl, sym, ap, _∙_}
 use Rattle.lists.specs.Answer.{Answer, got, refused, andThen}
 use Rattle.lists.specs.Parts.{Bytes}
 use Rattle.lists.specs.Tests.{all, allFrom, every}
 use Rattle.lists.proofs.AnswerLaws.{andThen-assoc, andThen-same}
-use Rattle.lists.proofs.BoolLaws.{and-true, and-cong}
+use Rattle.lists.proofs.BoolLaws.{and-cong}
 use Rattle.text.specs.declared.Cursor.{Cursor}
 use Rattle.text.specs.declared.Reader.the-variants.{Witness}
 use Rattle.aiger.specs.Defined.{literal}

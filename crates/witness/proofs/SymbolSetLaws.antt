@@ -1,17 +1,20 @@
 -- The names of inputs and latches as one list of slots, input k at k and latch k at I + k: an i or l is named once where no slot stands twice.
 use Prim.Native.Nat.{ℕ, _+_, _*_, _≤_, _<_}
 use mathlib.Core.Bool.{Bool, true, false, cond, not, _&&_, _||_, and-assoc, and-false}
-use mathlib.Core.List.{List, [], _∷_, _++_, append-assoc, append-nil}
+use mathlib.Core.List.{List, [], _∷_, _++_, append-nil}
 use mathlib.Core.Path.{_≡_, refl, sym, ap, _∙_, subst}
 use native.Mathlib.Omega.{arith}
-use borrow.Author.Tests.{eqb-true, eqb-false, eq-eqb, ne-eqb}
+use borrow.Author.Tests.{ne-eqb}
 use lib.Dec.{eqb}
 use lib.ListN.{length}
-use Rattle.lists.specs.Sets.{member, distinct, holds, withBit}
+use Rattle.lists.specs.Sets.{member, distinct, holds, withBit, Marked}
 use Rattle.lists.specs.Tests.{Each}
+use Rattle.lists.specs.Words.{wordsOf}
 use Rattle.lists.proofs.BitSetLaws.{with-length}
-use Rattle.lists.proofs.OnceLaws.{Marked, marked-no-bit, marked-bit, distinct-snoc, distinct-append-false}
+use Rattle.lists.proofs.OnceLaws.{marked-no-bit, marked-bit, distinct-snoc, distinct-append-false}
 use Rattle.lists.proofs.TestLaws.{each-append}
+use Rattle.lists.proofs.WordLaws.{words-append}
+use Rattle.lists.proofs.BoolLaws.{and-swap-left, eqb-shift}
 use Rattle.witness_text.specs.declared.AagCounts.{AagCounts}
 use Rattle.witness_text.specs.declared.Kind.{Kind}
 use Rattle.witness_text.specs.Symbols.{Symbol, countOf}
@@ -28,34 +31,16 @@ slotOf n kind.Bad k = []
 slotOf n kind.Constraint k = []
 
 abbrev pub slotsOf : AagCounts → List Symbol → List ℕ
-slotsOf n [] = []
-slotsOf n (s ∷ ss) = slotOf n (s .kind) (s .index) ++ slotsOf n ss
+slotsOf n ss = wordsOf (λ s. slotOf n (s .kind) (s .index)) ss
 
 -- the index is below the count of its section
 abbrev pub Indexed : AagCounts → Symbol → Type 0
 Indexed n s = s .index < countOf n (s .kind)
 
-eqb-shift : (a x y : ℕ) → eqb (a + x) (a + y) ≡ eqb x y
-eqb-shift a x y = go (eqb x y) refl
-  where
-    go : (b : Bool) → eqb x y ≡ b → eqb (a + x) (a + y) ≡ b
-    go true e = eq-eqb (a + x) (a + y) (ap (λ (z : ℕ). a + z) (eqb-true x y e))
-    go false e = let f : x ≡ y → ⊥ = eqb-false x y e in ne-eqb (a + x) (a + y) (λ q. f (omega arith))
-
-and-second-first : (a b d : Bool) → (a && (b && d)) ≡ (b && (a && d))
-and-second-first true b d = refl
-and-second-first false true d = refl
-and-second-first false false d = refl
-
 module _ (n : AagCounts) where
-  slots-append : (xs ys : List Symbol) → slotsOf n (xs ++ ys) ≡ slotsOf n xs ++ slotsOf n ys
-  slots-append [] ys = refl
-  slots-append (x ∷ xs) ys =
-      ap (λ (l : List ℕ). slotOf n (x .kind) (x .index) ++ l) (slots-append xs ys)
-      ∙ sym (append-assoc (slotOf n (x .kind) (x .index)) (slotsOf n xs) (slotsOf n ys))
-
   slots-snoc : (xs : List Symbol) (s : Symbol) → slotsOf n (xs ++ s ∷ []) ≡ slotsOf n xs ++ slotOf n (s .kind) (s .index)
-  slots-snoc xs s = slots-append xs (s ∷ []) ∙ ap (λ (l : List ℕ). slotsOf n xs ++ l) (append-nil (slotOf n (s .kind) (s .index)))
+  slots-snoc xs s =
+      words-append (λ t. slotOf n (t .kind) (t .index)) xs (s ∷ []) ∙ ap (λ (l : List ℕ). slotsOf n xs ++ l) (append-nil (slotOf n (s .kind) (s .index)))
 
   -- the slots below I are the inputs' indices
   module _ (x : ℕ) (h : x < n .inputs) where
@@ -91,7 +76,7 @@ module _ (n : AagCounts) where
   once-step kind.Input i ss b h e =
       rw (input-slots i h ss, e) (sym (and-assoc (not (member i (indicesOf isInput ss))) (distinct (indicesOf isInput ss)) (distinct (indicesOf isLatch ss))))
   once-step kind.Latch i ss b h e =
-      rw (latch-slots i ss b, e) (and-second-first (not (member i (indicesOf isLatch ss))) (distinct (indicesOf isInput ss)) (distinct (indicesOf isLatch ss)))
+      rw (latch-slots i ss b, e) (and-swap-left (not (member i (indicesOf isLatch ss))) (distinct (indicesOf isInput ss)) (distinct (indicesOf isLatch ss)))
   once-step kind.Output i ss b h e = e
   once-step kind.Bad i ss b h e = e
   once-step kind.Constraint i ss b h e = e

@@ -1,6 +1,6 @@
 -- The names that symbols give, with one symbol more at the end.
 use Prim.Native.Nat.{ℕ, zero, suc, _+_, _*_, _<_}
-use mathlib.Core.Bool.{Bool, true, false, cond, _&&_, _||_}
+use mathlib.Core.Bool.{Bool, true, false, cond, _&&_, _||_, and-false}
 use mathlib.Core.List.{List, [], _∷_, _++_, map}
 use mathlib.Core.Option.{Option, some, none}
 use mathlib.Core.Path.{_≡_, refl, sym, ap, _∙_}
@@ -13,7 +13,7 @@ use lib.Seq.{set-append-left}
 use Rattle.lists.specs.Parts.{Bytes, zeros}
 use Rattle.lists.specs.Sets.{member, distinct}
 use Rattle.lists.specs.Words.{pairsOf}
-use Rattle.lists.proofs.BoolLaws.{true-false, and-false}
+use Rattle.lists.proofs.BoolLaws.{true-false}
 use Rattle.lists.proofs.DistinctLaws.{distinct-head, distinct-tail}
 use Rattle.lists.proofs.MapLaws.{map-set}
 use Rattle.lists.proofs.PartLaws.{set-append-right}

@@ -1,5 +1,12 @@
 //! Deliberately wrong variants, each with one likely fault. The self-test has to find all of them.
 
+/// A fault of the composer: it composes by rules one of which is another.
+macro_rules! by_rules {
+    ($change:expr) => {
+        |subject| subject.compose = |asked, lent| by($change, asked, lent)
+    };
+}
+
 mod gates;
 mod latches;
 mod lists;

@@ -1,5 +1,12 @@
 //! Deliberately wrong variants, each with one likely fault. The self-test has to find all of them.
 
+/// A fault of the reader: it refuses with a number where something holds of the right answer.
+macro_rules! refusing {
+    ($reason:expr, |$text:ident, $role:ident, $read:ident| $wrong:expr) => {
+        |subject| subject.read = |$text, $role| refused_if($reason, $text, $role, |$read| $wrong)
+    };
+}
+
 mod headers;
 mod literals;
 mod loads;

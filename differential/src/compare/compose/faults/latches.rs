@@ -8,88 +8,56 @@ pub const FAULTS: &[Fault] = &[
     Fault {
         name: "the second definition of a latch wins",
         group: small::LATCHES.name,
-        spoil: |subject| {
-            subject.compose =
-                |asked, lent| by(|rules| rules.agreed = |_, other| Ok(other), asked, lent);
-        },
+        spoil: by_rules!(|rules| rules.agreed = |_, other| Ok(other)),
     },
     Fault {
         name: "the first definition of a latch wins",
         group: orders::LATER.name,
-        spoil: |subject| {
-            subject.compose =
-                |asked, lent| by(|rules| rules.agreed = |first, _| Ok(first), asked, lent);
-        },
+        spoil: by_rules!(|rules| rules.agreed = |first, _| Ok(first)),
     },
     Fault {
         name: "18 looks at the next literals only",
         group: small::LATCHES.name,
-        spoil: |subject| {
-            subject.compose = |asked, lent| {
-                by(
-                    |rules| {
-                        rules.agreed = |first, other| {
-                            if first[0] == other[0] {
-                                Ok(first)
-                            } else {
-                                Err(18)
-                            }
-                        }
-                    },
-                    asked,
-                    lent,
-                )
-            };
-        },
+        spoil: by_rules!(|rules| {
+            rules.agreed = |first, other| {
+                if first[0] == other[0] {
+                    Ok(first)
+                } else {
+                    Err(18)
+                }
+            }
+        }),
     },
     Fault {
         name: "18 looks at the resets only",
         group: random::DAMAGED.name,
-        spoil: |subject| {
-            subject.compose = |asked, lent| {
-                by(
-                    |rules| {
-                        rules.agreed = |first, other| {
-                            if first[1] == other[1] {
-                                Ok(first)
-                            } else {
-                                Err(18)
-                            }
-                        }
-                    },
-                    asked,
-                    lent,
-                )
-            };
-        },
+        spoil: by_rules!(|rules| {
+            rules.agreed = |first, other| {
+                if first[1] == other[1] {
+                    Ok(first)
+                } else {
+                    Err(18)
+                }
+            }
+        }),
     },
     Fault {
         name: "18 looks at variables, not signs",
         group: small::LATCHES.name,
-        spoil: |subject| {
-            subject.compose = |asked, lent| {
-                by(
-                    |rules| {
-                        rules.agreed = |first, other| {
-                            if first.map(|it| it / 2) == other.map(|it| it / 2) {
-                                Ok(first)
-                            } else {
-                                Err(18)
-                            }
-                        }
-                    },
-                    asked,
-                    lent,
-                )
-            };
-        },
+        spoil: by_rules!(|rules| {
+            rules.agreed = |first, other| {
+                if first.map(|it| it / 2) == other.map(|it| it / 2) {
+                    Ok(first)
+                } else {
+                    Err(18)
+                }
+            }
+        }),
     },
     Fault {
         name: "a latch may be shared only once",
         group: small::LATCHES.name,
-        spoil: |subject| {
-            subject.compose = |asked, lent| by(|rules| rules.agreed = |_, _| Err(18), asked, lent);
-        },
+        spoil: by_rules!(|rules| rules.agreed = |_, _| Err(18)),
     },
     Fault {
         name: "resets are 0",

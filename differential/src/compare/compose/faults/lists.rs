@@ -7,155 +7,91 @@ pub const FAULTS: &[Fault] = &[
     Fault {
         name: "bads stand in the order of appearance",
         group: small::LISTS.name,
-        spoil: |subject| {
-            subject.compose = |asked, lent| {
-                by(
-                    |rules| {
-                        rules.listed = |literals| {
-                            let mut kept = Vec::new();
-                            for literal in literals {
-                                if !kept.contains(&literal) {
-                                    kept.push(literal);
-                                }
-                            }
-                            kept
-                        }
-                    },
-                    asked,
-                    lent,
-                )
-            };
-        },
+        spoil: by_rules!(|rules| {
+            rules.listed = |literals| {
+                let mut kept = Vec::new();
+                for literal in literals {
+                    if !kept.contains(&literal) {
+                        kept.push(literal);
+                    }
+                }
+                kept
+            }
+        }),
     },
     Fault {
         name: "bads and constraints are repeated",
         group: small::LISTS.name,
-        spoil: |subject| {
-            subject.compose = |asked, lent| {
-                by(
-                    |rules| {
-                        rules.listed = |mut literals| {
-                            literals.sort();
-                            literals
-                        }
-                    },
-                    asked,
-                    lent,
-                )
-            };
-        },
+        spoil: by_rules!(|rules| {
+            rules.listed = |mut literals| {
+                literals.sort();
+                literals
+            }
+        }),
     },
     Fault {
         name: "bads and constraints descend",
         group: tables::TABLES.name,
-        spoil: |subject| {
-            subject.compose = |asked, lent| {
-                by(
-                    |rules| {
-                        rules.listed = |mut literals| {
-                            literals.sort();
-                            literals.dedup();
-                            literals.reverse();
-                            literals
-                        }
-                    },
-                    asked,
-                    lent,
-                )
-            };
-        },
+        spoil: by_rules!(|rules| {
+            rules.listed = |mut literals| {
+                literals.sort();
+                literals.dedup();
+                literals.reverse();
+                literals
+            }
+        }),
     },
     Fault {
         name: "bads and constraints are sets of variables",
         group: small::LISTS.name,
-        spoil: |subject| {
-            subject.compose = |asked, lent| {
-                by(
-                    |rules| {
-                        rules.listed = |mut literals| {
-                            literals.sort();
-                            literals.dedup_by_key(|literal| *literal / 2);
-                            literals
-                        }
-                    },
-                    asked,
-                    lent,
-                )
-            };
-        },
+        spoil: by_rules!(|rules| {
+            rules.listed = |mut literals| {
+                literals.sort();
+                literals.dedup_by_key(|literal| *literal / 2);
+                literals
+            }
+        }),
     },
     Fault {
         name: "constants are left out of the lists",
         group: small::LISTS.name,
-        spoil: |subject| {
-            subject.compose = |asked, lent| {
-                by(
-                    |rules| {
-                        rules.listed = |mut literals| {
-                            literals.sort();
-                            literals.dedup();
-                            literals.retain(|&literal| literal > 1);
-                            literals
-                        }
-                    },
-                    asked,
-                    lent,
-                )
-            };
-        },
+        spoil: by_rules!(|rules| {
+            rules.listed = |mut literals| {
+                literals.sort();
+                literals.dedup();
+                literals.retain(|&literal| literal > 1);
+                literals
+            }
+        }),
     },
     Fault {
         name: "outputs come before bads",
         group: small::LISTS.name,
-        spoil: |subject| {
-            subject.compose = |asked, lent| {
-                by(
-                    |rules| {
-                        rules.safety = |sections| match &sections.outputs[..] {
-                            [] => &sections.bads,
-                            outputs => outputs,
-                        }
-                    },
-                    asked,
-                    lent,
-                )
-            };
-        },
+        spoil: by_rules!(|rules| {
+            rules.safety = |sections| match &sections.outputs[..] {
+                [] => &sections.bads,
+                outputs => outputs,
+            }
+        }),
     },
     Fault {
         name: "outputs are no safety",
         group: small::SHAPES.name,
-        spoil: |subject| {
-            subject.compose = |asked, lent| {
-                by(
-                    |rules| rules.safety = |sections| &sections.bads,
-                    asked,
-                    lent,
-                )
-            };
-        },
+        spoil: by_rules!(|rules| rules.safety = |sections| &sections.bads),
     },
     Fault {
         name: "the first safety literal alone",
         group: meaning::RANDOM.name,
-        spoil: |subject| {
-            subject.compose = |asked, lent| {
-                by(
-                    |rules| {
-                        rules.safety = |sections| {
-                            let list = if sections.bads.is_empty() {
-                                &sections.outputs
-                            } else {
-                                &sections.bads
-                            };
-                            &list[..list.len().min(1)]
-                        }
-                    },
-                    asked,
-                    lent,
-                )
-            };
-        },
+        spoil: by_rules!(|rules| {
+            rules.safety = |sections| {
+                let list = if sections.bads.is_empty() {
+                    &sections.outputs
+                } else {
+                    &sections.bads
+                };
+                &list[..list.len().min(1)]
+            }
+        }),
     },
     Fault {
         name: "bads are negated",

@@ -233,21 +233,13 @@ pub const FAULTS: &[Fault] = &[
     Fault {
         name: "a witness without safety is passed over",
         group: orders::LATER.name,
-        spoil: |subject| {
-            subject.compose = |asked, lent| {
-                by(
-                    |rules| {
-                        rules.safety = |sections| match &sections.bads[..] {
-                            [] if sections.outputs.is_empty() => &[0],
-                            [] => &sections.outputs,
-                            bads => bads,
-                        }
-                    },
-                    asked,
-                    lent,
-                )
-            };
-        },
+        spoil: by_rules!(|rules| {
+            rules.safety = |sections| match &sections.bads[..] {
+                [] if sections.outputs.is_empty() => &[0],
+                [] => &sections.outputs,
+                bads => bads,
+            }
+        }),
     },
 ];
 

@@ -6,96 +6,90 @@ use crate::circuit::Circuit;
 use crate::reading::model as reading;
 use crate::subject::model::{Model, Stepped};
 
+/// A fault of the step: its answer is another.
+macro_rules! restepped {
+    (|$model:ident, $gates:ident, $state:ident, $input:ident, $stepped:ident| $answer:expr) => {
+        |subject| {
+            subject.step = |$model, $gates, work, $state, $input| {
+                let $stepped = (OURS.step)($model, $gates, work, $state, $input);
+                $answer
+            }
+        }
+    };
+}
+
+/// A fault of the step: it steps another circuit.
+macro_rules! changing {
+    ($change:expr) => {
+        |subject| {
+            subject.step = |model, gates, work, state, input| {
+                changed(model, gates, work, state, input, $change)
+            }
+        }
+    };
+}
+
 pub const FAULTS: &[Fault] = &[
     Fault {
         name: "step: gates are computed in rising order",
         group: steps::SMALL.name,
-        spoil: |subject| {
-            subject.step = |model, gates, work, state, input| {
-                changed(model, gates, work, state, input, |circuit| {
-                    circuit.gates.sort_unstable()
-                })
-            };
-        },
+        spoil: changing!(|circuit| { circuit.gates.sort_unstable() }),
     },
     Fault {
         name: "step: inputs are counted from the last",
         group: steps::SMALL.name,
-        spoil: |subject| {
-            subject.step = |model, gates, work, state, input| {
-                changed(model, gates, work, state, input, |circuit| {
-                    circuit.inputs.reverse()
-                })
-            };
-        },
+        spoil: changing!(|circuit| { circuit.inputs.reverse() }),
     },
     Fault {
         name: "step: target bits are counted from the last latch",
         group: steps::SMALL.name,
-        spoil: |subject| {
-            subject.step = |model, gates, work, state, input| {
-                changed(model, gates, work, state, input, |circuit| {
-                    let nexts: Vec<u64> = circuit.latches.iter().map(|latch| latch.next).collect();
-                    for (latch, next) in circuit.latches.iter_mut().zip(nexts.into_iter().rev()) {
-                        latch.next = next;
-                    }
-                })
-            };
-        },
+        spoil: changing!(|circuit| {
+            let nexts: Vec<u64> = circuit.latches.iter().map(|latch| latch.next).collect();
+            for (latch, next) in circuit.latches.iter_mut().zip(nexts.into_iter().rev()) {
+                latch.next = next;
+            }
+        }),
     },
     Fault {
         name: "step: the literal 1 is false",
         group: steps::WIDE.name,
-        spoil: |subject| {
-            subject.step = |model, gates, work, state, input| {
-                changed(model, gates, work, state, input, |circuit| {
-                    for literal in circuit.outputs.iter_mut().filter(|literal| **literal == 1) {
-                        *literal = 0;
-                    }
-                })
-            };
-        },
+        spoil: changing!(|circuit| {
+            for literal in circuit.outputs.iter_mut().filter(|literal| **literal == 1) {
+                *literal = 0;
+            }
+        }),
     },
     Fault {
         name: "step: the halves are exchanged",
         group: steps::WIDE.name,
-        spoil: |subject| {
-            subject.step = |model, gates, work, state, input| {
-                let stepped = (OURS.step)(model, gates, work, state, input);
-                Stepped {
-                    high: stepped.low,
-                    low: stepped.high,
-                    ..stepped
-                }
-            };
-        },
+        spoil: restepped!(|model, gates, state, input, stepped| {
+            Stepped {
+                high: stepped.low,
+                low: stepped.high,
+                ..stepped
+            }
+        }),
     },
     Fault {
         name: "step: output bits are shifted by one",
         group: steps::SMALL.name,
-        spoil: |subject| {
-            subject.step = |model, gates, work, state, input| {
-                let stepped = (OURS.step)(model, gates, work, state, input);
-                Stepped {
-                    high: stepped.high << 1 | stepped.low >> 63,
-                    low: stepped.low << 1,
-                    ..stepped
-                }
-            };
-        },
+        spoil: restepped!(|model, gates, state, input, stepped| {
+            Stepped {
+                high: stepped.high << 1 | stepped.low >> 63,
+                low: stepped.low << 1,
+                ..stepped
+            }
+        }),
     },
     Fault {
         name: "step: output 64 is lost",
         group: steps::WIDE.name,
-        spoil: |subject| {
-            subject.step = |model, gates, work, state, input| {
-                let stepped = (OURS.step)(model, gates, work, state, input);
-                Stepped {
-                    high: stepped.high & !1,
-                    ..stepped
-                }
-            };
-        },
+        spoil: restepped!(|model, gates, state, input, stepped| {
+            Stepped {
+                high: stepped.high & !1,
+                ..stepped
+            }
+        }),
     },
     Fault {
         name: "step: values start as the work words are",
@@ -150,56 +144,47 @@ pub const FAULTS: &[Fault] = &[
     Fault {
         name: "step: with 64 inputs the shift by 64 is a shift by 0",
         group: steps::WILD.name,
-        spoil: |subject| {
-            subject.step = |model, gates, work, state, input| {
-                let stepped = (OURS.step)(model, gates, work, state, input);
-                if stepped.reason == 0 && input.wrapping_shr(model.input_count as u32) != 0 {
-                    return Stepped::refused(12);
-                }
+        spoil: restepped!(|model, gates, state, input, stepped| {
+            if stepped.reason == 0 && input.wrapping_shr(model.input_count as u32) != 0 {
+                Stepped::refused(12)
+            } else {
                 stepped
-            };
-        },
+            }
+        }),
     },
     Fault {
         name: "step: 12 comes before 11",
         group: records::LENT.name,
-        spoil: |subject| {
-            subject.step = |model, gates, work, state, input| {
-                let stepped = (OURS.step)(model, gates, work, state, input);
-                if stepped.reason == 11 && state > 255 {
-                    return Stepped::refused(12);
-                }
+        spoil: restepped!(|model, gates, state, input, stepped| {
+            if stepped.reason == 11 && state > 255 {
+                Stepped::refused(12)
+            } else {
                 stepped
-            };
-        },
+            }
+        }),
     },
     Fault {
         name: "step: 12 comes before 7",
         group: records::LENT.name,
-        spoil: |subject| {
-            subject.step = |model, gates, work, state, input| {
-                let stepped = (OURS.step)(model, gates, work, state, input);
-                if stepped.reason == 7 && state > 255 {
-                    return Stepped::refused(12);
-                }
+        spoil: restepped!(|model, gates, state, input, stepped| {
+            if stepped.reason == 7 && state > 255 {
+                Stepped::refused(12)
+            } else {
                 stepped
-            };
-        },
+            }
+        }),
     },
     Fault {
         name: "step: a refusal has a target",
         group: steps::WILD.name,
-        spoil: |subject| {
-            subject.step = |model, gates, work, state, input| {
-                let stepped = (OURS.step)(model, gates, work, state, input);
-                let target = if stepped.reason == 12 {
-                    state
-                } else {
-                    stepped.target
-                };
-                Stepped { target, ..stepped }
+        spoil: restepped!(|model, gates, state, input, stepped| {
+            let target = if stepped.reason == 12 {
+                state
+            } else {
+                stepped.target
             };
-        },
+            Stepped { target, ..stepped }
+        }),
     },
     Fault {
         name: "step: values are left in the work slice",
@@ -218,13 +203,7 @@ pub const FAULTS: &[Fault] = &[
     Fault {
         name: "step: only 65,536 gates are computed",
         group: steps::LARGE.name,
-        spoil: |subject| {
-            subject.step = |model, gates, work, state, input| {
-                changed(model, gates, work, state, input, |circuit| {
-                    circuit.gates.truncate(65_536)
-                })
-            };
-        },
+        spoil: changing!(|circuit| { circuit.gates.truncate(65_536) }),
     },
 ];
 

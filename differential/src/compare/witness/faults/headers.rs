@@ -47,13 +47,9 @@ pub const FAULTS: &[Fault] = &[
     Fault {
         name: "+02 is refused in a header",
         group: short::HEADERS.name,
-        spoil: |subject| {
-            subject.read = |text, role| {
-                refused_if(4, text, role, |read| {
-                    read.reason == 0 && text.windows(3).any(|part| part == b"+02")
-                })
-            };
-        },
+        spoil: refusing!(4, |text, role, read| {
+            read.reason == 0 && text.windows(3).any(|part| part == b"+02")
+        }),
     },
     Fault {
         name: "01 is taken in a header",
@@ -66,96 +62,68 @@ pub const FAULTS: &[Fault] = &[
     Fault {
         name: "only the space separates",
         group: random::WHOLE.name,
-        spoil: |subject| {
-            subject.read = |text, role| {
-                refused_if(4, text, role, |read| {
-                    let header = text.split(|&byte| byte == 10).next().unwrap_or_default();
-                    read.reason == 0 && header.contains(&11)
-                })
-            };
-        },
+        spoil: refusing!(4, |text, role, read| {
+            let header = text.split(|&byte| byte == 10).next().unwrap_or_default();
+            read.reason == 0 && header.contains(&11)
+        }),
     },
     Fault {
         name: "M = 0 is refused",
         group: limits::COUNTS.name,
-        spoil: |subject| {
-            subject.read = |text, role| {
-                refused_if(5, text, role, |read| {
-                    read.reason == 0 && read.max_variable == 0
-                })
-            };
-        },
+        spoil: refusing!(5, |text, role, read| {
+            read.reason == 0 && read.max_variable == 0
+        }),
     },
     Fault {
         name: "M may be 2,000,001",
         group: limits::COUNTS.name,
-        spoil: |subject| {
-            subject.read = |text, role| {
-                refused_if(8, text, role, |read| {
-                    let mended = changed_counts(text, |counts| {
-                        counts.variables = counts.variables.wrapping_sub(1);
-                        counts.inputs = counts.inputs.wrapping_sub(1);
-                    });
-                    read.reason == 5 && mended
-                })
-            };
-        },
+        spoil: refusing!(8, |text, role, read| {
+            let mended = changed_counts(text, |counts| {
+                counts.variables = counts.variables.wrapping_sub(1);
+                counts.inputs = counts.inputs.wrapping_sub(1);
+            });
+            read.reason == 5 && mended
+        }),
     },
     Fault {
         name: "M must be below 2,000,000",
         group: limits::COUNTS.name,
-        spoil: |subject| {
-            subject.read = |text, role| {
-                refused_if(5, text, role, |read| {
-                    let most = counts(text).is_some_and(|counts| counts.variables == 2_000_000);
-                    read.reason == 8 && most
-                })
-            };
-        },
+        spoil: refusing!(5, |text, role, read| {
+            let most = counts(text).is_some_and(|counts| counts.variables == 2_000_000);
+            read.reason == 8 && most
+        }),
     },
     Fault {
         name: "M may be more than the sum",
         group: limits::COUNTS.name,
-        spoil: |subject| {
-            subject.read = |text, role| {
-                refused_if(8, text, role, |read| {
-                    let mended = changed_counts(text, |counts| {
-                        counts.variables = counts.variables.wrapping_sub(1);
-                    });
-                    read.reason == 5 && mended
-                })
-            };
-        },
+        spoil: refusing!(8, |text, role, read| {
+            let mended = changed_counts(text, |counts| {
+                counts.variables = counts.variables.wrapping_sub(1);
+            });
+            read.reason == 5 && mended
+        }),
     },
     Fault {
         name: "the sum of the counts wraps",
         group: limits::COUNTS.name,
-        spoil: |subject| {
-            subject.read = |text, role| {
-                refused_if(8, text, role, |read| {
-                    let mended = changed_counts(text, |counts| {
-                        let leaves = counts.inputs.wrapping_add(counts.latches);
-                        if leaves.wrapping_add(counts.gates) == counts.variables {
-                            (counts.inputs, counts.latches) = (counts.variables, 0);
-                            counts.gates = 0;
-                        }
-                    });
-                    read.reason == 5 && mended
-                })
-            };
-        },
+        spoil: refusing!(8, |text, role, read| {
+            let mended = changed_counts(text, |counts| {
+                let leaves = counts.inputs.wrapping_add(counts.latches);
+                if leaves.wrapping_add(counts.gates) == counts.variables {
+                    (counts.inputs, counts.latches) = (counts.variables, 0);
+                    counts.gates = 0;
+                }
+            });
+            read.reason == 5 && mended
+        }),
     },
     Fault {
         name: "huge counts are refused with 5",
         group: limits::HUGE.name,
-        spoil: |subject| {
-            subject.read = |text, role| {
-                refused_if(5, text, role, |read| {
-                    let huge = counts(text).is_some_and(|counts| counts.bads > 16_777_216);
-                    read.reason == 8 && huge
-                })
-            };
-        },
+        spoil: refusing!(5, |text, role, read| {
+            let huge = counts(text).is_some_and(|counts| counts.bads > 16_777_216);
+            read.reason == 8 && huge
+        }),
     },
     Fault {
         name: "a count of 2^32 or more loses its upper half",
@@ -185,13 +153,9 @@ pub const FAULTS: &[Fault] = &[
     Fault {
         name: "6 is for witnesses only",
         group: limits::LIVENESS.name,
-        spoil: |subject| {
-            subject.read = |text, role| {
-                refused_if(8, text, role, |read| {
-                    read.reason == 6 && role == crate::subject::witness::Role::Model
-                })
-            };
-        },
+        spoil: refusing!(8, |text, role, read| {
+            read.reason == 6 && role == crate::subject::witness::Role::Model
+        }),
     },
     Fault {
         name: "bads and constraints are swapped",

@@ -13,13 +13,9 @@ pub const FAULTS: &[Fault] = &[
     Fault {
         name: "a reset is 0, 1 or the latch, as in AIGER",
         group: short::LITERALS.name,
-        spoil: |subject| {
-            subject.read = |text, role| {
-                refused_if(11, text, role, |read| {
-                    read.reason == 0 && text.starts_with(b"aag 1 0 1") && text[22] > b'2'
-                })
-            };
-        },
+        spoil: refusing!(11, |text, role, read| {
+            read.reason == 0 && text.starts_with(b"aag 1 0 1") && text[22] > b'2'
+        }),
     },
     Fault {
         name: "a reset is at most 2M",
@@ -147,14 +143,10 @@ pub const FAULTS: &[Fault] = &[
     Fault {
         name: "a missing last line is refused with 9",
         group: short::BODIES.name,
-        spoil: |subject| {
-            subject.read = |text, role| {
-                refused_if(9, text, role, |read| {
-                    let more = [text, b"4 2 2\n"].concat();
-                    read.reason == 8 && (OURS.read)(&more, role).reason == 0
-                })
-            };
-        },
+        spoil: refusing!(9, |text, role, read| {
+            let more = [text, b"4 2 2\n"].concat();
+            read.reason == 8 && (OURS.read)(&more, role).reason == 0
+        }),
     },
 ];
 

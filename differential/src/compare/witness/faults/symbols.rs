@@ -19,14 +19,10 @@ pub const FAULTS: &[Fault] = &[
     Fault {
         name: "an output may not have a second name",
         group: symbols::TWICE.name,
-        spoil: |subject| {
-            subject.read = |text, role| {
-                refused_if(9, text, role, |read| {
-                    let names = text.windows(4).filter(|part| part == b"\no0 ");
-                    read.reason == 0 && names.count() > 1
-                })
-            };
-        },
+        spoil: refusing!(9, |text, role, read| {
+            let names = text.windows(4).filter(|part| part == b"\no0 ");
+            read.reason == 0 && names.count() > 1
+        }),
     },
     Fault {
         name: "an input and a latch of one index may not both be named",
@@ -72,13 +68,9 @@ pub const FAULTS: &[Fault] = &[
     Fault {
         name: "c0 name is refused",
         group: short::TAILS.name,
-        spoil: |subject| {
-            subject.read = |text, role| {
-                refused_if(9, text, role, |read| {
-                    read.reason == 0 && text.ends_with(b"\nc0 x\n")
-                })
-            };
-        },
+        spoil: refusing!(9, |text, role, read| {
+            read.reason == 0 && text.ends_with(b"\nc0 x\n")
+        }),
     },
     Fault {
         name: "c and a blank begin the comments",
@@ -124,13 +116,9 @@ pub const FAULTS: &[Fault] = &[
     Fault {
         name: "an empty name is refused",
         group: loads::LENT.name,
-        spoil: |subject| {
-            subject.read = |text, role| {
-                refused_if(9, text, role, |read| {
-                    read.reason == 0 && text.ends_with(b"i0 \n")
-                })
-            };
-        },
+        spoil: refusing!(9, |text, role, read| {
+            read.reason == 0 && text.ends_with(b"i0 \n")
+        }),
     },
     Fault {
         name: "an index may be its count",
@@ -150,13 +138,9 @@ pub const FAULTS: &[Fault] = &[
     Fault {
         name: "an index is held to the inputs, whatever its kind",
         group: symbols::FORMS.name,
-        spoil: |subject| {
-            subject.read = |text, role| {
-                refused_if(9, text, role, |read| {
-                    read.reason == 0 && read.inputs == 1 && text.ends_with(b"o2 x\n")
-                })
-            };
-        },
+        spoil: refusing!(9, |text, role, read| {
+            read.reason == 0 && read.inputs == 1 && text.ends_with(b"o2 x\n")
+        }),
     },
     Fault {
         name: "i00 is taken",
@@ -169,13 +153,9 @@ pub const FAULTS: &[Fault] = &[
     Fault {
         name: "i+0 is refused",
         group: short::TAILS.name,
-        spoil: |subject| {
-            subject.read = |text, role| {
-                refused_if(9, text, role, |read| {
-                    read.reason == 0 && text.windows(4).any(|part| part == b"\ni+0")
-                })
-            };
-        },
+        spoil: refusing!(9, |text, role, read| {
+            read.reason == 0 && text.windows(4).any(|part| part == b"\ni+0")
+        }),
     },
     Fault {
         name: "an index of 2^64 or more wraps",

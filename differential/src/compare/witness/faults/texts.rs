@@ -78,68 +78,44 @@ pub const FAULTS: &[Fault] = &[
     Fault {
         name: "9 comes before 8",
         group: orders::COMBINED.name,
-        spoil: |subject| {
-            subject.read = |text, role| {
-                refused_if(9, text, role, |read| {
-                    read.reason == 8 && has(text, b"\nx0 ")
-                })
-            };
-        },
+        spoil: refusing!(9, |text, role, read| {
+            read.reason == 8 && has(text, b"\nx0 ")
+        }),
     },
     Fault {
         name: "10 comes before 9",
         group: orders::COMBINED.name,
-        spoil: |subject| {
-            subject.read = |text, role| {
-                refused_if(10, text, role, |read| {
-                    read.reason == 9 && role == Role::Witness && has(text, b"c\nMAPPING\n")
-                })
-            };
-        },
+        spoil: refusing!(10, |text, role, read| {
+            read.reason == 9 && role == Role::Witness && has(text, b"c\nMAPPING\n")
+        }),
     },
     Fault {
         name: "11 comes before 10",
         group: orders::COMBINED.name,
-        spoil: |subject| {
-            subject.read = |text, role| {
-                refused_if(11, text, role, |read| {
-                    read.reason == 10 && has(text, b"\n3\n4")
-                })
-            };
-        },
+        spoil: refusing!(11, |text, role, read| {
+            read.reason == 10 && has(text, b"\n3\n4")
+        }),
     },
     Fault {
         name: "a bad input is told before a bad line",
         group: orders::COMBINED.name,
-        spoil: |subject| {
-            subject.read = |text, role| {
-                refused_if(11, text, role, |read| {
-                    read.reason == 8 && has(text, b"\n3\n4")
-                })
-            };
-        },
+        spoil: refusing!(11, |text, role, read| {
+            read.reason == 8 && has(text, b"\n3\n4")
+        }),
     },
     Fault {
         name: "8 comes before 6 for a model, as in the Rust",
         group: orders::COMBINED.name,
-        spoil: |subject| {
-            subject.read = |text, role| {
-                refused_if(8, text, role, |read| {
-                    read.reason == 6 && role == Role::Model && has(text, b"\n06\n")
-                })
-            };
-        },
+        spoil: refusing!(8, |text, role, read| {
+            read.reason == 6 && role == Role::Model && has(text, b"\n06\n")
+        }),
     },
     Fault {
         name: "5 comes before 4",
         group: orders::COMBINED.name,
-        spoil: |subject| {
-            subject.read = |text, role| {
-                refused_if(5, text, role, |read| {
-                    read.reason == 4 && text.starts_with(b"aag 2000001")
-                })
-            };
-        },
+        spoil: refusing!(5, |text, role, read| {
+            read.reason == 4 && text.starts_with(b"aag 2000001")
+        }),
     },
     Fault {
         name: "blank lines between sections are skipped",

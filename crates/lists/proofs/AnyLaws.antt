@@ -5,24 +5,13 @@ use mathlib.Core.Bool.{Bool, true, false, _||_, or-true}
 use mathlib.Core.List.{List, [], _∷_}
 use lib.Dec.{eqb}
 use borrow.Author.Tests.{eqb-true, eq-eqb}
-use Rattle.lists.specs.Tests.{any, Each}
+use Rattle.lists.specs.Tests.{any}
 use Rattle.lists.specs.Sets.{member}
 use Rattle.lists.proofs.BoolLaws.{true-false}
 
 pub member-any : (x : ℕ) (l : List ℕ) → member x l ≡ any (eqb x) l
 member-any x [] = refl
 member-any x (y ∷ l) = rw (member-any x l)
-
-pub or-swap : (a b c d : Bool) → ((a || b) || (c || d)) ≡ ((a || c) || (b || d))
-or-swap true b c d = refl
-or-swap false true true d = refl
-or-swap false true false d = refl
-or-swap false false c d = refl
-
-pub or-swap-left : (a b c : Bool) → (a || (b || c)) ≡ (b || (a || c))
-or-swap-left true true c = refl
-or-swap-left true false c = refl
-or-swap-left false b c = refl
 
 module _ (p : ℕ → Bool) where
   -- an element that passes
@@ -50,12 +39,3 @@ module _ (p : ℕ → Bool) where
       go true e false f = any-found xs e (λ x m q. true-false (any-member x ys (sym (same x) ∙ m) q) f)
       go false e true f = any-found ys f (λ x m q. true-false (any-member x xs (same x ∙ m) q) e)
       go false e false f = e ∙ sym f
-
-  pub any-or : (q : ℕ → Bool) (l : List ℕ) → any (λ x. p x || q x) l ≡ (any p l || any q l)
-  any-or q [] = refl
-  any-or q (x ∷ l) = rw (any-or q l) (or-swap (p x) (q x) (any p l) (any q l))
-
-  -- two tests that agree at each element
-  pub any-each : (q : ℕ → Bool) (l : List ℕ) → Each (λ x. p x ≡ q x) l → any p l ≡ any q l
-  any-each q [] e = refl
-  any-each q (x ∷ l) e = rw (e .0, any-each q l (e .1))
