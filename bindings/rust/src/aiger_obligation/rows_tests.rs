@@ -1,0 +1,148 @@
+//! Room that is too small at first, and values at which sums could wrap.
+
+use super::*;
+use crate::aiger_obligation::{AigerLatch, parse_ascii_aiger_transition};
+
+fn lock() -> AigerTransition {
+    parse_ascii_aiger_transition(b"aag 3 1 1 1 1\n2\n4 6\n6\n6 4 2\n").expect("model K")
+}
+
+fn any_input() -> AigerInputPredicate {
+    AigerInputPredicate { clauses: vec![] }
+}
+
+/// The row from state 1 to state 1, with this room at first; and how many calls it took.
+fn made_with(first: Room) -> (Result<Vec<CnfClause>, AigerObligationError>, usize) {
+    let (model, predicate) = (lock(), any_input());
+    let calls = std::cell::Cell::new(0);
+    let asked = Asked::of(&model, &[], &predicate);
+    let answer = asked.make(first, |asked, lent| {
+        calls.set(calls.get() + 1);
+        let Lent {
+            work,
+            pairs,
+            literals,
+        } = lent;
+        let model = &asked.model;
+        library::nit_relation_row(
+            model,
+            asked.gates,
+            &[],
+            1,
+            &[],
+            &[],
+            &[1],
+            work,
+            pairs,
+            literals,
+        )
+    });
+    (answer, calls.get())
+}
+
+#[test]
+fn too_little_room_is_made_good() {
+    let whole = relation_row_completeness_cnf(&lock(), &[], 1, &any_input(), &[1]);
+    assert_eq!(whole.as_ref().map(Vec::len), Ok(5));
+    for (first, calls) in [
+        ([5, 9], 1),
+        ([4, 9], 2),
+        ([5, 8], 2),
+        ([0, 0], 2),
+        ([1 << 20, 1], 2),
+    ] {
+        assert_eq!(made_with(first), (whole.clone(), calls), "{first:?}");
+    }
+}
+
+#[test]
+fn the_first_room_is_enough() {
+    let (model, predicate) = (lock(), any_input());
+    let asked = Asked::of(&model, &[], &predicate);
+    assert_eq!(made_with(asked.room(1, 0)).1, 1);
+}
+
+#[test]
+fn room_is_bounded_whatever_is_claimed() {
+    let (model, predicate) = (lock(), any_input());
+    let asked = Asked::of(&model, &[], &predicate);
+    let room = asked.room(usize::MAX, usize::MAX);
+    assert_eq!(room, most(1, 65_536, 128));
+}
+
+#[test]
+fn huge_values_are_refused() {
+    let number =
+        |answer: Result<Vec<CnfClause>, AigerObligationError>| answer.unwrap_err().number();
+    let wrong = AigerInputPredicate {
+        clauses: vec![vec![(1 << 31, false)]],
+    };
+    for huge in [1 << 31, 1 << 32, usize::MAX] {
+        let wrong = AigerInputPredicate {
+            clauses: vec![vec![(huge, false)]],
+        };
+        assert_eq!(
+            number(relation_row_completeness_cnf(&lock(), &[0], 1, &wrong, &[])),
+            13
+        );
+        assert_eq!(
+            number(relation_row_completeness_cnf(
+                &lock(),
+                &[],
+                huge,
+                &any_input(),
+                &[]
+            )),
+            14
+        );
+        assert_eq!(
+            number(relation_row_completeness_cnf(
+                &lock(),
+                &[huge],
+                0,
+                &any_input(),
+                &[]
+            )),
+            13
+        );
+        assert_eq!(
+            number(terminal_completeness_cnf(
+                &lock(),
+                &[],
+                &any_input(),
+                huge,
+                &[]
+            )),
+            14
+        );
+        assert_eq!(lock().evaluate(huge, 0).unwrap_err().number(), 12);
+    }
+    let mut model = lock();
+    model.max_variable = usize::MAX;
+    assert_eq!(model.validate().unwrap_err().number(), 11);
+    assert_eq!(
+        number(terminal_completeness_cnf(&model, &[], &wrong, 0, &[])),
+        11
+    );
+}
+
+#[test]
+fn lists_beyond_the_record_are_refused() {
+    for (inputs, latches, outputs) in [(65, 1, 0), (0, 9, 0), (0, 1, 129), (300, 300, 300)] {
+        let model = AigerTransition {
+            max_variable: inputs + latches,
+            inputs: (0..inputs).map(|at| 2 * at + 2).collect(),
+            latches: (inputs..inputs + latches)
+                .map(|at| AigerLatch {
+                    current: 2 * at + 2,
+                    next: 0,
+                })
+                .collect(),
+            outputs: vec![0; outputs],
+            ands: vec![],
+        };
+        let number = model.validate().unwrap_err().number();
+        assert_eq!(number, 11, "{inputs} {latches} {outputs}");
+        model.state_count();
+    }
+}
