@@ -11,6 +11,7 @@ pub const MAX_COMPOSED_AIGER_BYTES: usize = 16 * 1024 * 1024;
 error_named!(ComposedWitnessError);
 
 /// How many there are of each in a witness, or in the model of a composition.
+#[repr(C)]
 #[derive(Clone, Copy, Debug, Default, Eq, PartialEq)]
 pub struct WitnessCounts {
     pub max_variable: usize,
@@ -44,25 +45,7 @@ pub fn read_model(text: &[u8]) -> Result<WitnessCounts, ComposedWitnessError> {
 }
 
 fn read(text: &[u8], witness: bool) -> Result<WitnessCounts, ComposedWitnessError> {
-    let counts = library::nit_read_witness(text, witness).result()?;
-    let [
-        max_variable,
-        inputs,
-        latches,
-        outputs,
-        gates,
-        bads,
-        constraints,
-    ] = counts;
-    Ok(WitnessCounts {
-        max_variable,
-        inputs,
-        latches,
-        outputs,
-        gates,
-        bads,
-        constraints,
-    })
+    Ok(library::nit_read_witness(text, witness).result()?)
 }
 
 /// Takes the next line of a text as one literal, by the witness reader's rule for numbers. The
@@ -144,8 +127,8 @@ struct Needs {
 /// The reasons for too few work words and for too little room.
 const FEW_WORDS: u8 = 15;
 const NO_ROOM: u8 = 20;
-/// More work words than this (256 MB) are lent only after the library has read all texts.
-const MANY_WORDS: usize = 32 << 20;
+/// More work words than this (1 GB) are lent only after the library has read all texts.
+const MANY_WORDS: usize = 128 << 20;
 /// The header and the closing comment of a composition, at most.
 const FRAME: usize = 256;
 /// A figure or two more than any literal of 64 witnesses has, and what parts it from the next.

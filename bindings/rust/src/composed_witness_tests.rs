@@ -64,9 +64,9 @@ fn growing_goes_past_a_wrong_estimate_and_ends() {
 
 #[test]
 fn a_great_need_is_believed_after_reading() {
-    // 15 MB of comments could be as many outputs; the header says so, the lines do not.
+    // 16 MB of comments could be as many outputs; the header says so, the lines do not.
     let mut text = b"aag 1 0 1 9999999 0\n2 2\nc\n".to_vec();
-    text.resize(15 << 20, b'\n');
+    text.resize(MAX_COMPOSED_AIGER_BYTES, b'\n');
     let needs = Needs::of(MODEL, [&text[..], &text].into_iter());
     assert!(needs.room[0] > MANY_WORDS);
     assert_eq!(needs.first(), [0, 0]);

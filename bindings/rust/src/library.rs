@@ -7,7 +7,7 @@
 
 use crate::Refusal;
 use crate::aiger_obligation::AigerAnd;
-use crate::composed_witness::Cursor;
+use crate::composed_witness::{Cursor, WitnessCounts};
 
 /// The words of a model's record, see `aiger_obligation/record.rs`.
 pub const RECORD_WORDS: usize = 213;
@@ -32,8 +32,7 @@ impl<Values> Answer<Values> {
 pub type Stepped = Answer<[u64; 3]>;
 /// How many clauses and how many literals.
 pub type Made = Answer<[usize; 2]>;
-/// M, inputs, latches, outputs, gates, bads, constraints.
-pub type Witness = Answer<[usize; 7]>;
+pub type Witness = Answer<WitnessCounts>;
 
 /// Makes of each signature a declaration, in which a slice is a pointer and a length in elements,
 /// and a safe function that calls it.

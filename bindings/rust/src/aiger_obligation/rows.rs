@@ -19,6 +19,7 @@ const NO_ROOM: u8 = 20;
 struct Asked<'a> {
     model: Record,
     gates: &'a [usize],
+    latches: usize,
     relevant: &'a [usize],
     predicate: Words,
 }
@@ -130,14 +131,28 @@ fn outcome_words(outcomes: &[AigerOutcome]) -> Vec<u64> {
     words.collect::<Vec<_>>().into_flattened()
 }
 
-/// Clauses and literals of an obligation of so many gates and claims, at most: a latch, or the bad
-/// output, is a clause of one literal; a gate has clauses of 2, 2 and 3; a claim has a clause of all
-/// latches and observed outputs.
-fn most(gates: usize, claims: usize, observed: usize) -> Room {
-    let clauses = MAX_AIGER_LATCHES + MAX_PREDICATE_CLAUSES + 3 * gates + claims + 1;
-    let claimed = claims * (MAX_AIGER_LATCHES + observed);
-    let literals = MAX_AIGER_LATCHES + MAX_PREDICATE_LITERALS + 7 * gates + claimed + 1;
-    [clauses, literals]
+/// Room for every obligation that is accepted.
+const LARGEST: Room = most(
+    MAX_AIGER_VARIABLES,
+    MAX_AIGER_LATCHES,
+    [MAX_PREDICATE_CLAUSES, MAX_PREDICATE_LITERALS],
+    [MAX_CLAIMED_OUTCOMES, MAX_AIGER_OUTPUTS],
+);
+
+/// Clauses and literals of an obligation at most, of so many gates and latches, clauses and literals
+/// of the predicate, claims and observed outputs. A latch, or the bad output, is a clause of one
+/// literal; a gate has clauses of 2, 2 and 3; a claim has one of all latches and observed outputs.
+const fn most(
+    gates: usize,
+    latches: usize,
+    [predicate, literals]: Room,
+    [claims, observed]: [usize; 2],
+) -> Room {
+    let single = latches + 1;
+    [
+        single + predicate + 3 * gates + claims,
+        single + literals + 7 * gates + claims * (latches + observed),
+    ]
 }
 
 impl<'a> Asked<'a> {
@@ -149,17 +164,27 @@ impl<'a> Asked<'a> {
         Self {
             model: record::words(model),
             gates: library::gate_words(&model.ands),
+            latches: model.latches.len(),
             relevant,
             predicate: Words::of(predicate),
         }
     }
 
-    /// Room for the clauses of so many claims. What is beyond a limit is refused before room
-    /// matters.
+    /// Room for the clauses of so many claims and observed outputs. What is beyond a limit is
+    /// refused before room matters.
     fn room(&self, claims: usize, observed: usize) -> Room {
-        let gates = (self.gates.len() / 3).min(MAX_AIGER_VARIABLES);
-        let claims = claims.min(MAX_CLAIMED_OUTCOMES);
-        most(gates, claims, observed.min(MAX_AIGER_OUTPUTS))
+        most(
+            (self.gates.len() / 3).min(MAX_AIGER_VARIABLES),
+            self.latches.min(MAX_AIGER_LATCHES),
+            [
+                self.predicate.pairs.len() / 2,
+                self.predicate.literals.len(),
+            ],
+            [
+                claims.min(MAX_CLAIMED_OUTCOMES),
+                observed.min(MAX_AIGER_OUTPUTS),
+            ],
+        )
     }
 
     /// Calls with this room for clauses and literals first, and makes clauses of the answer.
@@ -168,9 +193,8 @@ impl<'a> Asked<'a> {
         first: Room,
         call: impl Fn(&Self, &mut Lent) -> Made,
     ) -> Result<Vec<CnfClause>, AigerObligationError> {
-        let largest = most(MAX_AIGER_VARIABLES, MAX_CLAIMED_OUTCOMES, MAX_AIGER_OUTPUTS);
         let more =
-            |refusal: Refusal, room| doubled(room, largest).filter(|_| refusal.number() == NO_ROOM);
+            |refusal: Refusal, room| doubled(room, LARGEST).filter(|_| refusal.number() == NO_ROOM);
         let made = lend(first, more, |[clauses, literals]| {
             let mut lent = Lent {
                 work: record::work(&self.model),
