@@ -62,18 +62,23 @@ pub fn compose_safety_witnesses_v1(
     model_bytes: &[u8],
     witness_bytes: &[&[u8]],
 ) -> Result<Vec<u8>, ComposedWitnessError> {
-    let mut buffer = Vec::new();
-    let mut pairs = Vec::new();
-    // Of too many witnesses none is looked at. A witness of one byte more than the limit is as much
-    // too long (3) as the whole of it.
-    let counted = witness_bytes.len() <= MAX_COMPOSED_WITNESSES;
-    for text in witness_bytes.iter().take(MAX_COMPOSED_WITNESSES + 1) {
-        let length = text.len().min(MAX_COMPOSED_AIGER_BYTES + 1);
-        let copied = if counted { length } else { 0 };
-        pairs.push([buffer.len(), copied]);
-        buffer.extend_from_slice(&text[..copied]);
+    if witness_bytes.len() > MAX_COMPOSED_WITNESSES {
+        // So many are refused by their number (1), and not copied.
+        return compose_safety_witnesses_in(model_bytes, &[], &vec![[0, 0]; witness_bytes.len()]);
     }
-    compose_safety_witnesses_in(model_bytes, &buffer, &pairs)
+    let texts: Vec<&[u8]> = witness_bytes.iter().map(|text| clipped(text)).collect();
+    let mut buffer = Vec::with_capacity(texts.iter().map(|text| text.len()).sum());
+    let mut parts = Vec::with_capacity(texts.len());
+    for text in texts {
+        parts.push([buffer.len(), text.len()]);
+        buffer.extend_from_slice(text);
+    }
+    compose_safety_witnesses_in(model_bytes, &buffer, &parts)
+}
+
+/// A text, or a byte more of it than the limit, which is as much too long (3) as the whole.
+fn clipped(text: &[u8]) -> &[u8] {
+    text.get(..=MAX_COMPOSED_AIGER_BYTES).unwrap_or(text)
 }
 
 /// Composes witnesses that are parts of one buffer, given as offset and length, in order: the form
@@ -87,7 +92,7 @@ pub fn compose_safety_witnesses_in(
 ) -> Result<Vec<u8>, ComposedWitnessError> {
     let texts = parts.iter().take(MAX_COMPOSED_WITNESSES);
     let texts = texts.filter_map(|&[offset, length]| witnesses.get(offset..)?.get(..length));
-    let needs = Needs::of(model_bytes, texts);
+    let needs = Needs::of(clipped(model_bytes), texts.map(clipped));
     Ok(compose_with(
         needs.first(),
         needs,
@@ -153,13 +158,13 @@ impl Needs {
         }
     }
 
-    /// What is lent first. A great need is believed only where the texts have been read: then no
-    /// short text with large numbers in its header makes a call slow.
+    /// What is lent first. A great need is believed only where the texts have been read, so that
+    /// no header with large numbers takes memory that its text does not need.
     fn first(&self) -> Room {
-        if self.room[0] > MANY_WORDS {
-            [0, 0]
-        } else {
+        if self.room[0] <= MANY_WORDS && can_have(self.room) {
             self.room
+        } else {
+            [0, 0]
         }
     }
 
@@ -171,7 +176,7 @@ impl Needs {
             NO_ROOM => [words, grown(bytes, needed_bytes)],
             _ => return None,
         };
-        (can_have::<usize>(larger[0]) && can_have::<u8>(larger[1])).then_some(larger)
+        can_have(larger).then_some(larger)
     }
 }
 
@@ -201,12 +206,12 @@ fn grown(lent: usize, needed: usize) -> usize {
     }
 }
 
-/// Whether there is memory for so many elements. A list that could not be had would end the
+/// Whether there is memory for so many words and bytes. A list that cannot be had would end the
 /// program.
-fn can_have<T>(count: usize) -> bool {
-    let mut tried = Vec::<T>::new();
-    let had = tried.try_reserve_exact(count).is_ok();
-    // Else the compiler may leave out a list that is never used.
+fn can_have([words, bytes]: Room) -> bool {
+    let mut tried = (Vec::<usize>::new(), Vec::<u8>::new());
+    let had = tried.0.try_reserve_exact(words).is_ok() && tried.1.try_reserve_exact(bytes).is_ok();
+    // Else the compiler may leave out lists that are never used.
     std::hint::black_box(tried);
     had
 }

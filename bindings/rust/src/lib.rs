@@ -29,9 +29,9 @@
 //!   limit, are refused.
 //! - [`composed_witness`] has calls that are private in the original.
 //!
-//! No call panics, whatever it is given. Memory: reading, stepping and obligations take some 100
-//! bytes a gate; composing takes 128 bytes for each variable, output, bad and constraint of all
-//! texts, beside copies of the texts and the result.
+//! No call panics, whatever it is given. Memory beside arguments and results: reading and stepping
+//! take some 8 bytes a variable; an obligation some 90 bytes a gate; composing 128 bytes for each
+//! variable, output, bad and constraint of all texts, and a copy of the witnesses.
 
 #![deny(unsafe_code)]
 
@@ -47,3 +47,8 @@ mod room;
 pub mod unsat_proof;
 
 pub use refusal::Refusal;
+
+/// The example of the README is run with the others.
+#[cfg(doctest)]
+#[doc = include_str!("../README.md")]
+struct Readme;

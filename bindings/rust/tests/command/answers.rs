@@ -235,6 +235,18 @@ fn composing() {
         std::fs::read_to_string(&made).expect("the new file"),
         COMPOSED
     );
+    let wrong = file("wrong-witness.aag", "aag 1 0 1 1 0\n2 2\n");
+    let shown = run(&["compose", &model, &first, &wrong, &wrong]);
+    assert!(
+        shown.error.ends_with(&format!(" (in {wrong})\n")),
+        "{}",
+        shown.error
+    );
+    shown.refused(8);
+    let unlike = file("unlike.aag", "aag 1 0 1 1 0\n2 3\n2\n");
+    let shown = run(&["compose", &model, &first, &unlike]);
+    assert!(!shown.error.contains("(in "), "{}", shown.error);
+    shown.refused(18);
     let absent = vec!["absent"; 65];
     run(&[&["compose", &model], &absent[..]].concat()).refused(1);
 }

@@ -11,6 +11,8 @@ const TROUBLE: u8 = 2;
 pub enum Failure {
     /// The library refused what it was given.
     Refused(Refusal),
+    /// The same, of one of several texts.
+    RefusedIn(Refusal, String),
     /// The command line is wrong, an input cannot be read or an output cannot be written.
     Trouble(String),
     /// Whoever read the output has gone, as `head` does: nothing to say to anyone.
@@ -32,6 +34,10 @@ impl Failure {
         let status = match self {
             Self::Refused(refusal) => {
                 let _ = writeln!(screen, "{refusal}");
+                REFUSED
+            }
+            Self::RefusedIn(refusal, text) => {
+                let _ = writeln!(screen, "{refusal} (in {text})");
                 REFUSED
             }
             Self::Trouble(what) => {

@@ -1,6 +1,8 @@
 //! The release desk's command: reads locks and witnesses, steps them, makes the clauses of claims,
 //! composes witnesses. `nitrasovy --help` says how.
 
+#![forbid(unsafe_code)]
+
 mod arguments;
 mod clauses;
 mod compose;
