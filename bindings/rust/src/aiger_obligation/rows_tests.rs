@@ -1,7 +1,7 @@
 //! Room that is too small at first, and values at which sums could wrap.
 
 use super::*;
-use crate::aiger_obligation::{AigerLatch, parse_ascii_aiger_transition};
+use crate::aiger_obligation::{AigerAnd, AigerLatch, parse_ascii_aiger_transition};
 
 fn lock() -> AigerTransition {
     parse_ascii_aiger_transition(b"aag 3 1 1 1 1\n2\n4 6\n6\n6 4 2\n").expect("model K")
@@ -126,23 +126,51 @@ fn huge_values_are_refused() {
     );
 }
 
+/// Lists that are cut to their place in the record, and M with them, would make a good model.
 #[test]
 fn lists_beyond_the_record_are_refused() {
     for (inputs, latches, outputs) in [(65, 1, 0), (0, 9, 0), (0, 1, 129), (300, 300, 300)] {
-        let model = AigerTransition {
-            max_variable: inputs + latches,
-            inputs: (0..inputs).map(|at| 2 * at + 2).collect(),
-            latches: (inputs..inputs + latches)
-                .map(|at| AigerLatch {
-                    current: 2 * at + 2,
-                    next: 0,
-                })
+        let (first, all) = (inputs.min(64), inputs.min(64) + latches.min(8));
+        let literals = |from: usize, count| (from + 1..=from + count).map(|variable| 2 * variable);
+        let mut model = AigerTransition {
+            max_variable: all,
+            inputs: literals(0, inputs).collect(),
+            latches: literals(first, latches)
+                .map(|current| AigerLatch { current, next: 0 })
                 .collect(),
             outputs: vec![0; outputs],
             ands: vec![],
         };
+        model.state_count();
         let number = model.validate().unwrap_err().number();
         assert_eq!(number, 11, "{inputs} {latches} {outputs}");
-        model.state_count();
+        model.inputs.truncate(64);
+        model.latches.truncate(8);
+        model.outputs.truncate(128);
+        assert_eq!(model.validate(), Ok(()), "{inputs} {latches} {outputs}");
+    }
+}
+
+#[test]
+fn a_huge_count_of_variables_is_not_taken_for_the_largest() {
+    let gate = |variable: usize| AigerAnd {
+        output: 2 * variable,
+        left: 2,
+        right: 3,
+    };
+    let mut model = AigerTransition {
+        max_variable: 1_000_000,
+        inputs: vec![],
+        latches: vec![AigerLatch {
+            current: 2,
+            next: 5,
+        }],
+        outputs: vec![],
+        ands: (2..=1_000_000).map(gate).collect(),
+    };
+    assert_eq!(model.validate(), Ok(()));
+    for huge in [1_000_001, 1 << 32, usize::MAX] {
+        model.max_variable = huge;
+        assert_eq!(model.validate().unwrap_err().number(), 11, "{huge}");
     }
 }
