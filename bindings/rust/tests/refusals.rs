@@ -7,8 +7,8 @@ use nitrasovy::aiger_obligation::{
     relation_row_completeness_cnf, terminal_completeness_cnf, transducer_row_completeness_cnf,
 };
 use nitrasovy::composed_witness::{
-    Cursor, compose_safety_witnesses_in, compose_safety_witnesses_v1, read_model, read_witness,
-    take_literal,
+    Cursor, WitnessCounts, compose_safety_witnesses_in, compose_safety_witnesses_v1, read_model,
+    read_witness, take_literal,
 };
 
 /// The number of a refusal, 0 for acceptance.
@@ -39,91 +39,76 @@ fn predicate(clauses: &[&[(usize, bool)]]) -> AigerInputPredicate {
     }
 }
 
+/// Each text is refused for this reason, by this reader.
+fn each(read: fn(&str) -> u8, number: u8, texts: &[&str]) {
+    for text in texts {
+        assert_eq!(read(text), number, "{text:?}");
+    }
+}
+
+/// A transition text after the header of a lock of one latch.
+fn latch(line: &str) -> u8 {
+    transition(&format!("aag 1 0 1 0 0\n{line}\n"))
+}
+
+/// A witness text of one input, with these lines after it.
+fn symbols(lines: &str) -> u8 {
+    witness(&format!("aag 1 1 0 0 0\n2\n{lines}\n"))
+}
+
 #[test]
 fn transition_texts() {
-    assert_eq!(transition("aag 1 0 1 0 0\n2 3"), 0);
-    assert_eq!(transition("aag 1 0 1 0 0\n2 3\n\u{e9}"), 3);
-    for header in [
-        "",
-        "\n",
-        "aig 1 0 1 0 0",
-        "aag 1 0 1 0",
-        "aag 1 0 1 0 0 0",
-        "aag 1 0 x 0 0",
-    ] {
-        assert_eq!(transition(header), 4, "{header:?}");
-    }
-    for header in [
-        "aag 0 0 0 0 0",
-        "aag 2 0 1 0 0",
-        "aag 9 0 9 0 0",
-        "aag 66 65 1 0 0",
-        "aag 1 0 1 129 0",
-    ] {
-        assert_eq!(transition(header), 5, "{header:?}");
-    }
-    assert_eq!(transition("aag 1000001 0 1 0 1000000\n"), 5);
-    assert_eq!(
-        transition("aag 18446744073709551615 0 1 0 18446744073709551614\n"),
-        5
-    );
-    for body in ["", "2\n", "2 3 5\n", "2 3 0 0\n", "2 x\n"] {
-        assert_eq!(transition(&format!("aag 1 0 1 0 0\n{body}")), 8, "{body:?}");
-    }
-    for body in ["2 4\n", "0 0\n", "3 2\n", "4 2\n"] {
-        assert_eq!(
-            transition(&format!("aag 1 0 1 0 0\n{body}")),
-            11,
-            "{body:?}"
-        );
-    }
+    each(latch, 0, &["2 3", "2 3 1", "2 3\nany other line"]);
+    each(latch, 3, &["2 3\n\u{e9}"]);
+    let headers = "aig 1 0 1 0 0;aag 1 0 1 0;aag 1 0 1 0 0 0;aag 1 0 x 0 0;;\n";
+    each(transition, 4, &headers.split(';').collect::<Vec<_>>());
+    let counts = "aag 0 0 0 0 0;aag 2 0 1 0 0;aag 9 0 9 0 0;aag 66 65 1 0 0;aag 1 0 1 129 0;\
+                  aag 1000001 0 1 0 1000000;aag 18446744073709551615 0 1 0 18446744073709551614";
+    each(transition, 5, &counts.split(';').collect::<Vec<_>>());
+    each(latch, 8, &["", "2", "2 3 5", "2 3 0 0", "2 x"]);
+    each(latch, 11, &["2 4", "0 0", "3 2", "4 2"]);
     let long = vec![b'\n'; 16_777_217];
     assert_eq!(number(parse_ascii_aiger_transition(&long)), 3);
 }
 
 #[test]
 fn witness_texts() {
-    assert_eq!(witness("aag 0 0 0 0 0\n"), 0);
-    for text in [
-        "",
-        "aag 0 0 0 0 0",
-        "aag 0 0 0 0 0\r\n",
-        "aag 0 0 0 0 0\nc\n\u{80}\n",
-    ] {
-        assert_eq!(witness(text), 3, "{text:?}");
-    }
-    assert_eq!(witness("aag 0 0 0 0\n"), 4);
-    assert_eq!(witness("aag 00 0 0 0 0\n"), 4);
-    assert_eq!(witness("aag 1 0 0 0 0\n"), 5);
-    assert_eq!(witness("aag 0 0 0 0 0 0 0 1\n"), 6);
-    assert_eq!(witness("aag 0 0 0 1 0\n"), 8);
-    assert_eq!(witness("aag 0 0 0 18446744073709551615 0\n"), 8);
-    for symbol in [" ", "", "i0", "i1 x", "x0 x", "i0 x\ni0 y"] {
-        assert_eq!(
-            witness(&format!("aag 1 1 0 0 0\n2\n{symbol}\n")),
-            9,
-            "{symbol:?}"
-        );
-    }
-    let mapping = "aag 0 0 0 0 0\nc\n MAPPING 1\n";
-    assert_eq!(witness(mapping), 10);
-    assert_eq!(number(read_model(mapping.as_bytes())), 0);
-    assert_eq!(witness("aag 1 1 0 0 0\n4\n"), 11);
-    let counts =
-        read_witness(b"aag 4 1 2 3 1 1 1\n2\n4 2\n6 4\n2\n2\n3\n5\n7\n8 2 4\n").expect("read");
-    assert_eq!(
-        (counts.max_variable, counts.inputs, counts.latches),
-        (4, 1, 2)
+    each(witness, 0, &["aag 0 0 0 0 0\n"]);
+    each(witness, 3, &["", "aag 0 0 0 0 0", "aag 0 0 0 0 0\r\n"]);
+    each(symbols, 3, &["c\n\u{80}"]);
+    each(witness, 4, &["aag 0 0 0 0\n", "aag 00 0 0 0 0\n"]);
+    each(witness, 5, &["aag 1 0 0 0 0\n"]);
+    each(
+        witness,
+        6,
+        &["aag 0 0 0 0 0 0 0 1\n", "aag 0 0 0 0 0 0 0 0 1\n"],
     );
-    assert_eq!(
-        (
-            counts.outputs,
-            counts.gates,
-            counts.bads,
-            counts.constraints
-        ),
-        (3, 1, 1, 1)
+    each(
+        witness,
+        8,
+        &["aag 0 0 0 1 0\n", "aag 0 0 0 18446744073709551615 0\n"],
     );
+    each(symbols, 9, &[" ", "", "i0", "i1 x", "x0 x", "i0 x\ni0 y"]);
+    each(symbols, 10, &["c\n MAPPING 1", "c\nany\nINTERVENTION"]);
+    each(witness, 11, &["aag 1 1 0 0 0\n4\n"]);
+    let mapping = b"aag 0 0 0 0 0\nc\nMAPPING\n";
+    assert_eq!(number(read_model(mapping)), 0);
+}
+
+#[test]
+fn witness_counts() {
+    let text = b"aag 4 1 2 3 1 1 1\n2\n4 2\n6 4\n2\n2\n3\n5\n7\n8 2 4\n";
+    let counts = WitnessCounts {
+        max_variable: 4,
+        inputs: 1,
+        latches: 2,
+        outputs: 3,
+        gates: 1,
+        bads: 1,
+        constraints: 1,
+    };
+    assert_eq!(read_witness(text), Ok(counts));
+    assert_eq!(read_model(text), Ok(counts));
 }
 
 #[test]
@@ -157,48 +142,38 @@ fn predicates() {
 }
 
 #[test]
-fn claims() {
+fn claimed_states() {
     let (lock, any) = (lock(), predicate(&[]));
     let row = |source, targets: &[usize]| {
-        number(relation_row_completeness_cnf(
-            &lock,
-            &[],
-            source,
-            &any,
-            targets,
-        ))
+        let row = relation_row_completeness_cnf(&lock, &[], source, &any, targets);
+        number(row)
     };
     assert_eq!(row(1, &[0, 1]), 0);
-    assert_eq!(
-        [row(2, &[]), row(0, &[2]), row(0, &[1, 0]), row(0, &[1, 1])],
-        [14; 4]
-    );
-    let outcomes = |observed: &[usize], claims: &[(usize, u128)]| {
-        let claims: Vec<_> = claims
-            .iter()
-            .map(|&(target, outputs)| AigerOutcome { target, outputs })
-            .collect();
-        number(transducer_row_completeness_cnf(
-            &lock,
-            &[],
-            0,
-            &any,
-            observed,
-            &claims,
-        ))
+    let wrong = [row(2, &[]), row(0, &[2]), row(0, &[1, 0]), row(0, &[1, 1])];
+    assert_eq!(wrong, [14; 4]);
+    let list = |bad, states: &[usize]| {
+        let list = terminal_completeness_cnf(&lock, &[], &any, bad, states);
+        number(list)
     };
-    assert_eq!(outcomes(&[0], &[(0, 0), (0, 1), (1, 0)]), 0);
-    assert_eq!(outcomes(&[1], &[]), 14);
-    assert_eq!(outcomes(&[0], &[(0, 2)]), 14);
-    assert_eq!(outcomes(&[0], &[(0, 1 << 64)]), 14);
-    assert_eq!(outcomes(&[0], &[(1, 0), (0, 1)]), 14);
-    assert_eq!(outcomes(&[], &[(0, 0); 65_537]), 14);
-    let terminal =
-        |bad, states: &[usize]| number(terminal_completeness_cnf(&lock, &[], &any, bad, states));
-    assert_eq!(
-        [terminal(0, &[0, 1]), terminal(1, &[]), terminal(0, &[2])],
-        [0, 14, 14]
-    );
+    assert_eq!([list(0, &[0, 1]), list(1, &[]), list(0, &[2])], [0, 14, 14]);
+}
+
+#[test]
+fn claimed_outcomes() {
+    let (lock, any) = (lock(), predicate(&[]));
+    let row = |observed: &[usize], claims: &[(usize, u128)]| {
+        let claims = claims.iter();
+        let claims = claims.map(|&(target, outputs)| AigerOutcome { target, outputs });
+        let claims: Vec<_> = claims.collect();
+        let row = transducer_row_completeness_cnf(&lock, &[], 0, &any, observed, &claims);
+        number(row)
+    };
+    assert_eq!(row(&[0], &[(0, 0), (0, 1), (1, 0)]), 0);
+    assert_eq!(row(&[1], &[]), 14);
+    assert_eq!(row(&[0], &[(0, 2)]), 14);
+    assert_eq!(row(&[0], &[(0, 1 << 64)]), 14);
+    assert_eq!(row(&[0], &[(1, 0), (0, 1)]), 14);
+    assert_eq!(row(&[], &[(0, 0); 65_537]), 14);
 }
 
 /// 65,536 outcomes are taken, one more is not, and no two are alike.

@@ -70,60 +70,28 @@ fn room_is_bounded_whatever_is_claimed() {
     assert_eq!(room, [2 + 3 + 65_536, 2 + 7 + 65_536 * 129]);
 }
 
+fn row_number(model: &AigerTransition, relevant: &[usize], source: usize, input: usize) -> u8 {
+    let predicate = AigerInputPredicate {
+        clauses: vec![vec![(input, false)]],
+    };
+    let row = relation_row_completeness_cnf(model, relevant, source, &predicate, &[]);
+    row.map_or_else(AigerObligationError::number, |_| 0)
+}
+
 #[test]
 fn huge_values_are_refused() {
-    let number =
-        |answer: Result<Vec<CnfClause>, AigerObligationError>| answer.unwrap_err().number();
-    let wrong = AigerInputPredicate {
-        clauses: vec![vec![(1 << 31, false)]],
-    };
-    for huge in [1 << 31, 1 << 32, usize::MAX] {
-        let wrong = AigerInputPredicate {
-            clauses: vec![vec![(huge, false)]],
-        };
-        assert_eq!(
-            number(relation_row_completeness_cnf(&lock(), &[0], 1, &wrong, &[])),
-            13
-        );
-        assert_eq!(
-            number(relation_row_completeness_cnf(
-                &lock(),
-                &[],
-                huge,
-                &any_input(),
-                &[]
-            )),
-            14
-        );
-        assert_eq!(
-            number(relation_row_completeness_cnf(
-                &lock(),
-                &[huge],
-                0,
-                &any_input(),
-                &[]
-            )),
-            13
-        );
-        assert_eq!(
-            number(terminal_completeness_cnf(
-                &lock(),
-                &[],
-                &any_input(),
-                huge,
-                &[]
-            )),
-            14
-        );
-        assert_eq!(lock().evaluate(huge, 0).unwrap_err().number(), 12);
+    let (lock, mut larger) = (lock(), lock());
+    assert_eq!(row_number(&lock, &[0], 1, 0), 0);
+    for huge in [1 << 31, 1 << 32, 1 << 63, usize::MAX] {
+        assert_eq!(row_number(&lock, &[0], 1, huge), 13);
+        assert_eq!(row_number(&lock, &[huge], 1, 0), 13);
+        assert_eq!(row_number(&lock, &[0], huge, 0), 14);
+        assert_eq!(lock.evaluate(huge, 0).unwrap_err().number(), 12);
+        let list = terminal_completeness_cnf(&lock, &[], &any_input(), huge, &[]);
+        assert_eq!(list.unwrap_err().number(), 14);
+        larger.max_variable = huge;
+        assert_eq!(row_number(&larger, &[0], huge, huge), 11);
     }
-    let mut model = lock();
-    model.max_variable = usize::MAX;
-    assert_eq!(model.validate().unwrap_err().number(), 11);
-    assert_eq!(
-        number(terminal_completeness_cnf(&model, &[], &wrong, 0, &[])),
-        11
-    );
 }
 
 /// Lists that are cut to their place in the record, and M with them, would make a good model.

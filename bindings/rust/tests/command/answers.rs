@@ -154,49 +154,25 @@ fn conditions() {
 #[test]
 fn outcomes() {
     let text = "aag 3 1 1 3 1\n2\n4 6\n6\n2\n5\n6 4 2\n";
-    let lock = file("outcomes.aag", text);
+    file("outcomes.aag", text);
     let model = parse_ascii_aiger_transition(text.as_bytes()).expect("a lock");
     let any = AigerInputPredicate { clauses: vec![] };
     let claims = [(0, 0), (0, 2), (1, 3)].map(|(target, outputs)| AigerOutcome { target, outputs });
-    let made =
-        transducer_row_completeness_cnf(&model, &[], 1, &any, &[0, 2], &claims).expect("made");
-    let out = run(&[
-        "row",
-        "--plain",
-        "--outputs",
-        "0,2",
-        &lock,
-        "1",
-        "0:0",
-        "0:0x2",
-        "1:3",
-    ])
-    .accepted();
-    let literals = |line: &str| {
-        line.split(' ')
-            .skip(2)
-            .map(|word| word.parse().expect("a number"))
-            .collect()
-    };
-    let found: Vec<Vec<usize>> = out.lines().skip(1).map(literals).collect();
+    let made = transducer_row_completeness_cnf(&model, &[], 1, &any, &[0, 2], &claims);
     let word = |&(variable, positive): &(usize, bool)| 2 * variable + usize::from(positive);
-    let expected: Vec<Vec<usize>> = made
-        .iter()
+    let made = made.expect("made").into_iter();
+    let made: Vec<Vec<usize>> = made
         .map(|clause| clause.0.iter().map(word).collect())
         .collect();
-    assert_eq!(found, expected);
-    run(&["row", "--outputs", "0,2", &lock, "1", "0:4"]).refused(14);
-    run(&["row", "--outputs", "3", &lock, "1"]).refused(14);
-    run(&["row", "--outputs", "none", &lock, "1", "0:0", "1:0"]).accepted();
-    run(&[
-        "row",
-        "--outputs",
-        "0",
-        &lock,
-        "1",
-        "0:0x100000000000000000",
-    ])
-    .refused(14);
+    let out = line("row --plain --outputs 0,2 outcomes.aag 1 0:0 0:0x2 1:3").accepted();
+    let number = |word: &str| word.parse().expect("a number");
+    let literals = |line: &str| line.split(' ').skip(2).map(number).collect();
+    let found: Vec<Vec<usize>> = out.lines().skip(1).map(literals).collect();
+    assert_eq!(found, made);
+    line("row --outputs none outcomes.aag 1 0:0 1:0").accepted();
+    line("row --outputs 0,2 outcomes.aag 1 0:4").refused(14);
+    line("row --outputs 3 outcomes.aag 1").refused(14);
+    line("row --outputs 0 outcomes.aag 1 0:0x100000000000000000").refused(14);
 }
 
 #[test]

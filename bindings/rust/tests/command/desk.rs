@@ -83,6 +83,7 @@ impl Shown {
 pub fn run_on<W: AsRef<OsStr>>(input: &[u8], words: &[W]) -> Shown {
     let mut child = Command::new(PROGRAM)
         .args(words)
+        .current_dir(place(""))
         .stdin(Stdio::piped())
         .stdout(Stdio::piped())
         .stderr(Stdio::piped())
@@ -95,6 +96,11 @@ pub fn run_on<W: AsRef<OsStr>>(input: &[u8], words: &[W]) -> Shown {
 
 pub fn run(words: &[&str]) -> Shown {
     run_on(b"", words)
+}
+
+/// Runs with the words of a line, in the folder of the files.
+pub fn line(words: &str) -> Shown {
+    run(&words.split(' ').collect::<Vec<_>>())
 }
 
 /// Runs a line of the shell, in which `$0` is the program and `$1` the file.

@@ -3,6 +3,7 @@
 use crate::circuits::{damage, model, theirs};
 use crate::published::aiger_obligation as original;
 use crate::random::Random;
+use crate::unsat_proof::CnfClause;
 use nitrasovy::aiger_obligation::{
     AigerInputPredicate, AigerOutcome, AigerTransition, relation_row_completeness_cnf,
     terminal_completeness_cnf, transducer_row_completeness_cnf,
@@ -73,46 +74,47 @@ fn spoil(random: &mut Random, case: &mut Case) {
     }
 }
 
+type Clauses = Option<Vec<CnfClause>>;
+
+/// A row, a row with outputs and a list by this crate.
+fn ours(case: &Case) -> [Clauses; 3] {
+    let (model, relevant, predicate) = (&case.model, &case.relevant, &case.predicate);
+    let (source, states, seen, ends) = (case.source, &case.states, &case.observed, &case.outcomes);
+    [
+        relation_row_completeness_cnf(model, relevant, source, predicate, states).ok(),
+        transducer_row_completeness_cnf(model, relevant, source, predicate, seen, ends).ok(),
+        terminal_completeness_cnf(model, relevant, predicate, case.bad, states).ok(),
+    ]
+}
+
+/// The same by the original.
+fn expected(case: &Case) -> [Clauses; 3] {
+    let (model, relevant) = (&theirs(&case.model), &case.relevant);
+    let predicate = &original::AigerInputPredicate {
+        clauses: case.predicate.clauses.clone(),
+    };
+    let outcomes = case.outcomes.iter().map(|outcome| original::AigerOutcome {
+        target: outcome.target,
+        outputs: outcome.outputs,
+    });
+    let ends = &outcomes.collect::<Vec<_>>();
+    let (source, states, seen) = (case.source, &case.states, &case.observed);
+    use original::{
+        relation_row_completeness_cnf as row, terminal_completeness_cnf as list,
+        transducer_row_completeness_cnf as outputs,
+    };
+    [
+        row(model, relevant, source, predicate, states).ok(),
+        outputs(model, relevant, source, predicate, seen, ends).ok(),
+        list(model, relevant, predicate, case.bad, states).ok(),
+    ]
+}
+
 /// Whether all three were accepted.
 fn compare(case: &Case) -> bool {
-    let (model, relevant, predicate) = (&case.model, &case.relevant, &case.predicate);
-    let their_model = theirs(model);
-    let their_predicate = original::AigerInputPredicate {
-        clauses: predicate.clauses.clone(),
-    };
-    let their_outcomes: Vec<_> = case
-        .outcomes
-        .iter()
-        .map(|outcome| original::AigerOutcome {
-            target: outcome.target,
-            outputs: outcome.outputs,
-        })
-        .collect();
-    let (m, p) = (&their_model, &their_predicate);
-    let (source, states, observed) = (case.source, &case.states, &case.observed);
-    let row = relation_row_completeness_cnf(model, relevant, source, predicate, states).ok();
-    let expected = original::relation_row_completeness_cnf(m, relevant, source, p, states).ok();
-    assert_eq!(row, expected, "row of {model:?}");
-    let outcomes = &case.outcomes;
-    let outputs =
-        transducer_row_completeness_cnf(model, relevant, source, predicate, observed, outcomes);
-    let expected = original::transducer_row_completeness_cnf(
-        m,
-        relevant,
-        source,
-        p,
-        observed,
-        &their_outcomes,
-    );
-    assert_eq!(
-        outputs.as_ref().ok(),
-        expected.as_ref().ok(),
-        "outputs of {model:?}"
-    );
-    let list = terminal_completeness_cnf(model, relevant, predicate, case.bad, states).ok();
-    let expected = original::terminal_completeness_cnf(m, relevant, p, case.bad, states).ok();
-    assert_eq!(list, expected, "list of {model:?}");
-    row.is_some() && outputs.is_ok() && list.is_some()
+    let ours = ours(case);
+    assert_eq!(ours, expected(case), "{:?}", case.model);
+    ours.iter().all(Option::is_some)
 }
 
 #[test]
