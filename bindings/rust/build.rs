@@ -2,7 +2,7 @@
 //!
 //! The published files are not part of this repository, and the crate does without them. Where
 //! they are present, the tests compile them, text unchanged, with `tests/original/access.rs`
-//! appended to the second, so that its private functions can be compared too.
+//! appended to `composed_witness.rs`, so that its private functions can be compared too.
 
 use std::env;
 use std::fs;
@@ -48,29 +48,36 @@ fn link(folder: &Path) {
     println!("cargo::rustc-link-lib=static=nitrasovy");
 }
 
-/// Writes `published.rs`, which declares the published files as modules, and says that it is there.
+/// Writes files that declare the published ones as modules, and says which are there: those that the
+/// library ports (`published`), and one that uses the first of them (`published_user`).
 fn offer_published(package: &Path, source: &Path) {
-    println!("cargo::rustc-check-cfg=cfg(published)");
+    println!("cargo::rustc-check-cfg=cfg(published, published_user)");
     println!("cargo::rerun-if-changed={ACCESS}");
-    let modules = ["aiger_obligation", "composed_witness"];
     let access = fs::read_to_string(package.join(ACCESS)).unwrap_or_default();
     let out = PathBuf::from(env::var_os("OUT_DIR").expect("set by cargo"));
-    let mut declarations = String::new();
-    for (module, appended) in modules.into_iter().zip(["", &access]) {
-        let file = source.join(format!("{module}.rs"));
-        println!("cargo::rerun-if-changed={}", file.display());
-        let Ok(text) = fs::read_to_string(&file) else {
-            return;
-        };
-        let copy = out.join(format!("published_{module}.rs"));
-        write(&copy, &format!("{text}\n{appended}"));
-        declarations.push_str(&format!(
-            "#[allow(dead_code, clippy::all)]\n#[path = {:?}]\npub mod {module};\n",
-            copy.display().to_string()
-        ));
+    let first = copied(source, &out, "aiger_obligation", "");
+    let second = copied(source, &out, "composed_witness", &access);
+    let user = copied(source, &out, "controller_transducer", "");
+    let ported = first.zip(second).map(|(first, second)| first + &second);
+    for (name, declared) in [("published", ported), ("published_user", user)] {
+        if let Some(declared) = declared {
+            write(&out.join(format!("{name}.rs")), &declared);
+            println!("cargo::rustc-cfg={name}");
+        }
     }
-    write(&out.join("published.rs"), &declarations);
-    println!("cargo::rustc-cfg=published");
+}
+
+/// Copies a published file and appends a text; the declaration of the copy as a module.
+fn copied(source: &Path, out: &Path, module: &str, appended: &str) -> Option<String> {
+    let file = source.join(format!("{module}.rs"));
+    println!("cargo::rerun-if-changed={}", file.display());
+    let text = fs::read_to_string(&file).ok()?;
+    let copy = out.join(format!("published_{module}.rs"));
+    write(&copy, &format!("{text}\n{appended}"));
+    Some(format!(
+        "#[allow(dead_code, clippy::all)]\n#[path = {:?}]\npub mod {module};\n",
+        copy.display().to_string()
+    ))
 }
 
 fn write(path: &Path, text: &str) {
