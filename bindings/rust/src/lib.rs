@@ -31,7 +31,9 @@
 //!
 //! No call panics, whatever it is given. Memory beside arguments and results: reading and stepping
 //! take some 8 bytes a variable; an obligation some 90 bytes a gate; composing 128 bytes for each
-//! variable, output, bad and constraint of all texts, and a copy of the witnesses.
+//! variable, output, bad and constraint of all texts, and a copy of the witnesses. Where the machine
+//! has not enough, composing is refused (15 or 20); the other calls end as every list of Rust does
+//! that finds no memory.
 
 #![deny(unsafe_code)]
 
