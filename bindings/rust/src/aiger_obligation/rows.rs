@@ -133,25 +133,24 @@ fn outcome_words(outcomes: &[AigerOutcome]) -> Vec<u64> {
 
 /// Room for every obligation that is accepted.
 const LARGEST: Room = most(
-    MAX_AIGER_VARIABLES,
-    MAX_AIGER_LATCHES,
-    [MAX_PREDICATE_CLAUSES, MAX_PREDICATE_LITERALS],
+    [
+        MAX_AIGER_VARIABLES,
+        MAX_AIGER_LATCHES,
+        MAX_PREDICATE_CLAUSES,
+    ],
     [MAX_CLAIMED_OUTCOMES, MAX_AIGER_OUTPUTS],
 );
 
-/// Clauses and literals of an obligation at most, of so many gates and latches, clauses and literals
-/// of the predicate, claims and observed outputs. A latch, or the bad output, is a clause of one
-/// literal; a gate has clauses of 2, 2 and 3; a claim has one of all latches and observed outputs.
-const fn most(
-    gates: usize,
-    latches: usize,
-    [predicate, literals]: Room,
-    [claims, observed]: [usize; 2],
-) -> Room {
+/// Clauses and literals at most of an obligation of so many gates, latches and predicate clauses,
+/// claims and observed outputs. A latch, or the bad output, is a clause of one literal; a gate has
+/// clauses of 2, 2 and 3; a claim has one of all latches and observed outputs. With this much room
+/// the library writes at once and does not measure first.
+const fn most([gates, latches, predicate]: [usize; 3], [claims, observed]: [usize; 2]) -> Room {
     let single = latches + 1;
+    let claimed = claims * (latches + observed);
     [
         single + predicate + 3 * gates + claims,
-        single + literals + 7 * gates + claims * (latches + observed),
+        single + MAX_PREDICATE_LITERALS + 7 * gates + claimed,
     ]
 }
 
@@ -173,17 +172,12 @@ impl<'a> Asked<'a> {
     /// Room for the clauses of so many claims and observed outputs. What is beyond a limit is
     /// refused before room matters.
     fn room(&self, claims: usize, observed: usize) -> Room {
+        let gates = (self.gates.len() / 3).min(MAX_AIGER_VARIABLES);
+        let latches = self.latches.min(MAX_AIGER_LATCHES);
+        let claims = claims.min(MAX_CLAIMED_OUTCOMES);
         most(
-            (self.gates.len() / 3).min(MAX_AIGER_VARIABLES),
-            self.latches.min(MAX_AIGER_LATCHES),
-            [
-                self.predicate.pairs.len() / 2,
-                self.predicate.literals.len(),
-            ],
-            [
-                claims.min(MAX_CLAIMED_OUTCOMES),
-                observed.min(MAX_AIGER_OUTPUTS),
-            ],
+            [gates, latches, self.predicate.pairs.len() / 2],
+            [claims, observed.min(MAX_AIGER_OUTPUTS)],
         )
     }
 

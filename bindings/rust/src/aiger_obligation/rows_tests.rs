@@ -67,7 +67,7 @@ fn room_is_bounded_whatever_is_claimed() {
     let (model, predicate) = (lock(), any_input());
     let asked = Asked::of(&model, &[], &predicate);
     let room = asked.room(usize::MAX, usize::MAX);
-    assert_eq!(room, [2 + 3 + 65_536, 2 + 7 + 65_536 * 129]);
+    assert_eq!(room, [2 + 3 + 65_536, 2 + 1_024 + 7 + 65_536 * 129]);
 }
 
 fn row_number(model: &AigerTransition, relevant: &[usize], source: usize, input: usize) -> u8 {
