@@ -103,8 +103,7 @@ impl AigerTransition {
     fn step(&self, state: u64, input: u64) -> Result<[u64; 3], AigerObligationError> {
         let record = record::words(self);
         let mut work = record::work(&record);
-        let gates = library::gate_words(&self.ands);
-        let stepped = library::nit_step(&record, gates, &mut work, state, input);
+        let stepped = library::nit_step_records(&record, &self.ands, &mut work, state, input);
         Ok(stepped.result()?)
     }
 }
