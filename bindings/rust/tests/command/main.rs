@@ -1,0 +1,5 @@
+//! The command, through the built program.
+
+mod answers;
+mod desk;
+mod troubles;
