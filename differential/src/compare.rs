@@ -2,7 +2,7 @@
 
 pub mod compose;
 mod inputs;
-mod lent;
+pub mod lent;
 pub mod model;
 pub mod obligation;
 pub mod text;
@@ -59,7 +59,7 @@ pub trait Comparison: Sync {
 }
 
 impl<S> Group<S> {
-    fn tally(&self, seed: u64, cases: usize, ours: S) -> Tally {
+    pub fn tally(&self, seed: u64, cases: usize, ours: S) -> Tally {
         let mut run = Run {
             ours,
             cases,

@@ -10,6 +10,7 @@ pub mod oracle;
 pub mod ours;
 pub mod random;
 pub mod reading;
+pub mod sample;
 pub mod sections;
 pub mod subject;
 mod tally;

@@ -4,7 +4,7 @@ use std::process::ExitCode;
 
 #[cfg(published)]
 fn main() -> ExitCode {
-    use differential::arguments;
+    use differential::{arguments, sample};
     let arguments = match arguments::read(std::env::args().skip(1)) {
         Ok(arguments) => arguments,
         Err(error) => {
@@ -12,7 +12,9 @@ fn main() -> ExitCode {
             return ExitCode::from(2);
         }
     };
-    let good = if arguments.self_test {
+    let good = if arguments.sample {
+        sample::run(arguments.self_test)
+    } else if arguments.self_test {
         arguments.layer.self_test(&arguments.settings)
     } else {
         arguments.layer.compare(&arguments.settings)
