@@ -121,6 +121,8 @@ pub const MODEL: model::Subject = model::Subject {
     step,
     validate_words: reading::model::validate_words,
     step_words,
+    // The same calls again, with the gates as records.
+    step_records: reading::model::step_words,
 };
 
 fn read(text: &[u8], gates: &mut [u64], work: &mut [u64]) -> Read {
