@@ -36,7 +36,7 @@ kept-one l = go (dropped l)
     go true = omega arith
     go false =
         rw (length-append clause [])
-        (omega (arith, length-setOf (map cnfWord (withoutFalse l)), length-map (withoutFalse l) cnfWord, length-without l))
+        (omega (arith, set-short (map cnfWord (withoutFalse l)), length-map (withoutFalse l) cnfWord, length-without l))
 
 pub kept-few : (ls : List (List ℕ)) → length (literalsOf (wordsOf simplified ls)) ≤ total ls
 kept-few [] = omega arith
