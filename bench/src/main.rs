@@ -6,6 +6,8 @@ mod circuits;
 mod compose_texts;
 #[cfg(published)]
 mod composing;
+#[cfg(all(published, feature = "crate"))]
+mod crate_calls;
 #[cfg(published)]
 mod document;
 #[cfg(published)]
@@ -37,6 +39,8 @@ fn main() {
     obligations::measure(&table);
     witnesses::measure(&table);
     composing::measure(&table);
+    #[cfg(feature = "crate")]
+    crate_calls::measure(&table);
     if !table.whole() {
         return;
     }

@@ -9,8 +9,7 @@ use lib.Dec.{eqb}
 use lib.ListN.{length, getD, take, drop, set, take-append-drop}
 use lib.Seq.{take-all, getD-set-same, getD-set-other}
 use Rattle.lists.specs.Parts.{zeros}
-use Rattle.lists.specs.Sets.{member, distinct, holds, withBit}
-pub use Rattle.lists.specs.Sets.{Marked}
+use Rattle.lists.specs.Sets.{member, distinct, holds, withBit, Marked}
 use Rattle.lists.proofs.BoolLaws.{true-false, eqb-swap}
 use Rattle.lists.proofs.BitSetLaws.{with-same, with-other, holds-zeros}
 use Rattle.lists.proofs.RestLaws.{take-next}

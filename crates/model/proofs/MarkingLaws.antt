@@ -9,12 +9,12 @@ use lib.Seq.{take-all, take-take}
 use borrow.Author.Tests.{not-true, not-false}
 use Rattle.lists.proofs.RestLaws.{take-next}
 use Rattle.lists.specs.Parts.{zeros}
-use Rattle.lists.specs.Sets.{member, distinct, holds, withBit}
 use Rattle.lists.specs.Tests.{all, every}
 use Rattle.lists.specs.Words.{triplesOf}
 use Rattle.lists.proofs.BoolLaws.{true-false}
 use Rattle.lists.proofs.BitSetLaws.{with-length}
-use Rattle.lists.proofs.OnceLaws.{Marked, marked-no-bit, marked-bit, distinct-snoc}
+use Rattle.lists.specs.Sets.{member, distinct, holds, withBit, Marked}
+use Rattle.lists.proofs.OnceLaws.{marked-no-bit, marked-bit, distinct-snoc}
 use Rattle.lists.proofs.TestLaws.{all-append}
 use Rattle.lists.proofs.WordLaws.{triples-count, triples-at}
 use Rattle.lists.proofs.ZeroLaws.{zeros-length}

@@ -7,9 +7,8 @@ use lib.ListN.{length, take}
 use lib.Dec.{leb, ltb}
 use Rattle.lists.specs.Answer.{Answer, got, refused, unless}
 use Rattle.lists.specs.Parts.{zeros}
-use Rattle.lists.specs.Sets.{holds}
+use Rattle.lists.specs.Sets.{holds, Marked}
 use Rattle.lists.specs.Tests.{all}
-use Rattle.lists.proofs.OnceLaws.{Marked}
 use Rattle.aiger.specs.declared.Gate.{Gate}
 use Rattle.aiger.specs.Gates.{variable}
 use Rattle.aiger.specs.Defined.{literal, definitions, defined}
