@@ -9,9 +9,9 @@ use std::fs;
 use std::path::{Path, PathBuf};
 
 const SOURCE_VARIABLE: &str = "NITRASOVY_RUST_SOURCE";
-const SOURCE_DEFAULT: &str = "../../shared/docs/src/src";
+const SOURCE_DEFAULT: &str = "../shared/docs/src/src";
 const LIBRARY_VARIABLE: &str = "NITRASOVY_LIB";
-const LIBRARY_DEFAULT: &str = "../target/staticlib";
+const LIBRARY_DEFAULT: &str = "target/staticlib";
 /// The calls of the library, and the exports of its inner layers for this comparison alone.
 const LIBRARIES: [&str; 2] = ["nitrasovy", "probe"];
 
@@ -48,13 +48,12 @@ fn main() {
     }
 }
 
-/// The folder that the variable names, else the default; a relative one is taken from the package.
+/// The folder that the variable names, else the default; a relative one counts from the
+/// repository's root.
 fn folder(manifest: &Path, variable: &str, default: &str) -> PathBuf {
     println!("cargo::rerun-if-env-changed={variable}");
-    match env::var_os(variable) {
-        Some(named) if !named.is_empty() => manifest.join(named),
-        _ => manifest.join(default),
-    }
+    let named = env::var_os(variable).filter(|named| !named.is_empty());
+    manifest.join("..").join(named.unwrap_or(default.into()))
 }
 
 /// Writes one module file for each published file, and `oracle.rs`, which declares them.

@@ -2,13 +2,36 @@
  *
  * Every call takes any bytes, numbers and lengths. It answers with `reason` 0, or with the first number of 01's list that applies; then
  * every other field is 0. A slice is a pointer and a length in elements: the pointer is to that many readable elements, aligned, and not
- * null, also where the length is 0. Slices that a call writes (gates of the reader, work, pairs, literals, out, the cursor) overlap
- * nothing else. A `bool` is 0 or 1. Nothing more is asked.
+ * null, also where the length is 0. Slices that a call writes (gates of the reader, work, pairs, literals, out, the cursor) are writable and
+ * overlap nothing else. A `bool` is 0 or 1. The witness reader and the composer take some 300 KB of stack. Nothing more is asked.
  *
  * On a refusal result buffers (gates of the reader, pairs, literals, out) are as before. On acceptance elements past the result are as
  * before. Work words may hold anything at entry and are all 0 after every call.
  *
- * The contracts, proved for all arguments, are in crates/nitrasovy/src; docs/PROVED.md says where their definitions are. */
+ * The contracts, proved for all arguments, are in crates/nitrasovy/src; docs/PROVED.md says where their definitions are. C11 or C++11.
+ *
+ * The reasons, first one wins:
+ *  1  fewer than 2 or more than 64 witness pairs
+ *  2  a witness pair starts before the end of the one ahead or runs past the buffer
+ *  3  a text has more than 16,777,216 bytes or one above 127, or, for the witness reader, is empty, has byte 13 or lacks a last byte 10
+ *  4  the first line is not `aag` and as many readable numbers as that reader takes: five, or five to nine for the witness reader
+ *  5  the header's counts break the limits
+ *  6  J or F is not 0
+ *  7  the transition reader has fewer than 3A gate words, or it, the step or an obligation has a work slice no longer than M
+ *  8  a section line is missing, has too few or too many fields, an unreadable number or a bad initializer
+ *  9  a symbol line has the wrong form, kind or index, or names an i or l twice
+ * 10  a witness comment's first field is `MAPPING` or `INTERVENTION`
+ * 11  a literal is out of range or order, a variable is defined twice, or a model record breaks the limits or has fewer than 3A gate words
+ * 12  a step's state is 2^L or more, or its input word has a bit at I or above
+ * 13  relevant inputs or predicate: not strictly rising, out of range, over 64 clauses or 1,024 literals, pairs as in 2
+ * 14  a state is 2^L or more, an output is not below O, a list is not strictly rising, an outcome has a bit beyond the observed outputs,
+ *     or there are more than 65,536 outcomes
+ * 15  the composer's work slice is too short
+ * 16  a mapped literal is unreadable, 0, odd, or absent or of another kind in the model
+ * 17  a new composed gate would have a variable above 2,000,000
+ * 18  a shared latch gets two different next or reset literals
+ * 19  a witness has no bad and no output
+ * 20  the result needs more bytes, literals or pairs than were lent */
 #ifndef NITRASOVY_H
 #define NITRASOVY_H
 
@@ -39,7 +62,8 @@ typedef struct NitTransition {
     uint64_t and_count;
 } NitTransition;
 
-/* A model is lent as the 64-bit words of its memory: `NIT_MODEL(&model)` gives both arguments. Fewer than 213 words are no model (11). */
+/* A model is lent as the 64-bit words of its memory: `NIT_MODEL(&model)` gives both arguments. Fewer than 213 words are no model: 11, after 7
+ * for the word M. Further words are not read. */
 #define NIT_MODEL_WORDS (sizeof(NitTransition) / sizeof(uint64_t))
 #define NIT_MODEL(model) ((const uint64_t *)(const void *)(model)), ((size_t)NIT_MODEL_WORDS)
 
@@ -100,7 +124,8 @@ NitRead nit_read_transition(const uint8_t *text, size_t text_length,
                             uint64_t *gates, size_t gates_length,
                             uint64_t *work, size_t work_length);
 
-/* One step. Reasons 7, 11, 12. More than M work words are needed. */
+/* One step. Reasons 7, 11, 12. More than M work words are needed. Gates are computed in listed order: where one reads a gate that is listed
+ * later, the step may differ from what the clauses of a row say, in which each gate has its value wherever it is listed. */
 NitStepped nit_step(const uint64_t *model, size_t model_length,
                     const uint64_t *gates, size_t gates_length,
                     uint64_t *work, size_t work_length,

@@ -89,7 +89,8 @@ impl AigerTransition {
     }
 
     /// The state that follows a state under an input word, and the outputs: bit k is latch, input
-    /// or output k.
+    /// or output k. Gates are computed in their order in the list, as the original does; where one
+    /// reads a gate that is listed later, this may differ from what the clauses of a row say.
     pub fn evaluate(
         &self,
         state: usize,

@@ -67,7 +67,13 @@ pub fn compose_safety_witnesses_v1(
         return compose_safety_witnesses_in(model_bytes, &[], &vec![[0, 0]; witness_bytes.len()]);
     }
     let texts: Vec<&[u8]> = witness_bytes.iter().map(|text| clipped(text)).collect();
-    let mut buffer = Vec::with_capacity(texts.iter().map(|text| text.len()).sum());
+    let mut buffer = Vec::new();
+    if buffer
+        .try_reserve_exact(texts.iter().map(|text| text.len()).sum())
+        .is_err()
+    {
+        return Err(Refusal::NO_WORK.into());
+    }
     let mut parts = Vec::with_capacity(texts.len());
     for text in texts {
         parts.push([buffer.len(), text.len()]);

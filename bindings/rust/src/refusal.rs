@@ -13,23 +13,24 @@ const SENTENCES: [&str; 20] = [
     "a witness starts before the end of the one ahead of it, or runs past the end of the buffer",
     "the text has more than 16,777,216 bytes or a byte above 127; or, for a witness or the model of \
      a composition, it is empty, has a byte 13, or its last line is not ended by a line feed",
-    "the first line is not 'aag' and as many readable numbers as are taken",
+    "the first line is not 'aag' and as many readable numbers as are taken: five of a lock, five to \
+     nine of a witness or the model of a composition",
     "the counts in the first line do not add up, or are beyond the limits",
     "the justice or fairness count is not 0",
     "there is too little memory lent for the gates or for the work",
     "a line of a section is missing, has too few or too many fields, an unreadable number or a bad \
      initial value",
     "a symbol line has the wrong form, kind or index, or names an input or latch a second time",
-    "a comment of a witness begins with MAPPING or INTERVENTION",
+    "the first word of a witness's comment line is MAPPING or INTERVENTION",
     "a literal is out of range or order, a variable is defined twice, or the model breaks the limits",
     "the state is not one of the model's, or the input word has a bit beyond the model's inputs",
-    "the list of inputs for the predicate is not rising or names an input that the model lacks, or \
-     the predicate is too long or speaks of an input outside that list",
+    "the list of inputs for the predicate is not strictly rising or names an input that the model \
+     lacks, or the predicate is too long or speaks of an input outside that list",
     "a state or an output is not one of the model's, a list is not strictly rising, an outcome has \
      a bit beyond the observed outputs, or there are too many outcomes",
     "there is too little memory for the work of composing",
-    "a name that maps to the model ('= ' and a literal) is unreadable, or its literal is 0, odd, or \
-     not of the same kind in the model",
+    "a name that maps to the model ('= ' and a literal) is unreadable, or its literal is 0, odd, \
+     absent from the model or of another kind there",
     "the composition would have a gate with a variable above 2,000,000",
     "a latch that witnesses share gets two different next or reset literals",
     "a witness has no bad and no output",
@@ -37,6 +38,9 @@ const SENTENCES: [&str; 20] = [
 ];
 
 impl Refusal {
+    /// There is no memory for what composing needs.
+    pub(crate) const NO_WORK: Self = Self(15);
+
     /// The refusal that a reason of the library's answer stands for; none for 0, acceptance.
     pub(crate) fn of(reason: u64) -> Option<Self> {
         let number = u8::try_from(reason).unwrap_or(u8::MAX);

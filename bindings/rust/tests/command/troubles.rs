@@ -37,6 +37,8 @@ fn wrong_words() {
     let help = "--help says how it is used";
     run(&[]).trouble(&["a subcommand is missing", help]);
     run(&["check"]).trouble(&["'check' is not a subcommand", help]);
+    run(&["help", "row"]).trouble(&["'row' is one word too many", help]);
+    run(&["--version", "x"]).trouble(&["'x' is one word too many", help]);
     run(&["row"]).trouble(&["FILE is missing", "nitrasovy row --help"]);
     run(&["row", &lock]).trouble(&["SOURCE is missing"]);
     run(&["step", &lock, "0"]).trouble(&["INPUT is missing"]);

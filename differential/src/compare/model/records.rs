@@ -188,8 +188,7 @@ fn lent(run: &mut Run) {
 }
 
 /// Records of all lengths up to two words more than the whole, with the work words that they need and
-/// one less. Without gates a record may be accepted though it is cut; without outputs and with a
-/// last next literal of 0, sooner.
+/// one less. One that is cut is refused, also where the words that it lacks would be 0.
 fn words(run: &mut Run) {
     for (inputs, outputs, gates) in [
         (1, 1, 1),

@@ -148,7 +148,7 @@ fn lent(run: &mut Run) {
     }
 }
 
-/// All lengths of records: without gates and outputs a record may be accepted though it is cut.
+/// All lengths of records. One that is cut is refused, also where the words that it lacks would be 0.
 fn records(run: &mut Run) {
     let mut circuits = models(run);
     let bare = reading::circuit(b"aag 2 1 1 0 0\n2\n4 2\n", 0, 3).expect("a model");

@@ -8,7 +8,7 @@ usage: nitrasovy SUBCOMMAND [OPTIONS] FILE ...
   read       what a lock, a witness or a model has in it
   step       one step of a lock: from a state, under an input word
   row        the clauses of a claim: from this state, every input leads there
-  terminal   the clauses of a claim: in these states an output can be 0
+  terminal   the clauses of a claim: in these states alone can an output be 0
   compose    the witnesses of a model in one text
 
 nitrasovy SUBCOMMAND --help tells more and has an example. FILE is a file's name, or - for
@@ -48,6 +48,10 @@ usage: nitrasovy step [--plain] FILE STATE INPUT
   INPUT      the input word, a decimal number or 0x..; bit k is input k
   --plain    for scripts: one line, the state after the step, a space, and the outputs as a
              decimal number; bit k is output k
+
+Gates are computed in the order in which the file lists them. Where one reads a gate that is
+listed later, the step may differ from what the clauses of a row say, in which each gate has
+its value wherever it is listed.
 
 example: nitrasovy step lock.aag 1 0x1
 ";

@@ -88,12 +88,19 @@ fn run(mut words: Vec<OsString>) -> Result<(), Failure> {
         return Err(Failure::usage("", "a subcommand is missing".into()));
     }
     let first = words.remove(0);
-    match first.to_str() {
-        Some("--help" | "-h" | "help") => return output::text(help::WHOLE),
-        Some("--version" | "-V") => {
-            return output::text(concat!("nitrasovy ", env!("CARGO_PKG_VERSION"), "\n"));
-        }
-        _ => {}
+    let told = match first.to_str() {
+        Some("--help" | "-h" | "help") => Some(help::WHOLE),
+        Some("--version" | "-V") => Some(concat!("nitrasovy ", env!("CARGO_PKG_VERSION"), "\n")),
+        _ => None,
+    };
+    if let Some(text) = told {
+        return match words.first() {
+            None => output::text(text),
+            Some(word) => {
+                let what = format!("'{}' is one word too many", input::shown(word));
+                Err(Failure::usage("", what))
+            }
+        };
     }
     let Some(subcommand) = SUBCOMMANDS
         .iter()

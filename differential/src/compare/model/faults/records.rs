@@ -154,20 +154,7 @@ pub const FAULTS: &[Fault] = &[
         },
     },
     Fault {
-        name: "validate: a record of fewer than 213 words is refused",
-        group: records::WORDS.name,
-        spoil: |subject| {
-            subject.validate_words = |record, gates, work| {
-                let reason = (OURS.validate_words)(record, gates, work);
-                if reason == 0 && record.len() < 213 {
-                    return 11;
-                }
-                reason
-            };
-        },
-    },
-    Fault {
-        name: "validate: outputs that are not there are 0",
+        name: "validate: words that are not there are 0",
         group: records::WORDS.name,
         spoil: |subject| {
             subject.validate_words =
@@ -198,7 +185,7 @@ pub const FAULTS: &[Fault] = &[
         },
     },
     Fault {
-        name: "step: outputs that are not there are 0",
+        name: "step: words that are not there are 0",
         group: records::WORDS.name,
         spoil: |subject| {
             subject.step_words = |record, gates, work, state, input| {
@@ -209,7 +196,7 @@ pub const FAULTS: &[Fault] = &[
 ];
 
 /// The record with zeros for the words that are not there.
-fn filled_up(record: &[u64]) -> Vec<u64> {
+pub fn filled_up(record: &[u64]) -> Vec<u64> {
     let mut words = record.to_vec();
     words.resize(record.len().max(WORDS), 0);
     words

@@ -1,7 +1,8 @@
 //! Wrong refusals for what is lent, and numbers out of order.
 
 use super::super::{Fault, limits, random};
-use super::{OURS, refused_where};
+use super::OURS;
+use crate::compare::model::faults::records::filled_up;
 use crate::subject::obligation::{Asked, Lent, Made};
 
 pub const FAULTS: &[Fault] = &[
@@ -132,12 +133,12 @@ pub const FAULTS: &[Fault] = &[
         },
     },
     Fault {
-        name: "a record of fewer than 213 words is refused",
+        name: "words of a record that are not there are 0",
         group: limits::RECORDS.name,
         spoil: |subject| {
             subject.make = |asked, lent| {
-                let whole = asked.record.len() >= 213;
-                refused_where(!whole, 11, asked, lent)
+                let record = &filled_up(asked.record);
+                (OURS.make)(&Asked { record, ..*asked }, lent)
             };
         },
     },
