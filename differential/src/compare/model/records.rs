@@ -9,7 +9,7 @@ use crate::compare::inputs::all_words;
 use crate::compare::lent::Words;
 use crate::random::Random;
 use crate::reading::model as reading;
-use crate::subject::model::{Latch, Model};
+use crate::subject::model::{self, Latch, Model};
 
 pub const SMALL: Group = Group {
     name: "records: all literals of small ones",
@@ -310,4 +310,11 @@ pub fn changed(random: &mut Random, number: u64) -> u64 {
         4 => random.below(12) as u64,
         _ => random.wide(),
     }
+}
+
+/// The record with zeros for the words that are not there.
+pub fn filled_up(record: &[u64]) -> Vec<u64> {
+    let mut words = record.to_vec();
+    words.resize(record.len().max(model::WORDS), 0);
+    words
 }

@@ -1,9 +1,9 @@
 //! Wrong validations of records.
 
+use super::super::records::filled_up;
 use super::super::{Fault, records};
 use super::{OURS, latches_of_inputs, lenient_validate, outputs, own_operands};
 use crate::reading::model as reading;
-use crate::subject::model::WORDS;
 
 pub const FAULTS: &[Fault] = &[
     Fault {
@@ -194,10 +194,3 @@ pub const FAULTS: &[Fault] = &[
         },
     },
 ];
-
-/// The record with zeros for the words that are not there.
-pub fn filled_up(record: &[u64]) -> Vec<u64> {
-    let mut words = record.to_vec();
-    words.resize(record.len().max(WORDS), 0);
-    words
-}

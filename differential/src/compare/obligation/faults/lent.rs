@@ -2,7 +2,7 @@
 
 use super::super::{Fault, limits, random};
 use super::OURS;
-use crate::compare::model::faults::records::filled_up;
+use crate::compare::model::records::filled_up;
 use crate::subject::obligation::{Asked, Lent, Made};
 
 pub const FAULTS: &[Fault] = &[
