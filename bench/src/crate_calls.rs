@@ -32,7 +32,7 @@ pub fn measure(table: &Table) {
     }
     table.head("through the Rust crate, composing", Unit::Gates);
     for call in compose_texts::of_gates() {
-        let name = format!("crate compose: {}", call.name);
+        let name = format!("crate {}", call.name);
         if call.reason == 0 && table.wants(&name) {
             table.row(&name, call.gates, &compose(&(call.make)()));
         }
