@@ -16,13 +16,13 @@ use Rattle.lists.proofs.BoolLaws.{below-or}
 use Rattle.lists.proofs.PairLaws.{pair-rest, no-pair, order-none}
 use Rattle.witness_text.specs.declared.AagCounts.{AagCounts}
 use Rattle.text.specs.Texts.{limited}
-use Rattle.witness.specs.Reading.{readAag, countsIn}
-use Rattle.witness.specs.Sections.{Sections}
-use Rattle.composition.specs.Composing.{orOutputs, safety, isSome}
-use Rattle.composition.specs.Calling.{readAll, textsIn}
-use Rattle.gathering.specs.Counts.{countsAt, CountsListed}
-use Rattle.gathering.specs.Gathered.{Readable}
-use Rattle.gathering.proofs.TextLaws.{FirstRead, first-read, none-read, left-more, left-none}
+use Rattle.witness_read.specs.Reading.{readAag, countsIn}
+use Rattle.witness_read.specs.Sections.{Sections}
+use Rattle.compose_spec.specs.Composing.{orOutputs, safety, isSome}
+use Rattle.compose_spec.specs.Calling.{readAll, textsIn}
+use Rattle.compose_gather.specs.Counts.{countsAt, CountsListed}
+use Rattle.compose_gather.specs.Gathered.{Readable}
+use Rattle.compose_gather.proofs.TextLaws.{FirstRead, first-read, none-read, left-more, left-none}
 use Rattle.compose.specs.declared.PartEnd.{PartEnd}
 use Rattle.compose.specs.declared.PartEnd.the-variants as parts
 use Rattle.compose.specs.Steps.{partEnd, firstRoom, allSafe, TestsSafety}

@@ -11,21 +11,21 @@ use Rattle.lists.specs.Answer.{Answer, got, refused, andThen}
 use Rattle.lists.specs.Parts.{Bytes}
 use Rattle.lists.specs.Tests.{all}
 use Rattle.witness_text.specs.declared.AagCounts.{AagCounts}
-use Rattle.witness.specs.Sections.{Sections, variables}
-use Rattle.witness.specs.Reading.{countsIn}
-use Rattle.composition.specs.Composing.{mapsRight, compose}
-use Rattle.composition.specs.Calling.{size, sizes, readAll, composeSections, textsIn, composeRead}
-use Rattle.joint.specs.Joint.{totalOf, inputCount, latchCount, gateCount}
-use Rattle.gathering.specs.declared.Totals.{Totals}
-use Rattle.gathering.specs.declared.Checked.{Checked}
-use Rattle.gathering.specs.declared.Checked.the-variants as checked
-use Rattle.gathering.specs.Counts.{CountsListed, ChecksAll}
-use Rattle.gathering.specs.Checking.{addedCounts, SmallSums, totalsFrom, checkedFrom, noneYet}
-use Rattle.laying.specs.declared.Places.{Places}
-use Rattle.laying.specs.declared.Laid.{Laid}
-use Rattle.laying.specs.declared.Laid.the-variants as laid
-use Rattle.laying.specs.Laid.{Fitting, LaidOut, CanLay, Lays}
-use Rattle.laying.proofs.StageLaws.{fitting-same}
+use Rattle.witness_read.specs.Sections.{Sections, variables}
+use Rattle.witness_read.specs.Reading.{countsIn}
+use Rattle.compose_spec.specs.Composing.{mapsRight, compose}
+use Rattle.compose_spec.specs.Calling.{size, sizes, readAll, composeSections, textsIn, composeRead}
+use Rattle.compose_joint.specs.Joint.{totalOf, inputCount, latchCount, gateCount}
+use Rattle.compose_gather.specs.declared.Totals.{Totals}
+use Rattle.compose_gather.specs.declared.Checked.{Checked}
+use Rattle.compose_gather.specs.declared.Checked.the-variants as checked
+use Rattle.compose_gather.specs.Counts.{CountsListed, ChecksAll}
+use Rattle.compose_gather.specs.Checking.{addedCounts, SmallSums, totalsFrom, checkedFrom, noneYet}
+use Rattle.compose_layout.specs.declared.Places.{Places}
+use Rattle.compose_layout.specs.declared.Laid.{Laid}
+use Rattle.compose_layout.specs.declared.Laid.the-variants as laid
+use Rattle.compose_layout.specs.Laid.{Fitting, LaidOut, CanLay, Lays}
+use Rattle.compose_layout.proofs.StageLaws.{fitting-same}
 use Rattle.compose.specs.declared.Composed.{Composed}
 use Rattle.compose.specs.declared.Composed.the-variants as composed
 use Rattle.compose.specs.Steps.{firstRoom, roomBeside, Answers, ModelIs, ModelSome, ComposesWitnesses, ComposesFitting, LaidRight, LaidSome, ComposesLaid}

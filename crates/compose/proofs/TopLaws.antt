@@ -15,15 +15,15 @@ use Rattle.lists.proofs.WordLaws.{pairs-count}
 use Rattle.text.specs.Texts.{limited}
 use Rattle.witness_text.specs.declared.AagCounts.{AagCounts}
 use Rattle.witness_text.proofs.CountLaws.{counted-facts}
-use Rattle.witness.specs.declared.ReadAag.{ReadAag}
-use Rattle.witness.specs.declared.ReadAag.the-variants as read
-use Rattle.witness.specs.Sections.{Sections}
-use Rattle.witness.specs.Reading.{readAag, countsIn, countsRead}
-use Rattle.witness.proofs.AcceptedLaws.{read-accepted, read-got, read-refused}
-use Rattle.composition.specs.Calling.{readAll, composeTexts, textsIn, composeCall, composeRead}
-use Rattle.composition.specs.Meaning.{Composition}
-use Rattle.composition.proofs.DemandLaws.{composition-means}
-use Rattle.gathering.specs.Checking.{FewInOrder}
+use Rattle.witness_read.specs.declared.ReadAag.{ReadAag}
+use Rattle.witness_read.specs.declared.ReadAag.the-variants as read
+use Rattle.witness_read.specs.Sections.{Sections}
+use Rattle.witness_read.specs.Reading.{readAag, countsIn, countsRead}
+use Rattle.witness_read.proofs.AcceptedLaws.{read-accepted, read-got, read-refused}
+use Rattle.compose_spec.specs.Calling.{readAll, composeTexts, textsIn, composeCall, composeRead}
+use Rattle.compose_spec.specs.Meaning.{Composition}
+use Rattle.compose_spec.proofs.DemandLaws.{composition-means}
+use Rattle.compose_gather.specs.Checking.{FewInOrder}
 use Rattle.compose.specs.declared.Composed.{Composed}
 use Rattle.compose.specs.declared.Composed.the-variants as composed
 use Rattle.compose.specs.Promise.{composedAnswer, resultBytes, Composes}

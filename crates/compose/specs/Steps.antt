@@ -9,19 +9,19 @@ use Rattle.lists.specs.Answer.{Answer, andThen}
 use Rattle.lists.specs.Parts.{Bytes}
 use Rattle.lists.specs.Tests.{all}
 use Rattle.witness_text.specs.declared.AagCounts.{AagCounts}
-use Rattle.witness.specs.Sections.{Sections, variables}
-use Rattle.witness.specs.Reading.{countsIn}
-use Rattle.composition.specs.Composing.{isSome, safety, mapsRight, composed}
-use Rattle.composition.specs.Printing.{printed}
-use Rattle.composition.specs.Calling.{readAll, composeSections, textsIn, composeRead, printedWithin}
-use Rattle.gathering.specs.declared.Totals.{Totals}
-use Rattle.gathering.specs.Checking.{FewInOrder}
-use Rattle.gathering.specs.Gathered.{Readable}
-use Rattle.laying.specs.declared.Places.{Places}
-use Rattle.laying.specs.Laid.{Fitting, Ready, Some}
-use Rattle.printing.specs.Prints.{capped}
-use Rattle.merging.specs.declared.Merged.{Merged}
-use Rattle.writing.specs.Written.{Printable}
+use Rattle.witness_read.specs.Sections.{Sections, variables}
+use Rattle.witness_read.specs.Reading.{countsIn}
+use Rattle.compose_spec.specs.Composing.{isSome, safety, mapsRight, composed}
+use Rattle.compose_spec.specs.Printing.{printed}
+use Rattle.compose_spec.specs.Calling.{readAll, composeSections, textsIn, composeRead, printedWithin}
+use Rattle.compose_gather.specs.declared.Totals.{Totals}
+use Rattle.compose_gather.specs.Checking.{FewInOrder}
+use Rattle.compose_gather.specs.Gathered.{Readable}
+use Rattle.compose_layout.specs.declared.Places.{Places}
+use Rattle.compose_layout.specs.Laid.{Fitting, Ready, Some}
+use Rattle.text_print.specs.Prints.{capped}
+use Rattle.compose_merge.specs.declared.Merged.{Merged}
+use Rattle.compose_print.specs.Written.{Printable}
 use Rattle.compose.specs.declared.Composed.{Composed}
 use Rattle.compose.specs.declared.PartEnd.{PartEnd}
 use Rattle.compose.specs.declared.PartEnd.the-variants as part

@@ -3,20 +3,20 @@ ghost use mathlib.Core.Path.{_≡_};
 ghost use lib.ListN.{length, getD};
 ghost use Prim.Native.Nat.{_+_, _*_, _<_};
 ghost use Rattle.lists.specs.Words.{inOrder};
-ghost use Rattle.composition.specs.Calling.{textsIn, composeTexts, composeCall};
-ghost use Rattle.gathering.specs.Checking.{FewInOrder, SmallSums, noneYet};
-ghost use Rattle.gathering.specs.Counts.{CountsListed};
-ghost use Rattle.laying.specs.Laid.{CanLay};
-ghost use Rattle.writing.specs.Written.{PrintableSome};
+ghost use Rattle.compose_spec.specs.Calling.{textsIn, composeTexts, composeCall};
+ghost use Rattle.compose_gather.specs.Checking.{FewInOrder, SmallSums, noneYet};
+ghost use Rattle.compose_gather.specs.Counts.{CountsListed};
+ghost use Rattle.compose_layout.specs.Laid.{CanLay};
+ghost use Rattle.compose_print.specs.Written.{PrintableSome};
 ghost use Rattle.compose.specs.Promise.{Composes};
 ghost use Rattle.compose.specs.Steps.{partEnd, firstRoom, TestsSafety, roomBeside, Answers, Measures, Writes, LaidSome, ComposesLaid, ComposesFitting, ModelSome, ComposesWitnesses};
-use gathering::Checked;
-use gathering::Totals;
-use laying::Laid;
-use laying::Places;
-use merging::Merged;
-use merging::Merging;
-use witness::ReadAag;
+use compose_gather::Checked;
+use compose_gather::Totals;
+use compose_layout::Laid;
+use compose_layout::Places;
+use compose_merge::Merged;
+use compose_merge::Merging;
+use witness_read::ReadAag;
 use witness_text::AagCounts;
 
 // How many bytes the composed text has, or the number of the reason.
@@ -93,7 +93,7 @@ fn all_safe(witnesses: &[u8], pairs: &[u64], counts: &[u64]) -> bool
     let count = pairs.len() / 2;
     let mut w = 0;
     while w < count {
-        let n = gathering::counts::counts_at(counts, w);
+        let n = compose_gather::counts::counts_at(counts, w);
         if n.bads == 0 {
             if n.outputs == 0 {
                 return false;
@@ -121,7 +121,7 @@ fn measure(
     requires { ⌜ CountsListed (now witnesses) (now pairs) (now counts) ⌝ }
     ensures { λ r. ⌜ Measures (now (witnesses .entry)) (now (pairs .entry)) (now (work .entry)) at c t (now (out .entry)) (now (out .exit)) r ⌝ }
 {
-    writing::print_composition(&mut out[..0], witnesses, pairs, counts, work, at, c, t)
+    compose_print::print_composition(&mut out[..0], witnesses, pairs, counts, work, at, c, t)
 }
 
 // The text of a merged composition, where it fits.
@@ -143,7 +143,7 @@ fn write_merged(
     if out.len() < size {
         return Composed::Refused(20);
     }
-    let end = writing::print_composition(out, witnesses, pairs, counts, work, at, c, t);
+    let end = compose_print::print_composition(out, witnesses, pairs, counts, work, at, c, t);
     Composed::Got(end)
 }
 
@@ -162,7 +162,7 @@ fn compose_laid(
     requires { ⌜ CountsListed (now witnesses) (now pairs) (now counts) ⌝ }
     ensures { λ r. ⌜ ComposesLaid m t (now (witnesses .entry)) (now (pairs .entry)) (now (work .entry)) at (now (out .entry)) (now (out .exit)) r ⌝ }
 {
-    let merged = merging::merge(work, at, m, t);
+    let merged = compose_merge::merge(work, at, m, t);
     match merged {
         Merging::Refused(reason) => Composed::Refused(reason),
         Merging::Done(c) => {
@@ -188,7 +188,7 @@ fn compose_fitting(
     requires { ⌜ CountsListed (now witnesses) (now pairs) (now counts) ⌝ }
     ensures { λ r. ⌜ ComposesFitting m t (now (witnesses .entry)) (now (pairs .entry)) (now (work .entry)) (now (out .entry)) (now (out .exit)) r ⌝ }
 {
-    let laid = laying::lay(witnesses, pairs, counts, work, m, t);
+    let laid = compose_layout::lay(witnesses, pairs, counts, work, m, t);
     match laid {
         Laid::Wrong => Composed::Refused(16),
         Laid::At(at) => compose_laid(witnesses, pairs, counts, work, m, t, at, out),
@@ -206,7 +206,7 @@ fn room_beside(m: AagCounts, words: usize) -> usize
         latches: 0,
         gates: 0,
     };
-    let t = gathering::add_counts(none, m);
+    let t = compose_gather::add_counts(none, m);
     t.room
 }
 
@@ -224,7 +224,7 @@ fn compose_witnesses(
     let room = room_beside(m, work.len());
     // nine for each of at most 64 witnesses
     let mut counts: [u64; 576] = [0; 576];
-    let checked = gathering::check_all(witnesses, pairs, room, &mut counts);
+    let checked = compose_gather::check_all(witnesses, pairs, room, &mut counts);
     match checked {
         Checked::Refused(reason) => Composed::Refused(reason),
         Checked::Read(t) => {
@@ -247,7 +247,7 @@ fn compose_texts(
     requires { ⌜ FewInOrder (now witnesses) (now pairs) ⌝ }
     ensures { λ r. ⌜ Answers (now (out .entry)) (composeTexts (length (now (work .entry))) (length (now (out .entry))) (now (model .entry)) (textsIn (now (witnesses .entry)) (now (pairs .entry)))) (now (out .exit)) r ⌝ }
 {
-    match witness::parse_aag(model, false) {
+    match witness_read::parse_aag(model, false) {
         ReadAag::Refused(reason) => Composed::Refused(reason),
         ReadAag::Got(m) => compose_witnesses(witnesses, pairs, work, m, out),
     }

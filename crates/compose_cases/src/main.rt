@@ -1,13 +1,13 @@
 // Runs the composer on 01's composing case and on its neighbours; what they must print is in the file `stdout`.
 use compose::Composed;
-use decimal::Written;
+use text_decimal::Written;
 use libc::STDOUT_FILENO;
 
 // Prints `refused`, the number and byte 10.
 fn print_refused(reason: u64) {
     let mut line = [0u8; 32];
     io::write_all(STDOUT_FILENO, b"refused ");
-    let Written::Next(size) = decimal::write_decimal(&mut line, 0, reason) else {
+    let Written::Next(size) = text_decimal::write_decimal(&mut line, 0, reason) else {
         return;
     };
     if size <= 32 {

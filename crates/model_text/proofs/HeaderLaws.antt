@@ -12,14 +12,14 @@ use Rattle.text.specs.declared.Cursor.{Cursor}
 use Rattle.text.specs.declared.Reader.the-variants.{Transition}
 use Rattle.text.specs.Lines.{linesOf}
 use Rattle.model.specs.declared.Counts.{Counts}
-use Rattle.sections.specs.declared.Header.{Header}
-use Rattle.sections.specs.SectionLines.{firstNumbers}
-use Rattle.sections.specs.Inner.{atMost}
-use Rattle.sections.specs.Places.{Headed, TakesHeader}
-use Rattle.sections.proofs.NumbersLaws.{stored-all, stored-length}
+use Rattle.circuit_lines.specs.declared.Header.{Header}
+use Rattle.circuit_lines.specs.SectionLines.{firstNumbers}
+use Rattle.circuit_lines.specs.Inner.{atMost}
+use Rattle.circuit_lines.specs.Places.{Headed, TakesHeader}
+use Rattle.circuit_lines.proofs.NumbersLaws.{stored-all, stored-length}
 use Rattle.model_text.specs.Header.{countsFrom, fiveCounts, headerOf}
 use Rattle.model_text.specs.Places.{TakesCounts}
-use Rattle.sections.specs.declared.Header.the-variants as numbers
+use Rattle.circuit_lines.specs.declared.Header.the-variants as numbers
 use Rattle.model_text.specs.declared.Header.the-variants as header
 
 -- ---- counts_of

@@ -26,7 +26,7 @@ use Rattle.model_text.specs.declared.ReadLatch.{ReadLatch}
 use Rattle.model_text.specs.ModelLines.{isNumber, initializer, latchFields, latchLine}
 use Rattle.model_text.specs.Places.{TakesLatch}
 use Rattle.model_text.specs.Inner.{latchAnswer, initializers}
-use Rattle.sections.proofs.PlaceLaws.{one-none, one-bad, one-got}
+use Rattle.circuit_lines.proofs.PlaceLaws.{one-none, one-bad, one-got}
 use Rattle.text.specs.declared.Line.the-variants as line
 use Rattle.text.specs.declared.Field.the-variants as field
 use Rattle.text.specs.declared.Taken.the-variants as taken

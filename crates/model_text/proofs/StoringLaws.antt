@@ -9,11 +9,11 @@ use Rattle.text.specs.declared.Cursor.{Cursor}
 use Rattle.aiger.proofs.SectionLaws.{Storing, storing-none, storing-more, storing-bad, storing-done}
 use Rattle.model.specs.declared.AigerLatch.{AigerLatch}
 use Rattle.model.specs.Circuit.{noLatch}
-use Rattle.sections.specs.Places.{linesFrom}
+use Rattle.circuit_lines.specs.Places.{linesFrom}
 use Rattle.model_text.specs.declared.TakenLatch.{TakenLatch}
 use Rattle.model_text.specs.ModelLines.{latchLine}
 use Rattle.model_text.specs.Places.{TakesLatch, TakesLatches}
-use Rattle.sections.specs.declared.Place.the-variants as place
+use Rattle.circuit_lines.specs.declared.Place.the-variants as place
 use Rattle.model_text.specs.declared.TakenLatch.the-variants as latch
 
 -- the first i latches of n lines are stored in o; the next line is at the cursor p

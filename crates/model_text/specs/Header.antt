@@ -7,7 +7,7 @@ use lib.ListN.{length, getD}
 use Rattle.lists.specs.Answer.{Answer, got, refused, unless}
 use Rattle.lists.specs.Parts.{Bytes}
 use Rattle.text.specs.declared.Reader.the-variants.{Transition}
-use Rattle.sections.specs.SectionLines.{firstNumbers}
+use Rattle.circuit_lines.specs.SectionLines.{firstNumbers}
 use Rattle.model.specs.declared.Counts.{Counts}
 
 -- the counts M I L O A in their order

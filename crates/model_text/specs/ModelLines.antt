@@ -12,7 +12,7 @@ use Rattle.text.specs.declared.Reader.the-variants.{Transition}
 use Rattle.text.specs.Numbers.{numberOf}
 use Rattle.text.specs.Fields.{fieldsOf}
 use Rattle.model.specs.declared.AigerLatch.{AigerLatch}
-use Rattle.sections.specs.SectionLines.{readable}
+use Rattle.circuit_lines.specs.SectionLines.{readable}
 
 -- the number is n
 abbrev pub isNumber : Number → ℕ → Bool

@@ -10,8 +10,8 @@ use Rattle.text.specs.Lines.{linesOf}
 use Rattle.model.specs.declared.AigerLatch.{AigerLatch}
 use Rattle.model.specs.declared.Counts.{Counts}
 use Rattle.model.specs.Circuit.{noLatch}
-use Rattle.sections.specs.declared.Place.the-variants as place
-use Rattle.sections.specs.Places.{linesFrom, Takes}
+use Rattle.circuit_lines.specs.declared.Place.the-variants as place
+use Rattle.circuit_lines.specs.Places.{linesFrom, Takes}
 use Rattle.model_text.specs.declared.TakenLatch.{TakenLatch}
 use Rattle.model_text.specs.declared.TakenLatch.the-variants as latch
 use Rattle.model_text.specs.declared.TakenLatches.{TakenLatches}

@@ -9,7 +9,7 @@ ghost use Rattle.model_text.specs.Places.{TakesCounts, TakesLatch, Takes
 ghost use Rattle.model_text.specs.Inner.{latchAnswer, initializers};
 use model::AigerLatch;
 use model::Counts;
-use sections::Place;
+use circuit_lines::Place;
 use text::Cursor;
 use text::Field;
 use text::Line;
@@ -56,7 +56,7 @@ pub fn take_header(s: &[u8]) -> Header
     ensures { λ r. ⌜ TakesCounts (now (s .entry)) r ⌝ }
 {
     let mut ns: [u64; 5] = [0; 5];
-    let sections::Header::Got { count, next } = sections::take_header(
+    let circuit_lines::Header::Got { count, next } = circuit_lines::take_header(
         Reader::Transition,
         s,
         &mut ns,

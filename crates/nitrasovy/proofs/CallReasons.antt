@@ -13,32 +13,32 @@ use Rattle.lists.specs.Words.{inOrder}
 use Rattle.text.specs.declared.Reader.the-variants.{Transition, Witness}
 use Rattle.text.specs.Lines.{linesOf}
 use Rattle.text.specs.Texts.{limited, goodText}
-use Rattle.sections.specs.SectionLines.{firstNumbers}
+use Rattle.circuit_lines.specs.SectionLines.{firstNumbers}
 use Rattle.model.specs.declared.AigerTransition.{AigerTransition}
 use Rattle.model.specs.declared.Counts.{Counts}
 use Rattle.model.specs.Circuit.{circuitOf}
 use Rattle.model.specs.Limits.{counted, wellDefined}
 use Rattle.model.specs.Checked.{countsOf, checked}
 use Rattle.model_text.specs.Header as modelHeader
-use Rattle.transition.specs.Reading as transition
-use Rattle.transition.specs.Reading.{readTransition}
-use Rattle.step.specs.Step.{stepValues, outcomeUnder, stepOf}
-use Rattle.completeness.specs.Limits.{bounded, isState, statesClaimed, outcomesClaimed}
-use Rattle.completeness.specs.Lists.{outcomesOf, relationClauses, transducerClauses, terminalClauses}
-use Rattle.completeness.specs.Calls.{Asked, Lent, predicate, asked, within, relationRow, transducerRow, terminalList}
+use Rattle.model_read.specs.Reading as transition
+use Rattle.model_read.specs.Reading.{readTransition}
+use Rattle.model_step.specs.Step.{stepValues, outcomeUnder, stepOf}
+use Rattle.obligation_spec.specs.Limits.{bounded, isState, statesClaimed, outcomesClaimed}
+use Rattle.obligation_spec.specs.Lists.{outcomesOf, relationClauses, transducerClauses, terminalClauses}
+use Rattle.obligation_spec.specs.Calls.{Asked, Lent, predicate, asked, within, relationRow, transducerRow, terminalList}
 use Rattle.cnf.specs.Clauses.{Clause, literalsOf}
 use Rattle.witness_text.specs.declared.AagCounts.{AagCounts}
 use Rattle.witness_text.specs.Header as witnessHeader
-use Rattle.witness.specs.Names.{tailOf, namedOnce, symbolsOf}
-use Rattle.witness.proofs.TailLaws.{tail-only}
-use Rattle.witness.specs.Comments.{plainComments}
-use Rattle.witness.specs.Order.{bodyOf, wellNumbered}
-use Rattle.witness.specs.Sections.{Sections}
-use Rattle.witness.specs.Reading.{sectionsFrom, sectionsOf, readAag}
-use Rattle.composition.specs.Numbering.{leafCount}
-use Rattle.composition.specs.Composing.{mapsRight, composedGates, whole, gatesFit, allDefined, agree, safety, isSome, composed, compose}
-use Rattle.composition.specs.Printing.{printed}
-use Rattle.composition.specs.Calling.{readAll, sizes, textsIn, composeCall}
+use Rattle.witness_read.specs.Names.{tailOf, namedOnce, symbolsOf}
+use Rattle.witness_read.proofs.TailLaws.{tail-only}
+use Rattle.witness_read.specs.Comments.{plainComments}
+use Rattle.witness_read.specs.Order.{bodyOf, wellNumbered}
+use Rattle.witness_read.specs.Sections.{Sections}
+use Rattle.witness_read.specs.Reading.{sectionsFrom, sectionsOf, readAag}
+use Rattle.compose_spec.specs.Numbering.{leafCount}
+use Rattle.compose_spec.specs.Composing.{mapsRight, composedGates, whole, gatesFit, allDefined, agree, safety, isSome, composed, compose}
+use Rattle.compose_spec.specs.Printing.{printed}
+use Rattle.compose_spec.specs.Calling.{readAll, sizes, textsIn, composeCall}
 use Rattle.nitrasovy.specs.Reasons.{readReasons, stepReasons, madeReasons, witnessReasons, composeReasons, Among}
 use Rattle.nitrasovy.proofs.ReasonLaws.{Has, among-got, among-refused, among-unless, among-only, among-then, sections-among, body-among}
 

@@ -5,7 +5,7 @@ use mathlib.Core.Path.{_≡_, refl, sym, ap, _∙_}
 use lib.ListN.{length}
 use Rattle.lists.specs.Answer.{Answer, got, refused}
 use Rattle.lists.specs.Parts.{Bytes}
-use Rattle.composition.specs.Calling.{composeCall}
+use Rattle.compose_spec.specs.Calling.{composeCall}
 use Rattle.compose.specs.declared.Composed.{Composed}
 use Rattle.compose.specs.declared.Composed.the-variants as composed
 use Rattle.compose.specs.Promise.{composedAnswer, Composes}

@@ -6,3 +6,4 @@ pub mod WitnessLaws
 pub mod MadeLaws
 pub mod ComposedLaws
 pub mod Examples
+pub mod Table

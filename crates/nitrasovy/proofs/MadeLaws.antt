@@ -10,10 +10,10 @@ use Rattle.model.specs.declared.AigerLatch.{AigerLatch}
 use Rattle.model.specs.declared.Counts.{Counts}
 use Rattle.model.specs.Circuit.{recordFrom}
 use Rattle.model.specs.RecordWords.{countsIn, latchesIn, recordIn}
-use Rattle.completeness.specs.Lists.{outcomesOf}
-use Rattle.completeness.specs.Calls.{Asked, circuit, predicate}
-use Rattle.boundary.specs.Boundary.{askedOf}
-use Rattle.completeness.specs.Meaning.{RowMeans, TerminalMeans, ToTarget, ToOutcome}
+use Rattle.obligation_spec.specs.Lists.{outcomesOf}
+use Rattle.obligation_spec.specs.Calls.{Asked, circuit, predicate}
+use Rattle.obligation_check.specs.Boundary.{askedOf}
+use Rattle.obligation_spec.specs.Meaning.{RowMeans, TerminalMeans, ToTarget, ToOutcome}
 use Rattle.obligation.specs.declared.Made.{Made}
 use Rattle.obligation.specs.Promise.{answerOf, sizes, Buffers, lentOf, Makes, clausesAfter, MakesRelation, MakesTransducer, MakesTerminal}
 use Rattle.nitrasovy.specs.declared.obligations.NitMade.{NitMade}

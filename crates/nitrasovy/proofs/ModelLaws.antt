@@ -10,10 +10,10 @@ use Rattle.model.specs.declared.AigerTransition.{AigerTransition}
 use Rattle.model.specs.declared.Counts.{Counts}
 use Rattle.model.specs.Circuit.{Circuit, recordFrom}
 use Rattle.model.specs.RecordWords.{countsIn, latchesIn, recordIn}
-use Rattle.transition.specs.declared.ReadTransition.{ReadTransition}
-use Rattle.transition.specs.Reading.{readTransition, readOf, Reads}
-use Rattle.step.specs.declared.Stepped.{Stepped}
-use Rattle.step.specs.Step.{stepOf, answerOf}
+use Rattle.model_read.specs.declared.ReadTransition.{ReadTransition}
+use Rattle.model_read.specs.Reading.{readTransition, readOf, Reads}
+use Rattle.model_step.specs.declared.Stepped.{Stepped}
+use Rattle.model_step.specs.Step.{stepOf, answerOf}
 use Rattle.nitrasovy.specs.declared.models.NitRead.{NitRead}
 use Rattle.nitrasovy.specs.declared.models.NitStepped.{NitStepped}
 use Rattle.nitrasovy.specs.Inner.{reasonOf}

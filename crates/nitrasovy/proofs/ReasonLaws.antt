@@ -18,13 +18,13 @@ use Rattle.text.specs.Fields.{fieldsOf}
 use Rattle.text.specs.Literals.{numbersOf, literalOf}
 use Rattle.text.specs.Numbers.{numberOf}
 use Rattle.aiger.specs.Sections.{section}
-use Rattle.sections.specs.SectionLines.{readable, literalLine, gateNumbers, gateLine}
+use Rattle.circuit_lines.specs.SectionLines.{readable, literalLine, gateNumbers, gateLine}
 use Rattle.model.specs.declared.Counts.{Counts}
 use Rattle.model_text.specs.ModelLines as modelLines
-use Rattle.transition.specs.Reading.{sectionsOf}
+use Rattle.model_read.specs.Reading.{sectionsOf}
 use Rattle.witness_text.specs.declared.AagCounts.{AagCounts}
 use Rattle.witness_text.specs.LatchLines as witnessLines
-use Rattle.witness.specs.Order.{bodyOf}
+use Rattle.witness_read.specs.Order.{bodyOf}
 use Rattle.nitrasovy.specs.Reasons.{Among}
 
 -- n is one of the numbers

@@ -4,9 +4,9 @@ use mathlib.Core.Path.{_≡_, refl, ap, _∙_}
 use Rattle.lists.specs.Answer.{Answer, got, refused}
 use Rattle.lists.specs.Parts.{Bytes}
 use Rattle.text.specs.Texts.{limited}
-use Rattle.witness.specs.declared.ReadAag.{ReadAag}
-use Rattle.witness.specs.Sections.{Sections}
-use Rattle.witness.specs.Reading.{readAag, countsRead}
+use Rattle.witness_read.specs.declared.ReadAag.{ReadAag}
+use Rattle.witness_read.specs.Sections.{Sections}
+use Rattle.witness_read.specs.Reading.{readAag, countsRead}
 use Rattle.nitrasovy.specs.declared.witnesses.NitWitness.{NitWitness}
 use Rattle.nitrasovy.specs.Inner.{flatCounts}
 use Rattle.nitrasovy.specs.FlatWitnesses.{flatWitness, CountsFlat}

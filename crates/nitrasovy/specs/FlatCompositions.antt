@@ -5,8 +5,8 @@ use mathlib.Core.Path.{_≡_}
 use lib.ListN.{length, take}
 use Rattle.lists.specs.Answer.{Answer, got, refused}
 use Rattle.lists.specs.Parts.{Bytes, zeros}
-use Rattle.composition.specs.Calling.{textsIn, composeCall}
-use Rattle.composition.specs.Meaning.{Composition}
+use Rattle.compose_spec.specs.Calling.{textsIn, composeCall}
+use Rattle.compose_spec.specs.Meaning.{Composition}
 use Rattle.compose.specs.Promise.{resultBytes}
 use Rattle.nitrasovy.specs.declared.compositions.NitComposed.{NitComposed}
 use Rattle.nitrasovy.specs.Reasons.{composeReasons, Among}

@@ -6,8 +6,8 @@ use lib.ListN.{length}
 use Rattle.lists.specs.Answer.{Answer, got, refused}
 use Rattle.lists.specs.Parts.{zeros}
 use Rattle.model.specs.Circuit.{Circuit, recordOf, noCircuit}
-use Rattle.transition.specs.Reading.{gatesAfter}
-use Rattle.step.specs.declared.Outcome.{Outcome}
+use Rattle.model_read.specs.Reading.{gatesAfter}
+use Rattle.model_step.specs.declared.Outcome.{Outcome}
 use Rattle.nitrasovy.specs.declared.models.NitRead.{NitRead}
 use Rattle.nitrasovy.specs.declared.models.NitStepped.{NitStepped}
 use Rattle.nitrasovy.specs.Reasons.{readReasons, stepReasons, Among}

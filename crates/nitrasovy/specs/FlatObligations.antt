@@ -6,9 +6,9 @@ use lib.ListN.{length}
 use Rattle.lists.specs.Answer.{Answer, got, refused}
 use Rattle.lists.specs.Parts.{zeros}
 use Rattle.cnf.specs.Clauses.{Clause, literalsOf, returned}
-use Rattle.completeness.specs.Lists.{outcomesOf}
-use Rattle.completeness.specs.Calls.{Asked, circuit, predicate, relationRow, transducerRow, terminalList}
-use Rattle.completeness.specs.Meaning.{RowMeans, TerminalMeans, ToTarget, ToOutcome}
+use Rattle.obligation_spec.specs.Lists.{outcomesOf}
+use Rattle.obligation_spec.specs.Calls.{Asked, circuit, predicate, relationRow, transducerRow, terminalList}
+use Rattle.obligation_spec.specs.Meaning.{RowMeans, TerminalMeans, ToTarget, ToOutcome}
 use Rattle.obligation.specs.Promise.{pairsAfter, literalsAfter, Buffers, lentOf}
 use Rattle.nitrasovy.specs.declared.obligations.NitMade.{NitMade}
 use Rattle.nitrasovy.specs.Reasons.{madeReasons, Among}

@@ -2,7 +2,7 @@
 use mathlib.Core.Path.{_≡_}
 use lib.ListN.{length}
 use Rattle.lists.specs.Answer.{Answer, got, refused}
-use Rattle.witness.specs.Sections.{Sections, variables}
+use Rattle.witness_read.specs.Sections.{Sections, variables}
 use Rattle.nitrasovy.specs.declared.witnesses.NitWitness.{NitWitness}
 use Rattle.nitrasovy.specs.Reasons.{witnessReasons, Among}
 

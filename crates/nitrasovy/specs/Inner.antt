@@ -5,8 +5,8 @@ use Rattle.text.specs.declared.Literal.{Literal}
 use Rattle.model.specs.declared.Verdict.{Verdict}
 use Rattle.model.specs.declared.Verdict.the-variants as verdict
 use Rattle.cnf.specs.declared.Table.{Table}
-use Rattle.witness.specs.declared.ReadAag.{ReadAag}
-use Rattle.witness.specs.declared.ReadAag.the-variants as read
+use Rattle.witness_read.specs.declared.ReadAag.{ReadAag}
+use Rattle.witness_read.specs.declared.ReadAag.the-variants as read
 use Rattle.compose.specs.declared.Composed.{Composed}
 use Rattle.compose.specs.declared.Composed.the-variants as composed
 use Rattle.nitrasovy.specs.declared.literals.Moved.{Moved}

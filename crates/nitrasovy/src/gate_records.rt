@@ -3,7 +3,7 @@ ghost use lib.ListN.{length};
 ghost use Rattle.lists.specs.Words.{wordsOf};
 ghost use Rattle.aiger.specs.Gates.{gateWords};
 ghost use Rattle.model.specs.RecordWords.{recordIn};
-ghost use Rattle.step.specs.Step.{stepOf};
+ghost use Rattle.model_step.specs.Step.{stepOf};
 ghost use Rattle.nitrasovy.specs.FlatModels.{StepsFlat};
 use crate::models;
 use crate::models::NitStepped;
@@ -20,6 +20,6 @@ pub extern "C" fn nit_step_records(
 ) -> NitStepped
     ensures { λ r. ⌜ StepsFlat (stepOf (recordIn (now (model .entry))) (wordsOf gateWords (now (gates .entry))) (length (now (work .entry))) state input) (now (work .entry)) r (now (work .exit)) ⌝ }
 {
-    let stepped = records::evaluate_records(model, gates, work, state, input);
+    let stepped = model_step_records::evaluate_records(model, gates, work, state, input);
     models::flat_stepped(stepped)
 }

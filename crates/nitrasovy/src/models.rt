@@ -2,14 +2,14 @@
 ghost use mathlib.Core.Path.{_≡_};
 ghost use lib.ListN.{length};
 ghost use Rattle.model.specs.RecordWords.{recordIn};
-ghost use Rattle.transition.specs.Reading.{readTransition};
-ghost use Rattle.step.specs.Step.{stepOf, answerOf};
+ghost use Rattle.model_read.specs.Reading.{readTransition};
+ghost use Rattle.model_step.specs.Step.{stepOf, answerOf};
 ghost use Rattle.nitrasovy.specs.Inner.{reasonOf};
 ghost use Rattle.nitrasovy.specs.FlatModels.{flatStep, ReadsFlat, StepsFlat};
 use model::AigerTransition;
 use model::Verdict;
 use model::words;
-use step::Stepped;
+use model_step::Stepped;
 
 // Reason 0 and the model, or the number of the reason and a record of zeros.
 #[repr(C)]
@@ -42,7 +42,7 @@ pub fn reason_of(v: Verdict) -> u64
 pub extern "C" fn nit_read_transition(text: &[u8], gates: &mut [u64], work: &mut [u64]) -> NitRead
     ensures { λ r. ⌜ ReadsFlat (readTransition (now (text .entry)) (length (now (gates .entry))) (length (now (work .entry)))) (now (gates .entry)) (now (work .entry)) r (now (gates .exit)) (now (work .exit)) ⌝ }
 {
-    let read = transition::parse_ascii_aiger_transition(text, gates, work);
+    let read = model_read::parse_ascii_aiger_transition(text, gates, work);
     let verdict = read.verdict;
     let model = read.model;
     NitRead {
@@ -81,7 +81,7 @@ pub extern "C" fn nit_step(
 ) -> NitStepped
     ensures { λ r. ⌜ StepsFlat (stepOf (recordIn (now (model .entry))) (now (gates .entry)) (length (now (work .entry))) state input) (now (work .entry)) r (now (work .exit)) ⌝ }
 {
-    let stepped = step::evaluate_parts(
+    let stepped = model_step::evaluate_parts(
         words::counts(model),
         words::inputs(model),
         words::latches(model),

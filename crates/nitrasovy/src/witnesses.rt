@@ -1,10 +1,10 @@
 // The witness reader.
 ghost use mathlib.Core.Path.{_≡_};
 ghost use Rattle.text.specs.Texts.{limited};
-ghost use Rattle.witness.specs.Reading.{readAag};
+ghost use Rattle.witness_read.specs.Reading.{readAag};
 ghost use Rattle.nitrasovy.specs.Inner.{flatCounts};
 ghost use Rattle.nitrasovy.specs.FlatWitnesses.{CountsFlat};
-use witness::ReadAag;
+use witness_read::ReadAag;
 
 // Reason 0 and the counts, or the number of the reason and zeros.
 #[repr(C)]
@@ -51,5 +51,5 @@ fn flat_counts(read: ReadAag) -> NitWitness
 pub extern "C" fn nit_read_witness(text: &[u8], witness: bool) -> NitWitness
     ensures { λ r. ⌜ CountsFlat (readAag limited witness (now (text .entry))) r ⌝ }
 {
-    flat_counts(witness::parse_aag(text, witness))
+    flat_counts(witness_read::parse_aag(text, witness))
 }

@@ -10,19 +10,19 @@ use Rattle.lists.specs.Words.{wordsOf}
 use Rattle.lists.proofs.MapLaws.{map-take}
 use Rattle.model.specs.Circuit.{currentOf, nextOf, currentsOf, nextsOf}
 use Rattle.model.proofs.ValueLaws.{Sized}
-use Rattle.sorting.specs.Sorted.{sorted}
+use Rattle.word_sort.specs.Sorted.{sorted}
 use Rattle.cnf.specs.Clauses.{Clause}
 use Rattle.cnf.specs.Simplified.{opposite, simplified}
 use Rattle.cnf.proofs.AppendLaws.{same-words}
-use Rattle.completeness.specs.Lists.{targetList, outcomeList, stateList, differing, outputBits, relationClauses, transducerClauses, terminalClauses, outcomesOf}
-use Rattle.completeness.specs.Limits.{statesClaimed, outcomesClaimed}
-use Rattle.completeness.specs.Calls.{Asked, circuit, predicate}
-use Rattle.encoding.specs.Encoding.{Low}
-use Rattle.encoding.proofs.PredicateLaws.{low-at, opposite-low}
-use Rattle.claims.specs.Claims.{keysFrom, outcomeKeys, stateClaims, outcomeClaims}
-use Rattle.claims.specs.Filling.{InOrder}
-use Rattle.claims.proofs.ClaimLaws.{state-clauses, outcome-clauses}
-use Rattle.claims.proofs.KeyLaws.{picked-low}
+use Rattle.obligation_spec.specs.Lists.{targetList, outcomeList, stateList, differing, outputBits, relationClauses, transducerClauses, terminalClauses, outcomesOf}
+use Rattle.obligation_spec.specs.Limits.{statesClaimed, outcomesClaimed}
+use Rattle.obligation_spec.specs.Calls.{Asked, circuit, predicate}
+use Rattle.obligation_gates.specs.Encoding.{Low}
+use Rattle.obligation_gates.proofs.PredicateLaws.{low-at, opposite-low}
+use Rattle.obligation_claims.specs.Claims.{keysFrom, outcomeKeys, stateClaims, outcomeClaims}
+use Rattle.obligation_claims.specs.Filling.{InOrder}
+use Rattle.obligation_claims.proofs.ClaimLaws.{state-clauses, outcome-clauses}
+use Rattle.obligation_claims.proofs.KeyLaws.{picked-low}
 use Rattle.obligation.specs.declared.Made.{Made}
 use Rattle.obligation.specs.Appended.{partsOf, claimedOf, allLists, Ready, Asks, MakesAll}
 use Rattle.obligation.proofs.ListLaws.{relation-is, transducer-is, terminal-is}

@@ -13,9 +13,9 @@ use Rattle.model.specs.declared.Verdict.the-variants.{Valid, Refused as Invalid
 use Rattle.model.specs.Circuit.{Circuit, recordFrom}
 use Rattle.model.specs.Checked.{checked, countsOf, judged}
 use Rattle.model.proofs.ValueLaws.{Sized}
-use Rattle.completeness.specs.Limits.{bounded}
-use Rattle.completeness.specs.Calls.{Asked, circuit, Lent, asked, relationRow, transducerRow, terminalList}
-use Rattle.boundary.specs.Boundary.{askedOf, Checks}
+use Rattle.obligation_spec.specs.Limits.{bounded}
+use Rattle.obligation_spec.specs.Calls.{Asked, circuit, Lent, asked, relationRow, transducerRow, terminalList}
+use Rattle.obligation_check.specs.Boundary.{askedOf, Checks}
 use Rattle.obligation.specs.declared.Made.{Made}
 use Rattle.obligation.specs.declared.Made.the-variants.{Refused}
 use Rattle.obligation.specs.Promise.{Buffers, buffersOf, lentOf, MakesRelation, MakesTransducer, MakesTerminal}

@@ -9,10 +9,10 @@ use lib.ListN.{length}
 use Rattle.lists.specs.Answer.{Answer, unless}
 use Rattle.model.proofs.ValueLaws.{Sized}
 use Rattle.cnf.specs.Clauses.{Clause}
-use Rattle.completeness.specs.Lists.{outcomesOf, relationClauses, transducerClauses, terminalClauses}
-use Rattle.completeness.specs.Limits.{isState, statesClaimed, outcomesClaimed}
-use Rattle.completeness.specs.Calls.{Asked, circuit, predicate, within}
-use Rattle.boundary.specs.Boundary.{IsState, ClaimsStates, ClaimsOutcomes}
+use Rattle.obligation_spec.specs.Lists.{outcomesOf, relationClauses, transducerClauses, terminalClauses}
+use Rattle.obligation_spec.specs.Limits.{isState, statesClaimed, outcomesClaimed}
+use Rattle.obligation_spec.specs.Calls.{Asked, circuit, predicate, within}
+use Rattle.obligation_check.specs.Boundary.{IsState, ClaimsStates, ClaimsOutcomes}
 use Rattle.obligation.specs.declared.Made.{Made}
 use Rattle.obligation.specs.declared.Made.the-variants.{Refused}
 use Rattle.obligation.specs.Appended.{roomOf, Asks, ClaimsOf, Continues, MakesAll, relationAfter, transducerAfter, terminalAfter}

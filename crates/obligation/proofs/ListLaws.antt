@@ -10,8 +10,8 @@ use Rattle.aiger.specs.Gates.{gateFrom}
 use Rattle.model.specs.Circuit.{currentOf, currentsOf}
 use Rattle.cnf.specs.Clauses.{Clause}
 use Rattle.cnf.specs.Simplified.{opposite, dropped, simplified}
-use Rattle.completeness.specs.Lists.{sourceLists, predicateLiteral, gateLists, targetList, outcomeList, stateList, relationClauses, transducerClauses, terminalClauses, outcomesOf}
-use Rattle.completeness.specs.Calls.{Asked, circuit, predicate}
+use Rattle.obligation_spec.specs.Lists.{sourceLists, predicateLiteral, gateLists, targetList, outcomeList, stateList, relationClauses, transducerClauses, terminalClauses, outcomesOf}
+use Rattle.obligation_spec.specs.Calls.{Asked, circuit, predicate}
 
 abbrev S : List (List ℕ) → List Clause
 S lists = wordsOf simplified lists

@@ -13,9 +13,9 @@ use Rattle.cnf.specs.declared.Table.{Table}
 use Rattle.cnf.specs.Clauses.{clausesIn}
 use Rattle.cnf.specs.Appending.{Appends, Space}
 use Rattle.cnf.proofs.AppendLaws.{appends-then, space-empty, space-less, space-left}
-use Rattle.completeness.specs.Lists.{sourceLists, predicateLiteral, gateLists}
-use Rattle.encoding.proofs.SourceLaws.{count}
-use Rattle.claims.specs.Claims.{claimList, stateClaims, outcomeClaims}
+use Rattle.obligation_spec.specs.Lists.{sourceLists, predicateLiteral, gateLists}
+use Rattle.obligation_gates.proofs.SourceLaws.{count}
+use Rattle.obligation_claims.specs.Claims.{claimList, stateClaims, outcomeClaims}
 use Rattle.obligation.specs.Appended.{Parts, Claimed, claimedOf, frontLists, claimLists, allLists, claimCount, FrontReady, ClaimsReady, empty}
 
 module _ (p : Parts) (f : FrontReady p) where

@@ -13,8 +13,8 @@ use Rattle.cnf.specs.declared.Table.{Table}
 use Rattle.cnf.specs.Clauses.{Clause, literalsOf, pairsFrom, returned}
 use Rattle.cnf.specs.Appending.{Holding}
 use Rattle.cnf.proofs.AppendLaws.{holding-pairs, holding-words}
-use Rattle.completeness.specs.Calls.{Asked, within, relationRow, transducerRow, terminalList}
-use Rattle.completeness.proofs.ReturnedLaws.{inBuffers, relation-returned, transducer-returned, terminal-returned}
+use Rattle.obligation_spec.specs.Calls.{Asked, within, relationRow, transducerRow, terminalList}
+use Rattle.obligation_spec.proofs.ReturnedLaws.{inBuffers, relation-returned, transducer-returned, terminal-returned}
 use Rattle.obligation.specs.declared.Made.{Made}
 use Rattle.obligation.specs.declared.Made.the-variants.{Clauses, Refused}
 use Rattle.obligation.specs.Promise.{answerOf, sizes, pairsAfter, literalsAfter, Buffers, lentOf, Makes, clausesAfter, MakesRelation, MakesTransducer, MakesTerminal}

@@ -12,17 +12,17 @@ use Rattle.model.specs.Circuit.{currentOf, nextOf, currentsOf, nextsOf}
 use Rattle.model.specs.Checked.{countsOf}
 use Rattle.model.proofs.CountLaws.{Counted, counted-facts}
 use Rattle.model.proofs.ValueLaws.{Sized, Passed, checked-got, AsMany, checked-counts}
-use Rattle.completeness.specs.Limits.{statesClaimed, outcomesClaimed}
-use Rattle.completeness.specs.Lists.{outcomesOf}
-use Rattle.completeness.specs.Calls.{Asked, circuit}
-use Rattle.completeness.proofs.AcceptedLaws.{states-facts, outcomes-facts}
-use Rattle.sorting.specs.Sorted.{sorted}
-use Rattle.sorting.proofs.SortedLaws.{each-sorted, sorted-length}
-use Rattle.boundary.proofs.OutcomeLaws.{outcomes-count}
-use Rattle.claims.specs.Claims.{keysFrom, outcomeKeys}
-use Rattle.claims.proofs.KeyLaws.{keys-length, keys-low, outcome-length, outcome-low}
-use Rattle.encoding.specs.Encoding.{Low}
-use Rattle.encoding.proofs.BoundedLaws.{currents-low, nexts-low, outputs-low, gates-low, accepted-bounded, accepted-few}
+use Rattle.obligation_spec.specs.Limits.{statesClaimed, outcomesClaimed}
+use Rattle.obligation_spec.specs.Lists.{outcomesOf}
+use Rattle.obligation_spec.specs.Calls.{Asked, circuit}
+use Rattle.obligation_spec.proofs.AcceptedLaws.{states-facts, outcomes-facts}
+use Rattle.word_sort.specs.Sorted.{sorted}
+use Rattle.word_sort.proofs.SortedLaws.{each-sorted, sorted-length}
+use Rattle.obligation_check.proofs.OutcomeLaws.{outcomes-count}
+use Rattle.obligation_claims.specs.Claims.{keysFrom, outcomeKeys}
+use Rattle.obligation_claims.proofs.KeyLaws.{keys-length, keys-low, outcome-length, outcome-low}
+use Rattle.obligation_gates.specs.Encoding.{Low}
+use Rattle.obligation_gates.proofs.BoundedLaws.{currents-low, nexts-low, outputs-low, gates-low, accepted-bounded, accepted-few}
 use Rattle.obligation.specs.Appended.{partsOf, claimedOf, FrontReady, ClaimsReady, Asks}
 
 module _ (q : Asked) (a : Asks q) (sized : Sized (q .model)) where

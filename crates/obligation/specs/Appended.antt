@@ -12,11 +12,11 @@ use Rattle.aiger.specs.Gates.{gateFrom}
 use Rattle.model.specs.Checked.{checked}
 use Rattle.cnf.specs.declared.Table.{Table}
 use Rattle.cnf.specs.Clauses.{Clause, clausesIn}
-use Rattle.completeness.specs.Lists.{sourceLists, predicateLiteral, gateLists}
-use Rattle.completeness.specs.Limits.{bounded}
-use Rattle.completeness.specs.Calls.{Asked, circuit, Lent, within, relationOn, transducerOn, terminalOn}
-use Rattle.encoding.specs.Encoding.{Low, LowGate, Bounded}
-use Rattle.claims.specs.Claims.{LowKeys, stateClaims, outcomeClaims}
+use Rattle.obligation_spec.specs.Lists.{sourceLists, predicateLiteral, gateLists}
+use Rattle.obligation_spec.specs.Limits.{bounded}
+use Rattle.obligation_spec.specs.Calls.{Asked, circuit, Lent, within, relationOn, transducerOn, terminalOn}
+use Rattle.obligation_gates.specs.Encoding.{Low, LowGate, Bounded}
+use Rattle.obligation_claims.specs.Claims.{LowKeys, stateClaims, outcomeClaims}
 use Rattle.obligation.specs.declared.Made.{Made}
 use Rattle.obligation.specs.Promise.{answerOf, sizes, pairsAfter, literalsAfter}
 

@@ -7,9 +7,9 @@ use Rattle.lists.specs.Answer.{Answer, got, refused, andThen}
 use Rattle.lists.specs.Parts.{front, zeros}
 use Rattle.cnf.specs.declared.Table.{Table}
 use Rattle.cnf.specs.Clauses.{Clause, literalsOf, pairsFrom, returned}
-use Rattle.completeness.specs.Lists.{outcomesOf}
-use Rattle.completeness.specs.Calls.{Asked, Lent, circuit, predicate, relationRow, transducerRow, terminalList}
-use Rattle.completeness.specs.Meaning.{RowMeans, TerminalMeans, ToTarget, ToOutcome}
+use Rattle.obligation_spec.specs.Lists.{outcomesOf}
+use Rattle.obligation_spec.specs.Calls.{Asked, Lent, circuit, predicate, relationRow, transducerRow, terminalList}
+use Rattle.obligation_spec.specs.Meaning.{RowMeans, TerminalMeans, ToTarget, ToOutcome}
 use Rattle.obligation.specs.declared.Made.{Made}
 use Rattle.obligation.specs.declared.Made.the-variants.{Clauses, Refused}
 

@@ -29,8 +29,8 @@ fn append_front(
         clauses: 0,
         literals: 0,
     };
-    let sources = encoding::append_sources(currents, source, pairs, literals, start);
-    let limited = encoding::append_predicate(
+    let sources = obligation_gates::append_sources(currents, source, pairs, literals, start);
+    let limited = obligation_gates::append_predicate(
         inputs,
         relevant,
         predicate,
@@ -39,7 +39,7 @@ fn append_front(
         literals,
         sources,
     );
-    encoding::append_ands(gates, ands, pairs, literals, limited)
+    obligation_gates::append_ands(gates, ands, pairs, literals, limited)
 }
 
 // Appends the clauses of the claims: of one word each, or of three where they are wide.
@@ -55,9 +55,9 @@ fn append_claims(
     ensures { λ r. ⌜ Appends (claimLists (claimedOf (now (keys .entry)) (now (words .entry)) wide)) at (now (pairs .entry)) (now (literals .entry)) r (now (pairs .exit)) (now (literals .exit)) ⌝ }
 {
     if wide {
-        return claims::append_outcomes(keys, words, pairs, literals, at);
+        return obligation_claims::append_outcomes(keys, words, pairs, literals, at);
     }
-    claims::append_states(keys, words, pairs, literals, at)
+    obligation_claims::append_states(keys, words, pairs, literals, at)
 }
 
 // Appends all clauses of an obligation to an empty table: a row's end with the claims, a terminal list's with a clause of one literal.
@@ -93,7 +93,7 @@ fn append_all(
         literals,
     );
     let claimed = append_claims(keys, words, wide, pairs, literals, front);
-    encoding::push_literal(last, pairs, literals, claimed)
+    obligation_gates::push_literal(last, pairs, literals, claimed)
 }
 
 // How many claims so many words are.

@@ -1,10 +1,10 @@
 // Rows with claimed targets (01, item 7).
 ghost use Rattle.model.specs.Circuit.{recordFrom};
 ghost use Rattle.cnf.specs.Clauses.{clausesIn};
-ghost use Rattle.completeness.specs.Lists.{relationClauses};
-ghost use Rattle.completeness.specs.Limits.{statesClaimed};
-ghost use Rattle.completeness.specs.Calls.{circuit};
-ghost use Rattle.boundary.specs.Boundary.{askedOf};
+ghost use Rattle.obligation_spec.specs.Lists.{relationClauses};
+ghost use Rattle.obligation_spec.specs.Limits.{statesClaimed};
+ghost use Rattle.obligation_spec.specs.Calls.{circuit};
+ghost use Rattle.obligation_check.specs.Boundary.{askedOf};
 ghost use Rattle.obligation.specs.Promise.{buffersOf, MakesRelation};
 ghost use Rattle.obligation.specs.Appended.{roomOf, Asks, ClaimsOf, Continues, MakesAll, relationAfter};
 use crate::Made;
@@ -34,7 +34,7 @@ fn assemble(
     let at = model::currents(latches);
     let to = model::nexts(latches);
     let mut keys = [0u64; 8];
-    let count = claims::state_keys(lists::first(&to, n.latches), &mut keys);
+    let count = obligation_claims::state_keys(lists::first(&to, n.latches), &mut keys);
     making::make(
         lists::first(&at, n.latches),
         source,
@@ -71,10 +71,10 @@ fn claim(
     requires { ⌜ Asks (askedOf (recordFrom n (now inputs) latches (now outputs)) (now gates) (now relevant) (now predicate) (now terms)) ⌝ }
     ensures { λ r. ⌜ Continues (relationAfter (askedOf (recordFrom n (now (inputs .entry)) latches (now (outputs .entry))) (now (gates .entry)) (now (relevant .entry)) (now (predicate .entry)) (now (terms .entry))) source (now (targets .entry)) (roomOf (now (pairs .entry)) (now (literals .entry)))) (now (pairs .entry)) (now (literals .entry)) r (now (pairs .exit)) (now (literals .exit)) ⌝ }
 {
-    if !boundary::is_state(n.latches, source) {
+    if !obligation_check::is_state(n.latches, source) {
         return Made::Refused(14);
     }
-    if !boundary::states_claimed(n.latches, targets) {
+    if !obligation_check::states_claimed(n.latches, targets) {
         return Made::Refused(14);
     }
     assemble(
@@ -111,7 +111,7 @@ pub fn row_parts(
 ) -> Made
     ensures { λ r. ⌜ MakesRelation (askedOf (recordFrom n (now (inputs .entry)) latches (now (outputs .entry))) (now (gates .entry)) (now (relevant .entry)) (now (predicate .entry)) (now (terms .entry))) source (now (targets .entry)) (buffersOf (now (pairs .entry)) (now (literals .entry)) (now (work .entry))) r (buffersOf (now (pairs .exit)) (now (literals .exit)) (now (work .exit))) ⌝ }
 {
-    let verdict = boundary::check(
+    let verdict = obligation_check::check(
         n,
         inputs,
         latches,

@@ -1,10 +1,10 @@
 // Terminal lists (01, item 7).
 ghost use Rattle.model.specs.Circuit.{recordFrom};
 ghost use Rattle.cnf.specs.Clauses.{clausesIn};
-ghost use Rattle.completeness.specs.Lists.{terminalClauses};
-ghost use Rattle.completeness.specs.Limits.{statesClaimed};
-ghost use Rattle.completeness.specs.Calls.{circuit};
-ghost use Rattle.boundary.specs.Boundary.{askedOf};
+ghost use Rattle.obligation_spec.specs.Lists.{terminalClauses};
+ghost use Rattle.obligation_spec.specs.Limits.{statesClaimed};
+ghost use Rattle.obligation_spec.specs.Calls.{circuit};
+ghost use Rattle.obligation_check.specs.Boundary.{askedOf};
 ghost use Rattle.obligation.specs.Promise.{buffersOf, MakesTerminal};
 ghost use Rattle.obligation.specs.Appended.{roomOf, Asks, ClaimsOf, Continues, MakesAll, terminalAfter};
 use crate::Made;
@@ -33,7 +33,7 @@ fn assemble(
 {
     let at = model::currents(latches);
     let mut keys = [0u64; 8];
-    let count = claims::state_keys(lists::first(&at, n.latches), &mut keys);
+    let count = obligation_claims::state_keys(lists::first(&at, n.latches), &mut keys);
     let output = lists::word(lists::first(outputs, n.outputs), bad);
     making::make(
         lists::first(&at, 0),
@@ -74,7 +74,7 @@ fn claim(
     if n.outputs as u64 <= bad {
         return Made::Refused(14);
     }
-    if !boundary::states_claimed(n.latches, states) {
+    if !obligation_check::states_claimed(n.latches, states) {
         return Made::Refused(14);
     }
     assemble(
@@ -111,7 +111,7 @@ pub fn list_parts(
 ) -> Made
     ensures { λ r. ⌜ MakesTerminal (askedOf (recordFrom n (now (inputs .entry)) latches (now (outputs .entry))) (now (gates .entry)) (now (relevant .entry)) (now (predicate .entry)) (now (terms .entry))) bad (now (states .entry)) (buffersOf (now (pairs .entry)) (now (literals .entry)) (now (work .entry))) r (buffersOf (now (pairs .exit)) (now (literals .exit)) (now (work .exit))) ⌝ }
 {
-    let verdict = boundary::check(
+    let verdict = obligation_check::check(
         n,
         inputs,
         latches,

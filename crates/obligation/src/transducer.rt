@@ -1,10 +1,10 @@
 // Rows with claimed outcomes (01, item 7).
 ghost use Rattle.model.specs.Circuit.{recordFrom};
 ghost use Rattle.cnf.specs.Clauses.{clausesIn};
-ghost use Rattle.completeness.specs.Lists.{transducerClauses, outcomesOf};
-ghost use Rattle.completeness.specs.Limits.{outcomesClaimed};
-ghost use Rattle.completeness.specs.Calls.{circuit};
-ghost use Rattle.boundary.specs.Boundary.{askedOf};
+ghost use Rattle.obligation_spec.specs.Lists.{transducerClauses, outcomesOf};
+ghost use Rattle.obligation_spec.specs.Limits.{outcomesClaimed};
+ghost use Rattle.obligation_spec.specs.Calls.{circuit};
+ghost use Rattle.obligation_check.specs.Boundary.{askedOf};
 ghost use Rattle.obligation.specs.Promise.{buffersOf, MakesTransducer};
 ghost use Rattle.obligation.specs.Appended.{roomOf, Asks, ClaimsOf, Continues, MakesAll, transducerAfter};
 use crate::Made;
@@ -35,7 +35,7 @@ fn assemble(
     let at = model::currents(latches);
     let to = model::nexts(latches);
     let mut keys = [0u64; 136];
-    let count = claims::outcome_keys(
+    let count = obligation_claims::outcome_keys(
         lists::first(&to, n.latches),
         lists::first(outputs, n.outputs),
         observed,
@@ -78,10 +78,10 @@ fn claim(
     requires { ⌜ Asks (askedOf (recordFrom n (now inputs) latches (now outputs)) (now gates) (now relevant) (now predicate) (now terms)) ⌝ }
     ensures { λ r. ⌜ Continues (transducerAfter (askedOf (recordFrom n (now (inputs .entry)) latches (now (outputs .entry))) (now (gates .entry)) (now (relevant .entry)) (now (predicate .entry)) (now (terms .entry))) source (now (observed .entry)) (now (outcomes .entry)) (roomOf (now (pairs .entry)) (now (literals .entry)))) (now (pairs .entry)) (now (literals .entry)) r (now (pairs .exit)) (now (literals .exit)) ⌝ }
 {
-    if !boundary::is_state(n.latches, source) {
+    if !obligation_check::is_state(n.latches, source) {
         return Made::Refused(14);
     }
-    if !boundary::outcomes_claimed(n.latches, n.outputs as u64, observed, outcomes) {
+    if !obligation_check::outcomes_claimed(n.latches, n.outputs as u64, observed, outcomes) {
         return Made::Refused(14);
     }
     assemble(
@@ -120,7 +120,7 @@ pub fn row_parts(
 ) -> Made
     ensures { λ r. ⌜ MakesTransducer (askedOf (recordFrom n (now (inputs .entry)) latches (now (outputs .entry))) (now (gates .entry)) (now (relevant .entry)) (now (predicate .entry)) (now (terms .entry))) source (now (observed .entry)) (now (outcomes .entry)) (buffersOf (now (pairs .entry)) (now (literals .entry)) (now (work .entry))) r (buffersOf (now (pairs .exit)) (now (literals .exit)) (now (work .exit))) ⌝ }
 {
-    let verdict = boundary::check(
+    let verdict = obligation_check::check(
         n,
         inputs,
         latches,

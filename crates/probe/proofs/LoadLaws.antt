@@ -5,10 +5,10 @@ use mathlib.Core.Path.{_≡_, refl, ap, _∙_}
 use lib.ListN.{length}
 use Rattle.lists.specs.Answer.{Answer, got, refused}
 use Rattle.lists.specs.Parts.{Bytes}
-use Rattle.witness.specs.declared.ReadAag.{ReadAag}
-use Rattle.witness.specs.Sections.{Sections}
-use Rattle.witness.specs.Reading.{countsRead}
-use Rattle.witness_words.specs.Loaded.{withRoom, Loads}
+use Rattle.witness_read.specs.declared.ReadAag.{ReadAag}
+use Rattle.witness_read.specs.Sections.{Sections}
+use Rattle.witness_read.specs.Reading.{countsRead}
+use Rattle.witness_load.specs.Loaded.{withRoom, Loads}
 use Rattle.probe.specs.Flat.{reasonOf}
 use Rattle.probe.specs.FlatLoads.{reasonRead, LoadsFlat}
 

@@ -13,8 +13,8 @@ use Rattle.text.specs.declared.Field.{Field}
 use Rattle.text.specs.declared.Field.the-variants as field
 use Rattle.text.specs.declared.Literal.{Literal}
 use Rattle.text.specs.declared.Literal.the-variants.{Got, Refused}
-use Rattle.decimal.specs.declared.Written.{Written}
-use Rattle.decimal.specs.declared.Written.the-variants.{Next, NoRoom}
+use Rattle.text_decimal.specs.declared.Written.{Written}
+use Rattle.text_decimal.specs.declared.Written.the-variants.{Next, NoRoom}
 use Rattle.probe.specs.declared.ProbeWritten.{ProbeWritten}
 use Rattle.probe.specs.declared.ProbeNumber.{ProbeNumber}
 use Rattle.probe.specs.declared.ProbeLiteral.{ProbeLiteral}

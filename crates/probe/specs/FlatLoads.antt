@@ -5,10 +5,10 @@ use mathlib.Core.Path.{_≡_}
 use lib.ListN.{length}
 use Rattle.lists.specs.Answer.{Answer}
 use Rattle.lists.specs.Parts.{Bytes}
-use Rattle.witness.specs.declared.ReadAag.{ReadAag}
-use Rattle.witness.specs.declared.ReadAag.the-variants as read
-use Rattle.witness.specs.Sections.{Sections}
-use Rattle.witness_words.specs.Loaded.{withRoom, WordsAfter}
+use Rattle.witness_read.specs.declared.ReadAag.{ReadAag}
+use Rattle.witness_read.specs.declared.ReadAag.the-variants as read
+use Rattle.witness_read.specs.Sections.{Sections}
+use Rattle.witness_load.specs.Loaded.{withRoom, WordsAfter}
 use Rattle.probe.specs.Flat.{reasonOf}
 
 abbrev pub reasonRead : ReadAag → ℕ

@@ -7,14 +7,14 @@ ghost use Rattle.text.specs.Fields.{fieldAt, firstField, hasHeaderWord};
 ghost use Rattle.text.specs.Literals.{literalAt};
 ghost use Rattle.scan.specs.Same.{sameBytes, beginsWith};
 ghost use Rattle.text.specs.Texts.{limited, goodText};
-ghost use Rattle.decimal.specs.Decimal.{decimal};
-ghost use Rattle.decimal.specs.Writing.{written, writtenAt};
+ghost use Rattle.text_decimal.specs.Decimal.{decimal};
+ghost use Rattle.text_decimal.specs.Writing.{written, writtenAt};
 ghost use Rattle.probe.specs.Flat.{readerOf, flatNumber, flatLiteral, flatLine, flatField, flatWritten, cursorAt};
 
 mod models;
 mod witnesses;
 
-use decimal::Written;
+use text_decimal::Written;
 use text::Cursor;
 use text::Field;
 use text::Line;
@@ -176,21 +176,21 @@ fn flat_written(w: Written) -> ProbeWritten
 pub extern "C" fn probe_first_field(line: &[u8], out: &mut [u8]) -> ProbeWritten
     ensures { λ r. ⌜ (r ≡ flatWritten (writtenAt (length (now (out .entry))) 0 (firstField (now (line .entry))))) × (now (out .exit) ≡ written (now (out .entry)) 0 (firstField (now (line .entry)))) ⌝ }
 {
-    flat_written(decimal::write_bytes(out, 0, text::first_field(line)))
+    flat_written(text_decimal::write_bytes(out, 0, text::first_field(line)))
 }
 
 #[no_mangle]
 pub extern "C" fn probe_write_decimal(out: &mut [u8], at: usize, n: u64) -> ProbeWritten
     ensures { λ r. ⌜ (r ≡ flatWritten (writtenAt (length (now (out .entry))) at (decimal n))) × (now (out .exit) ≡ written (now (out .entry)) at (decimal n)) ⌝ }
 {
-    flat_written(decimal::write_decimal(out, at, n))
+    flat_written(text_decimal::write_decimal(out, at, n))
 }
 
 #[no_mangle]
 pub extern "C" fn probe_decimal_length(n: u64) -> usize
     ensures { λ r. ⌜ r ≡ length (decimal n) ⌝ }
 {
-    decimal::decimal_length(n)
+    text_decimal::decimal_length(n)
 }
 
 #[no_mangle]

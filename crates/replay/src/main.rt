@@ -40,7 +40,7 @@ fn stop(input: &[u8], out: &mut [u8], to: usize) -> Place {
 
 // Replays the case whose numbers are these and whose block begins at a place.
 fn replay_block(input: &[u8], numbers: &[u64], start: usize, out: &mut [u8], to: usize) -> Place {
-    let end = printing::advance(start, form::size(numbers, 1));
+    let end = text_print::advance(start, form::size(numbers, 1));
     if input.len() <= end {
         return stop(input, out, to);
     }
@@ -50,7 +50,7 @@ fn replay_block(input: &[u8], numbers: &[u64], start: usize, out: &mut [u8], to:
     let printed = answer(numbers, form::bytes(input, start, end), out, to);
     Place {
         input: end + 1,
-        output: printing::print_byte(out, printed, 10),
+        output: text_print::print_byte(out, printed, 10),
     }
 }
 
@@ -64,7 +64,7 @@ fn replay_case(input: &[u8], at: usize, out: &mut [u8], to: usize) -> Place {
     replay_block(
         input,
         lists::first(&room, n),
-        printing::advance(end, 1),
+        text_print::advance(end, 1),
         out,
         to,
     )

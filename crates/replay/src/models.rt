@@ -42,7 +42,7 @@ fn show_model(m: AigerTransition, out: &mut [u8], at: usize) -> usize {
         out,
         first,
         &latches,
-        printing::advance(m.latch_count, m.latch_count),
+        text_print::advance(m.latch_count, m.latch_count),
     );
     show::zero(out, second, &outputs, m.output_count)
 }
@@ -50,13 +50,13 @@ fn show_model(m: AigerTransition, out: &mut [u8], at: usize) -> usize {
 // Reads a text with exactly these words lent, and prints the answer.
 fn read_lent(text: &[u8], gates: &mut [u64], work: &mut [u64], out: &mut [u8], at: usize) -> usize {
     let read = models::nit_read_transition(text, gates, work);
-    let named = printing::print_bytes(out, at, b"transition");
+    let named = text_print::print_bytes(out, at, b"transition");
     let reasoned = show::number(out, named, read.reason);
     let model = read.model;
     let shown = show_model(model, out, reasoned);
-    let used = printing::advance(
+    let used = text_print::advance(
         model.and_count,
-        printing::advance(model.and_count, model.and_count),
+        text_print::advance(model.and_count, model.and_count),
     );
     let listed = show::kept(out, shown, gates, used);
     show::zero(out, listed, work, 0)
@@ -106,7 +106,7 @@ fn step_lent(numbers: &[u64], work: &mut [u64], out: &mut [u8], at: usize) -> us
     let input = lists::word(numbers, 4);
     let stepped = models::nit_step(record, gates, work, state, input);
     let answer: [u64; 4] = [stepped.reason, stepped.target, stepped.high, stepped.low];
-    let named = printing::print_bytes(out, at, b"step");
+    let named = text_print::print_bytes(out, at, b"step");
     let listed = show::words(out, named, &answer);
     show::zero(out, listed, work, 0)
 }

@@ -118,9 +118,9 @@ fn make(
 // Prints which call was made.
 fn show_name(call: u64, out: &mut [u8], at: usize) -> usize {
     match call {
-        3 => printing::print_bytes(out, at, b"relation"),
-        4 => printing::print_bytes(out, at, b"transducer"),
-        _ => printing::print_bytes(out, at, b"terminal"),
+        3 => text_print::print_bytes(out, at, b"relation"),
+        4 => text_print::print_bytes(out, at, b"transducer"),
+        _ => text_print::print_bytes(out, at, b"terminal"),
     }
 }
 
@@ -142,7 +142,7 @@ fn made_lent(
         out,
         counted,
         pairs,
-        printing::advance(made.clauses, made.clauses),
+        text_print::advance(made.clauses, made.clauses),
     );
     let second = show::kept_literals(out, first, literals, made.literals);
     show::zero(out, second, work, 0)

@@ -30,7 +30,7 @@ pub fn witness_case(numbers: &[u64], text: &[u8], out: &mut [u8], at: usize) -> 
     }
     let role = lists::word(numbers, 2);
     let read = witnesses::nit_read_witness(text, role == 1);
-    let named = printing::print_bytes(out, at, b"witness");
+    let named = text_print::print_bytes(out, at, b"witness");
     show_counts(read, out, named)
 }
 
@@ -49,7 +49,7 @@ fn compose_lent(
     let pairs = lists::cut(numbers, 5, numbers.len());
     let composed = compositions::nit_compose(model, buffer, pairs, work, room);
     let answer: [u64; 2] = [composed.reason, composed.bytes as u64];
-    let named = printing::print_bytes(out, at, b"compose");
+    let named = text_print::print_bytes(out, at, b"compose");
     let counted = show::words(out, named, &answer);
     let cleared = show::zero(out, counted, work, 0);
     show::kept_bytes(out, cleared, room, composed.bytes)
@@ -110,7 +110,7 @@ pub fn literal_case(numbers: &[u64], text: &[u8], out: &mut [u8], at: usize) -> 
         return show::malformed(out, at);
     }
     let rule = reader(lists::word(numbers, 2));
-    let named = printing::print_bytes(out, at, b"literal");
+    let named = text_print::print_bytes(out, at, b"literal");
     let taken = text::take_literal(
         rule,
         text,

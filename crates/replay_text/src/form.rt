@@ -53,7 +53,7 @@ pub fn list_start(numbers: &[u64], lengths: usize, start: usize, k: usize) -> us
     let mut at = start;
     let mut i = 0;
     while i < k {
-        at = printing::advance(at, size(numbers, printing::advance(lengths, i)));
+        at = text_print::advance(at, size(numbers, text_print::advance(lengths, i)));
         i += 1;
     }
     at
@@ -62,6 +62,6 @@ pub fn list_start(numbers: &[u64], lengths: usize, start: usize, k: usize) -> us
 // List k.
 pub fn list(numbers: &[u64], lengths: usize, start: usize, k: usize) -> &[u64] {
     let from = list_start(numbers, lengths, start, k);
-    let count = size(numbers, printing::advance(lengths, k));
-    lists::cut(numbers, from, printing::advance(from, count))
+    let count = size(numbers, text_print::advance(lengths, k));
+    lists::cut(numbers, from, text_print::advance(from, count))
 }

@@ -9,8 +9,8 @@ pub const BYTE: u8 = 170;
 
 // Prints a number with a space in front.
 pub fn number(out: &mut [u8], at: usize, n: u64) -> usize {
-    let to = printing::print_byte(out, at, 32);
-    printing::print_number(out, to, n)
+    let to = text_print::print_byte(out, at, 32);
+    text_print::print_number(out, to, n)
 }
 
 // Prints words, each with a space in front.
@@ -43,9 +43,9 @@ pub fn literals(out: &mut [u8], at: usize, list: &[u32]) -> usize {
 // Prints one of two words.
 fn either(out: &mut [u8], at: usize, first: bool, one: &[u8], other: &[u8]) -> usize {
     if first {
-        return printing::print_bytes(out, at, one);
+        return text_print::print_bytes(out, at, one);
     }
-    printing::print_bytes(out, at, other)
+    text_print::print_bytes(out, at, other)
 }
 
 // Whether all words are the same one.
@@ -101,7 +101,7 @@ pub fn zero(out: &mut [u8], at: usize, list: &[u64], n: usize) -> usize {
 // Prints the first literals, and whether all others were kept.
 pub fn kept_literals(out: &mut [u8], at: usize, list: &[u32], n: usize) -> usize {
     if list.len() < n {
-        return printing::print_bytes(out, at, b" more than were lent");
+        return text_print::print_bytes(out, at, b" more than were lent");
     }
     let to = literals(out, at, &list[..n]);
     either(out, to, all_literals(&list[n..]), b" kept", b" changed")
@@ -110,13 +110,13 @@ pub fn kept_literals(out: &mut [u8], at: usize, list: &[u32], n: usize) -> usize
 // Prints whether all bytes but the first were kept, and the first ones on lines of their own.
 pub fn kept_bytes(out: &mut [u8], at: usize, list: &[u8], n: usize) -> usize {
     if list.len() < n {
-        return printing::print_bytes(out, at, b" more than were lent");
+        return text_print::print_bytes(out, at, b" more than were lent");
     }
     let to = either(out, at, all_bytes(&list[n..]), b" kept\n", b" changed\n");
-    printing::print_bytes(out, to, &list[..n])
+    text_print::print_bytes(out, to, &list[..n])
 }
 
 // Prints that a case is not in the form that it should have.
 pub fn malformed(out: &mut [u8], at: usize) -> usize {
-    printing::print_bytes(out, at, b"malformed")
+    text_print::print_bytes(out, at, b"malformed")
 }

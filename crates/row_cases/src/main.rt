@@ -126,14 +126,14 @@ fn definitions(out: &mut [u8]) {
 // An input of 16,384 bytes is taken.
 fn at_the_limit(out: &mut [u8]) {
     let mut long = [120u8; 16384];
-    decimal::write_bytes(&mut long, 0, b"1 1\naag 3 1 1 1 1\n2\n4 6\n6\n6 4 2\n");
+    text_decimal::write_bytes(&mut long, 0, b"1 1\naag 3 1 1 1 1\n2\n4 6\n6\n6 4 2\n");
     show(&long, out);
 }
 
 // One byte more is 3.
 fn past_the_limit(out: &mut [u8]) {
     let mut long = [120u8; 16385];
-    decimal::write_bytes(&mut long, 0, b"1 1\naag 3 1 1 1 1\n2\n4 6\n6\n6 4 2\n");
+    text_decimal::write_bytes(&mut long, 0, b"1 1\naag 3 1 1 1 1\n2\n4 6\n6\n6 4 2\n");
     show(&long, out);
 }
 

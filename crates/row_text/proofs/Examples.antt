@@ -4,7 +4,7 @@ use mathlib.Core.List.{[], _∷_}
 use lib.ListN.{length}
 use Rattle.lists.specs.Answer.{got, refused}
 use Rattle.text.specs.Numbers.{numberOf}
-use Rattle.decimal.specs.Decimal.{decimal}
+use Rattle.text_decimal.specs.Decimal.{decimal}
 use Rattle.row_text.specs.RowProgram.{firstLine, afterLine, pieces, numbersOf, rowAnswer, printed, rowText}
 
 -- ---- the first line

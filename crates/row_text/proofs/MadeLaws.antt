@@ -13,16 +13,16 @@ use Rattle.model.specs.Circuit.{Circuit}
 use Rattle.cnf.specs.declared.Table.{Table}
 use Rattle.cnf.specs.Clauses.{Clause, literalsOf, pairsFrom, returned}
 use Rattle.cnf.proofs.ReturnedLaws.{returned-back}
-use Rattle.completeness.specs.Calls.{Asked, Lent, asked, predicate, within, relationRow, relationOn}
-use Rattle.completeness.specs.Limits.{isState, statesClaimed}
-use Rattle.completeness.specs.Lists.{relationClauses}
+use Rattle.obligation_spec.specs.Calls.{Asked, Lent, asked, predicate, within, relationRow, relationOn}
+use Rattle.obligation_spec.specs.Limits.{isState, statesClaimed}
+use Rattle.obligation_spec.specs.Lists.{relationClauses}
 use Rattle.obligation.specs.declared.Made.{Made}
 use Rattle.obligation.specs.declared.Made.the-variants.{Clauses, Refused}
 use Rattle.obligation.specs.Promise.{answerOf, sizes, Buffers, lentOf, Makes, MakesRelation}
 use Rattle.row_text.specs.RowProgram.{printed}
 use Rattle.row_text.specs.Steps.{numbersIn, InFront}
 use Rattle.row_text.specs.Made.{madeAnswer, Standing, Printable}
-use Rattle.decimal.specs.Writing.{Wrote}
+use Rattle.text_decimal.specs.Writing.{Wrote}
 
 pub numbers-in : (cs : List Clause) → numbersIn cs ≡ 2 * length cs + length (literalsOf cs)
 numbers-in [] = refl

@@ -6,12 +6,12 @@ use native.Mathlib.Omega.{arith}
 use lib.ListN.{length, take, length-append}
 use Rattle.lists.specs.Parts.{Bytes, put}
 use Rattle.lists.proofs.PartLaws.{put-none, put-put, put-length, put-take-end}
-use Rattle.decimal.specs.declared.Written.{Written}
-use Rattle.decimal.specs.declared.Written.the-variants.{Next, NoRoom}
-use Rattle.decimal.specs.Decimal.{decimal}
-use Rattle.decimal.specs.Writing.{writtenAt, written, Wrote}
-use Rattle.decimal.proofs.DecimalLaws.{decimal-length-word}
-use Rattle.decimal.proofs.WritingLaws.{wrote, kept}
+use Rattle.text_decimal.specs.declared.Written.{Written}
+use Rattle.text_decimal.specs.declared.Written.the-variants.{Next, NoRoom}
+use Rattle.text_decimal.specs.Decimal.{decimal}
+use Rattle.text_decimal.specs.Writing.{writtenAt, written, Wrote}
+use Rattle.text_decimal.proofs.DecimalLaws.{decimal-length-word}
+use Rattle.text_decimal.proofs.WritingLaws.{wrote, kept}
 use Rattle.row_text.specs.Steps.{Prints}
 
 -- some bytes, and others behind them

@@ -11,9 +11,9 @@ use Rattle.lists.specs.Parts.{Bytes, part}
 use Rattle.lists.proofs.PartLaws.{part-length}
 use Rattle.cnf.proofs.ReturnedLaws.{pairs-length}
 use Rattle.lists.proofs.RestLaws.{rest-head, rest-more}
-use Rattle.decimal.specs.Decimal.{decimal}
-use Rattle.decimal.specs.Printed.{numberLine, textOf}
-use Rattle.decimal.specs.Writing.{Wrote}
+use Rattle.text_decimal.specs.Decimal.{decimal}
+use Rattle.text_decimal.specs.Printed.{numberLine, textOf}
+use Rattle.text_decimal.specs.Writing.{Wrote}
 use Rattle.cnf.specs.Clauses.{Clause, literalsOf, pairsFrom}
 use Rattle.row_text.specs.RowProgram.{clauseLines, rowsWord, refusedWord, printed}
 use Rattle.row_text.specs.Steps.{spacedNumbers, clauseBytes, clausesBytes, numbersIn, InFront, Prints}

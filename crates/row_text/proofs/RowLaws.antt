@@ -15,15 +15,15 @@ use Rattle.scan.specs.Spans.{span, inLine}
 use Rattle.scan.proofs.SpanLaws.{span-le}
 use Rattle.model.specs.declared.Verdict.the-variants.{Valid, Refused}
 use Rattle.model.specs.Circuit.{Circuit}
-use Rattle.transition.specs.declared.ReadTransition.{ReadTransition}
-use Rattle.transition.specs.Reading.{readTransition, Reads}
-use Rattle.completeness.specs.Calls.{relationRow}
+use Rattle.model_read.specs.declared.ReadTransition.{ReadTransition}
+use Rattle.model_read.specs.Reading.{readTransition, Reads}
+use Rattle.obligation_spec.specs.Calls.{relationRow}
 use Rattle.row_text.specs.declared.Numbers.{Numbers}
 use Rattle.row_text.specs.declared.Numbers.the-variants.{Count, OtherForm}
 use Rattle.row_text.specs.RowProgram.{firstLine, afterLine, pieces, numbersOf, rowAnswer, printed, rowText, bare, bareOf, rowIn, RowWrites}
 use Rattle.row_text.specs.Steps.{answerIn}
 use Rattle.row_text.specs.Made.{PrintsIn, PrintsFor}
-use Rattle.decimal.specs.Writing.{Wrote}
+use Rattle.text_decimal.specs.Writing.{Wrote}
 
 -- ---- the model
 

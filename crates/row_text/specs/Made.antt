@@ -4,7 +4,7 @@ use mathlib.Core.Path.{_≡_}
 use mathlib.Core.List.{List}
 use Rattle.lists.specs.Answer.{Answer, got, refused}
 use Rattle.lists.specs.Parts.{Bytes}
-use Rattle.decimal.specs.Writing.{Wrote}
+use Rattle.text_decimal.specs.Writing.{Wrote}
 use Rattle.cnf.specs.declared.Table.{Table}
 use Rattle.cnf.specs.Clauses.{Clause, returned}
 use Rattle.obligation.specs.declared.Made.{Made}

@@ -13,13 +13,13 @@ use Rattle.text.specs.declared.Number.the-variants.{Value, Unreadable}
 use Rattle.text.specs.declared.Reader.the-variants.{Transition}
 use Rattle.text.specs.Lines.{consHead}
 use Rattle.text.specs.Numbers.{numberOf}
-use Rattle.decimal.specs.Decimal.{decimal}
-use Rattle.decimal.specs.Printed.{numberLine, textOf}
+use Rattle.text_decimal.specs.Decimal.{decimal}
+use Rattle.text_decimal.specs.Printed.{numberLine, textOf}
 use Rattle.model.specs.declared.AigerTransition.{AigerTransition}
 use Rattle.model.specs.Circuit.{Circuit, recordOf, wordsOfGates}
-use Rattle.transition.specs.Reading.{readTransition}
+use Rattle.model_read.specs.Reading.{readTransition}
 use Rattle.cnf.specs.Clauses.{Clause}
-use Rattle.completeness.specs.Calls.{Asked, Lent, relationRow}
+use Rattle.obligation_spec.specs.Calls.{Asked, Lent, relationRow}
 
 -- "one line", up to byte 10 or the end, and what follows it
 abbrev pub firstLine : Bytes → Bytes

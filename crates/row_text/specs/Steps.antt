@@ -8,9 +8,9 @@ use lib.ListN.{length, take}
 use Rattle.lists.specs.Answer.{Answer, got, refused}
 use Rattle.lists.specs.Parts.{Bytes}
 use Rattle.lists.specs.Words.{wordsOf}
-use Rattle.decimal.specs.Decimal.{decimal}
-use Rattle.decimal.specs.Printed.{numberLine}
-use Rattle.decimal.specs.Writing.{Wrote}
+use Rattle.text_decimal.specs.Decimal.{decimal}
+use Rattle.text_decimal.specs.Printed.{numberLine}
+use Rattle.text_decimal.specs.Writing.{Wrote}
 use Rattle.cnf.specs.Clauses.{Clause, literalsOf, pairsFrom}
 use Rattle.row_text.specs.declared.Numbers.{Numbers}
 use Rattle.row_text.specs.declared.Numbers.the-variants.{Count, OtherForm}

@@ -6,14 +6,14 @@ ghost use lib.ListN.{length, drop};
 ghost use Rattle.lists.specs.Answer.{got, refused};
 ghost use Rattle.lists.specs.Parts.{part};
 ghost use Rattle.scan.specs.Spans.{span};
-ghost use Rattle.decimal.specs.Decimal.{decimal};
-ghost use Rattle.decimal.specs.Writing.{Wrote};
+ghost use Rattle.text_decimal.specs.Decimal.{decimal};
+ghost use Rattle.text_decimal.specs.Writing.{Wrote};
 ghost use Rattle.cnf.specs.Clauses.{returned};
 ghost use Rattle.row_text.specs.RowProgram.{pieces, numbersOf, printed, rowText, bare, RowWrites};
 ghost use Rattle.row_text.specs.Steps.{inPiece, answerIn, spacedNumbers, clauseBytes, clausesBytes, numbersIn, InFront, Prints};
-ghost use Rattle.completeness.specs.Calls.{relationRow};
+ghost use Rattle.obligation_spec.specs.Calls.{relationRow};
 ghost use Rattle.row_text.specs.Made.{madeAnswer, Printable, PrintsIn, PrintsFor};
-use decimal::Written;
+use text_decimal::Written;
 use model::AigerTransition;
 use model::Verdict;
 use obligation::Made;
@@ -70,10 +70,10 @@ fn write_number(out: &mut [u8], at: usize, before: &[u8], n: u64) -> usize
     requires { ⌜ at + (length (now before) + 20) ≤ length (now out) ⌝ }
     ensures { λ r. ⌜ Prints (now (out .entry)) at (now (before .entry) ++ decimal n) (length (now (before .entry)) + 20) (now (out .exit)) r ⌝ }
 {
-    let Written::Next(start) = decimal::write_bytes(out, at, before) else {
+    let Written::Next(start) = text_decimal::write_bytes(out, at, before) else {
         return at;
     };
-    let Written::Next(end) = decimal::write_decimal(out, start, n) else {
+    let Written::Next(end) = text_decimal::write_decimal(out, start, n) else {
         return at;
     };
     end
@@ -126,7 +126,7 @@ fn write_end(out: &mut [u8], at: usize) -> usize
     requires { ⌜ at < length (now out) ⌝ }
     ensures { λ r. ⌜ Prints (now (out .entry)) at (10 ∷ []) 1 (now (out .exit)) r ⌝ }
 {
-    let Written::Next(end) = decimal::write_byte(out, at, 10) else {
+    let Written::Next(end) = text_decimal::write_byte(out, at, 10) else {
         return at;
     };
     end
@@ -208,7 +208,7 @@ fn print_for(
     if numbers.len() == 0 {
         return write_refused(out, 14);
     }
-    let read = transition::parse_ascii_aiger_transition(text, gates, work);
+    let read = model_read::parse_ascii_aiger_transition(text, gates, work);
     let verdict = read.verdict;
     match verdict {
         Verdict::Valid => print_row(

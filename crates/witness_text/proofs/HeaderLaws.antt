@@ -14,14 +14,14 @@ use Rattle.lists.proofs.ZeroLaws.{front-zeros}
 use Rattle.text.specs.declared.Cursor.{Cursor}
 use Rattle.text.specs.declared.Reader.the-variants.{Witness}
 use Rattle.text.specs.Lines.{linesOf}
-use Rattle.sections.specs.declared.Header.{Header}
-use Rattle.sections.specs.SectionLines.{firstNumbers}
-use Rattle.sections.specs.Inner.{atMost}
-use Rattle.sections.specs.Places.{Headed, TakesHeader}
+use Rattle.circuit_lines.specs.declared.Header.{Header}
+use Rattle.circuit_lines.specs.SectionLines.{firstNumbers}
+use Rattle.circuit_lines.specs.Inner.{atMost}
+use Rattle.circuit_lines.specs.Places.{Headed, TakesHeader}
 use Rattle.witness_text.specs.declared.AagCounts.{AagCounts}
 use Rattle.witness_text.specs.Header.{countsFrom, fiveToNine, headerOf}
 use Rattle.witness_text.specs.Inner.{TakesCounts}
-use Rattle.sections.specs.declared.Header.the-variants as numbers
+use Rattle.circuit_lines.specs.declared.Header.the-variants as numbers
 use Rattle.witness_text.specs.declared.Header.the-variants as header
 
 -- ---- counts_of

@@ -12,15 +12,15 @@ use Rattle.text.specs.declared.Line.{Line}
 use Rattle.text.specs.declared.Reader.the-variants.{Witness}
 use Rattle.text.specs.Lines.{lineAt}
 use Rattle.text.proofs.LiteralLaws.{numbersFrom}
-use Rattle.sections.specs.declared.Numbers.{Numbers}
-use Rattle.sections.specs.Inner.{atMost, Stored, Stores}
-use Rattle.sections.proofs.PlaceLaws.{one-none, one-bad, one-got}
+use Rattle.circuit_lines.specs.declared.Numbers.{Numbers}
+use Rattle.circuit_lines.specs.Inner.{atMost, Stored, Stores}
+use Rattle.circuit_lines.proofs.PlaceLaws.{one-none, one-bad, one-got}
 use Rattle.witness_text.specs.declared.Latch.{Latch}
 use Rattle.witness_text.specs.declared.ReadLatch.{ReadLatch}
 use Rattle.witness_text.specs.LatchLines.{latchFrom, latchNumbers, latchLine}
 use Rattle.witness_text.specs.Inner.{latchAnswer, TakesLatch}
 use Rattle.text.specs.declared.Line.the-variants as line
-use Rattle.sections.specs.declared.Numbers.the-variants as count
+use Rattle.circuit_lines.specs.declared.Numbers.the-variants as count
 use Rattle.witness_text.specs.declared.ReadLatch.the-variants as read
 use Rattle.witness_text.specs.declared.TakenLatch.the-variants as latch
 

@@ -10,7 +10,7 @@ use Rattle.lists.specs.Parts.{Bytes}
 use Rattle.lists.specs.Tests.{every}
 use Rattle.text.specs.declared.Reader.the-variants.{Witness}
 use Rattle.text.specs.Texts.{Limits, within}
-use Rattle.sections.specs.SectionLines.{firstNumbers}
+use Rattle.circuit_lines.specs.SectionLines.{firstNumbers}
 use Rattle.witness_text.specs.declared.AagCounts.{AagCounts}
 
 -- the counts M I L O A B C J F in their order, "absent ones 0"

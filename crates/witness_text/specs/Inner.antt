@@ -6,8 +6,8 @@ use Rattle.lists.specs.Answer.{Answer, got, refused}
 use Rattle.lists.specs.Parts.{Bytes}
 use Rattle.text.specs.declared.Cursor.{Cursor}
 use Rattle.text.specs.Lines.{linesOf}
-use Rattle.sections.specs.Places.{linesFrom, Takes}
-use Rattle.sections.specs.declared.Place.the-variants as place
+use Rattle.circuit_lines.specs.Places.{linesFrom, Takes}
+use Rattle.circuit_lines.specs.declared.Place.the-variants as place
 use Rattle.witness_text.specs.declared.AagCounts.{AagCounts}
 use Rattle.witness_text.specs.declared.Header.{Header}
 use Rattle.witness_text.specs.declared.Kind.{Kind}

@@ -5,7 +5,7 @@ ghost use Rattle.witness_text.specs.Header.{countsFrom, counted, without
 ghost use Rattle.witness_text.specs.LatchLines.{latchLine};
 ghost use Rattle.witness_text.specs.Symbols.{endsSymbols, countOf, kindOf, beforeSpace, symbolOf};
 ghost use Rattle.witness_text.specs.Inner.{TakesCounts, latchAnswer, kindAnswer, symbolAnswer, TakesLatch};
-use sections::Numbers;
+use circuit_lines::Numbers;
 use text::Cursor;
 use text::Line;
 use text::Number;
@@ -91,7 +91,7 @@ pub fn take_header(s: &[u8]) -> Header
     ensures { λ r. ⌜ TakesCounts (now (s .entry)) r ⌝ }
 {
     let mut ns: [u64; 9] = [0; 9];
-    let sections::Header::Got { count, next } = sections::take_header(Reader::Witness, s, &mut ns)
+    let circuit_lines::Header::Got { count, next } = circuit_lines::take_header(Reader::Witness, s, &mut ns)
     else {
         return Header::Refused;
     };
@@ -135,7 +135,7 @@ fn latch_line(l: &[u8]) -> ReadLatch
     ensures { λ r. ⌜ latchAnswer r ≡ latchLine (now (l .entry)) ⌝ }
 {
     let mut ns: [u64; 3] = [0; 3];
-    let Numbers::Got(count) = sections::take_numbers(Reader::Witness, l, 0, &mut ns) else {
+    let Numbers::Got(count) = circuit_lines::take_numbers(Reader::Witness, l, 0, &mut ns) else {
         return ReadLatch::Bad;
     };
     if count < 2 {

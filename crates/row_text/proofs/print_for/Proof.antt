@@ -7,7 +7,7 @@ use Rattle.row_text.proofs.print_for.Reads as reads
 use Rattle.row_text.proofs.print_for.Lts as lts
 use Rattle.row_text.proofs.print_row.Reads as print-row-reads
 use Rattle.row_text.proofs.write_refused.Reads as write-refused-reads
-use Rattle.transition.proofs.parse_ascii_aiger_transition.Reads as parse-ascii-aiger-transition-reads
+use Rattle.model_read.proofs.parse_ascii_aiger_transition.Reads as parse-ascii-aiger-transition-reads
 
 write-refused-requires : tie.Need-write-refused-requires
 write-refused-requires c κs = search needs

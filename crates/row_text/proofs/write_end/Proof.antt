@@ -4,7 +4,7 @@ use Rattle.row_text.proofs.write_end.Statement.{statement}
 use Rattle.row_text.proofs.write_end.Tie as tie
 use Rattle.row_text.proofs.write_end.Reads as reads
 use Rattle.row_text.proofs.write_end.Lts as lts
-use Rattle.decimal.proofs.write_byte.Reads as write-byte-reads
+use Rattle.text_decimal.proofs.write_byte.Reads as write-byte-reads
 
 write-byte-requires : tie.Need-write-byte-requires
 write-byte-requires c κs = search needs

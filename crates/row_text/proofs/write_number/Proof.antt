@@ -4,8 +4,8 @@ use Rattle.row_text.proofs.write_number.Statement.{statement}
 use Rattle.row_text.proofs.write_number.Tie as tie
 use Rattle.row_text.proofs.write_number.Reads as reads
 use Rattle.row_text.proofs.write_number.Lts as lts
-use Rattle.decimal.proofs.write_bytes.Reads as write-bytes-reads
-use Rattle.decimal.proofs.write_decimal.Reads as write-decimal-reads
+use Rattle.text_decimal.proofs.write_bytes.Reads as write-bytes-reads
+use Rattle.text_decimal.proofs.write_decimal.Reads as write-decimal-reads
 
 write-bytes-requires : tie.Need-write-bytes-requires
 write-bytes-requires c κs = search needs

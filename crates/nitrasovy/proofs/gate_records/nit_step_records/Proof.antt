@@ -46,16 +46,16 @@ use Rattle.aiger.specs.declared.Gate.{Gate}
 use Rattle.aiger.specs.Gates.{gateWords}
 use Rattle.aiger.proofs.Gate as T
 use Rattle.model.specs.RecordWords.{recordIn}
-use Rattle.step.specs.declared.Outcome.{Outcome}
-use Rattle.step.specs.declared.Stepped.{Stepped}
-use Rattle.step.specs.Step.{stepOf, answerOf}
-use Rattle.step.proofs.Stepped as S
-use Rattle.step.proofs.Stepped.Laws as S′
-use Rattle.records.proofs.Again.{LentAgain, lends-again, comes-back}
-use Rattle.records.proofs.evaluate_records as step
-use Rattle.records.proofs.evaluate_records.Symbol as step-def
-use Rattle.records.proofs.evaluate_records.Symbol.{name as #records·evaluate-records}
-use Rattle.records.proofs.evaluate_records.Met as step-thm
+use Rattle.model_step.specs.declared.Outcome.{Outcome}
+use Rattle.model_step.specs.declared.Stepped.{Stepped}
+use Rattle.model_step.specs.Step.{stepOf, answerOf}
+use Rattle.model_step.proofs.Stepped as S
+use Rattle.model_step.proofs.Stepped.Laws as S′
+use Rattle.model_step_records.proofs.Again.{LentAgain, lends-again, comes-back}
+use Rattle.model_step_records.proofs.evaluate_records as step
+use Rattle.model_step_records.proofs.evaluate_records.Symbol as step-def
+use Rattle.model_step_records.proofs.evaluate_records.Symbol.{name as #records·evaluate-records}
+use Rattle.model_step_records.proofs.evaluate_records.Met as step-thm
 use Rattle.nitrasovy.specs.declared.models.NitStepped.{NitStepped}
 use Rattle.nitrasovy.specs.FlatModels.{flatStep, StepsFlat}
 use Rattle.nitrasovy.proofs.ModelLaws.{steps-flat}

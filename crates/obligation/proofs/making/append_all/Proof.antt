@@ -5,7 +5,7 @@ use Rattle.obligation.proofs.making.append_all.Statement.{statement}
 use Rattle.obligation.proofs.making.append_all.Tie as tie
 use Rattle.obligation.proofs.making.append_all.Reads as reads
 use Rattle.obligation.proofs.making.append_all.Lts as lts
-use Rattle.encoding.proofs.push_literal.Reads as push-literal-reads
+use Rattle.obligation_gates.proofs.push_literal.Reads as push-literal-reads
 use Rattle.obligation.proofs.making.append_claims.Reads as append-claims-reads
 use Rattle.obligation.proofs.making.append_front.Reads as append-front-reads
 

@@ -5,8 +5,8 @@ use Rattle.obligation.proofs.making.append_claims.Statement.{statement}
 use Rattle.obligation.proofs.making.append_claims.Tie as tie
 use Rattle.obligation.proofs.making.append_claims.Reads as reads
 use Rattle.obligation.proofs.making.append_claims.Lts as lts
-use Rattle.claims.proofs.append_outcomes.Reads as append-outcomes-reads
-use Rattle.claims.proofs.append_states.Reads as append-states-reads
+use Rattle.obligation_claims.proofs.append_outcomes.Reads as append-outcomes-reads
+use Rattle.obligation_claims.proofs.append_states.Reads as append-states-reads
 
 append-outcomes-requires : tie.Need-append-outcomes-requires
 append-outcomes-requires c κs = let s = c .before .before .before .before .before .before .before in

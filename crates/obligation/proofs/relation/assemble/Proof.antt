@@ -1,15 +1,15 @@
 use native.Mathlib.Omega.{arith}
 use Rattle.model.proofs.ValueLaws.{Sized}
 use Rattle.model.specs.Circuit.{recordFrom}
-use Rattle.completeness.specs.Calls.{Asked}
-use Rattle.boundary.specs.Boundary.{askedOf}
+use Rattle.obligation_spec.specs.Calls.{Asked}
+use Rattle.obligation_check.specs.Boundary.{askedOf}
 use Rattle.obligation.proofs.AssembleLaws.{in-order, currents-list, nexts-list, low-list, few-list, relation-ready, relation-made}
 use borrow.Author.Needs.{needs}
 use Rattle.obligation.proofs.relation.assemble.Statement.{statement}
 use Rattle.obligation.proofs.relation.assemble.Tie as tie
 use Rattle.obligation.proofs.relation.assemble.Reads as reads
 use Rattle.obligation.proofs.relation.assemble.Lts as lts
-use Rattle.claims.proofs.state_keys.Reads as state-keys-reads
+use Rattle.obligation_claims.proofs.state_keys.Reads as state-keys-reads
 use Rattle.lists.proofs.first.Reads as first-reads
 use Rattle.model.proofs.currents.Reads as currents-reads
 use Rattle.model.proofs.nexts.Reads as nexts-reads

@@ -1,15 +1,15 @@
 use native.Mathlib.Omega.{arith}
 use Rattle.model.proofs.ValueLaws.{Sized}
 use Rattle.model.specs.Circuit.{recordFrom}
-use Rattle.completeness.specs.Calls.{Asked}
-use Rattle.boundary.specs.Boundary.{askedOf}
+use Rattle.obligation_spec.specs.Calls.{Asked}
+use Rattle.obligation_check.specs.Boundary.{askedOf}
 use Rattle.obligation.proofs.AssembleLaws.{in-order, currents-list, low-list-now, few-list-now, terminal-list-ready, terminal-made, output-low, bad-output}
 use borrow.Author.Needs.{needs}
 use Rattle.obligation.proofs.terminal.assemble.Statement.{statement}
 use Rattle.obligation.proofs.terminal.assemble.Tie as tie
 use Rattle.obligation.proofs.terminal.assemble.Reads as reads
 use Rattle.obligation.proofs.terminal.assemble.Lts as lts
-use Rattle.claims.proofs.state_keys.Reads as state-keys-reads
+use Rattle.obligation_claims.proofs.state_keys.Reads as state-keys-reads
 use Rattle.cnf.proofs.opposite_of.Reads as opposite-of-reads
 use Rattle.lists.proofs.first.Reads as first-reads
 use Rattle.lists.proofs.word.Reads as word-reads

@@ -1,7 +1,7 @@
 use Rattle.obligation.proofs.ReadyLaws.{few-latches}
 use Rattle.obligation.proofs.ClaimLaws.{states-hold, terminal-no-output, terminal-no-states, terminal-made}
-use Rattle.boundary.specs.Boundary.{askedOf}
-use Rattle.completeness.specs.Calls.{Asked}
+use Rattle.obligation_check.specs.Boundary.{askedOf}
+use Rattle.obligation_spec.specs.Calls.{Asked}
 use Rattle.model.specs.Circuit.{recordFrom}
 use Rattle.model.proofs.ValueLaws.{Sized}
 use borrow.Author.Needs.{needs}

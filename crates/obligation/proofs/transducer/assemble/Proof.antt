@@ -1,8 +1,8 @@
 use native.Mathlib.Omega.{arith}
 use Rattle.model.proofs.ValueLaws.{Sized}
 use Rattle.model.specs.Circuit.{recordFrom}
-use Rattle.completeness.specs.Calls.{Asked}
-use Rattle.boundary.specs.Boundary.{askedOf}
+use Rattle.obligation_spec.specs.Calls.{Asked}
+use Rattle.obligation_check.specs.Boundary.{askedOf}
 use Rattle.obligation.proofs.AssembleLaws.{in-order, currents-list, nexts-list, low-list, few-list, low-list-out, transducer-ready, transducer-made}
 use Rattle.obligation.proofs.ReadyLaws.{few-observed}
 use borrow.Author.Needs.{needs}
@@ -10,7 +10,7 @@ use Rattle.obligation.proofs.transducer.assemble.Statement.{statement}
 use Rattle.obligation.proofs.transducer.assemble.Tie as tie
 use Rattle.obligation.proofs.transducer.assemble.Reads as reads
 use Rattle.obligation.proofs.transducer.assemble.Lts as lts
-use Rattle.claims.proofs.outcome_keys.Reads as outcome-keys-reads
+use Rattle.obligation_claims.proofs.outcome_keys.Reads as outcome-keys-reads
 use Rattle.lists.proofs.first.Reads as first-reads
 use Rattle.model.proofs.currents.Reads as currents-reads
 use Rattle.model.proofs.nexts.Reads as nexts-reads

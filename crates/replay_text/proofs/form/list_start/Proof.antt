@@ -6,7 +6,7 @@ use Rattle.replay_text.proofs.form.list_start.Statement.{statement}
 use Rattle.replay_text.proofs.form.list_start.Tie as tie
 use Rattle.replay_text.proofs.form.list_start.Reads as reads
 use Rattle.replay_text.proofs.form.list_start.Lts as lts
-use Rattle.printing.proofs.advance.Reads as advance-reads
+use Rattle.text_print.proofs.advance.Reads as advance-reads
 use Rattle.replay_text.proofs.form.size.Reads as size-reads
 
 abbrev Inv-loop : tie.InvT-loop

@@ -5,7 +5,7 @@ use Rattle.replay_text.proofs.show.kept_bytes.Statement.{statement}
 use Rattle.replay_text.proofs.show.kept_bytes.Tie as tie
 use Rattle.replay_text.proofs.show.kept_bytes.Reads as reads
 use Rattle.replay_text.proofs.show.kept_bytes.Lts as lts
-use Rattle.printing.proofs.print_bytes.Reads as print-bytes-reads
+use Rattle.text_print.proofs.print_bytes.Reads as print-bytes-reads
 use Rattle.replay_text.proofs.show.all_bytes.Reads as all-bytes-reads
 use Rattle.replay_text.proofs.show.either.Reads as either-reads
 

@@ -5,7 +5,7 @@ use Rattle.replay_text.proofs.show.kept_literals.Statement.{statement}
 use Rattle.replay_text.proofs.show.kept_literals.Tie as tie
 use Rattle.replay_text.proofs.show.kept_literals.Reads as reads
 use Rattle.replay_text.proofs.show.kept_literals.Lts as lts
-use Rattle.printing.proofs.print_bytes.Reads as print-bytes-reads
+use Rattle.text_print.proofs.print_bytes.Reads as print-bytes-reads
 use Rattle.replay_text.proofs.show.all_literals.Reads as all-literals-reads
 use Rattle.replay_text.proofs.show.either.Reads as either-reads
 use Rattle.replay_text.proofs.show.literals.Reads as literals-reads

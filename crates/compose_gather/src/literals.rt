@@ -1,0 +1,176 @@
+// The lists of literals of all witnesses, each gathered into one list of joint literals.
+ghost use mathlib.Core.List.{map};
+ghost use mathlib.Core.Path.{_≡_};
+ghost use Prim.Native.Nat.{_+_, _<_};
+ghost use Rattle.lists.specs.Parts.{part, put};
+ghost use Rattle.compose_joint.specs.Joint.{shifted, shiftedLiteral, jointLiterals, listOf};
+ghost use Rattle.compose_gather.specs.Counts.{CountsListed};
+ghost use Rattle.compose_gather.specs.Gathered.{wordsFor, rangeOf, Shiftable, SmallWord, CanShift, shiftFor, beyondCounts, SmallBefore, CanShiftList, ShiftsRange, literalCount, CanGather, RightTotals, Gathers};
+use crate::Range;
+use compose_joint::Before;
+use compose_joint::Literals;
+use compose_joint::Shift;
+use witness_text::AagCounts;
+
+// Where a list of literals stands among the words of a text with these counts.
+fn range_of(kind: Literals, n: AagCounts) -> Range
+    requires { ⌜ wordsFor n < 18446744073709551616 ⌝ }
+    ensures { λ r. ⌜ r ≡ rangeOf kind n ⌝ }
+{
+    let outputs = 2 * n.inputs + 4 * n.latches;
+    match kind {
+        Literals::Latches => Range {
+            start: 2 * n.inputs + 2 * n.latches,
+            count: 2 * n.latches,
+        },
+        Literals::Safety => {
+            if n.bads == 0 {
+                return Range {
+                    start: outputs,
+                    count: n.outputs,
+                };
+            }
+            Range {
+                start: outputs + n.outputs,
+                count: n.bads,
+            }
+        }
+        Literals::Constraints => Range {
+            start: outputs + n.outputs + n.bads,
+            count: n.constraints,
+        },
+        Literals::Operands => Range {
+            start: outputs + n.outputs + n.bads + n.constraints,
+            count: 2 * n.gates,
+        },
+    }
+}
+
+// The joint variable of a variable.
+fn shift(h: Shift, x: usize) -> usize
+    requires { ⌜ Shiftable h x ⌝ }
+    ensures { λ r. ⌜ SmallWord r (shifted h x) ⌝ }
+{
+    if x == 0 {
+        return 0;
+    }
+    if x <= h.inputs {
+        return x + h.by_input;
+    }
+    if x <= h.leaves {
+        return x + h.by_latch;
+    }
+    x + h.by_gate
+}
+
+fn shift_literal(h: Shift, l: u64) -> u64
+    requires { ⌜ Shiftable h l ⌝ }
+    ensures { λ r. ⌜ r ≡ shiftedLiteral h l ⌝ }
+{
+    let x = shift(h, lists::index(l / 2));
+    2 * x as u64 + l % 2
+}
+
+// Literals from one place on, written as joint literals from another place on.
+fn shift_words(work: &mut [u64], from: usize, count: usize, to: usize, h: Shift)
+    requires { ⌜ CanShift h (now work) from count to ⌝ }
+    ensures { λ _. ⌜ now (work .exit) ≡ put (now (work .entry)) to (map (shiftedLiteral h) (part (now (work .entry)) from (from + count))) ⌝ }
+{
+    let mut i = 0;
+    while i < count {
+        work[to + i] = shift_literal(h, work[from + i]);
+        i += 1;
+    }
+}
+
+// How the variables of a witness become joint ones.
+fn shift_of(inputs: usize, latches: usize, b: Before, n: AagCounts) -> Shift
+    requires { ⌜ SmallBefore inputs latches b n ⌝ }
+    ensures { λ r. ⌜ r ≡ shiftFor inputs latches b n ⌝ }
+{
+    let leaves = n.inputs + n.latches;
+    Shift {
+        inputs: n.inputs,
+        leaves: leaves,
+        by_input: b.inputs,
+        by_latch: inputs + b.latches - n.inputs,
+        by_gate: inputs + latches + b.gates - leaves,
+    }
+}
+
+// What stands before the next witness.
+fn pass(inputs: usize, latches: usize, b: Before, n: AagCounts) -> Before
+    requires { ⌜ SmallBefore inputs latches b n ⌝ }
+    ensures { λ r. ⌜ r ≡ beyondCounts b n ⌝ }
+{
+    Before {
+        inputs: b.inputs + n.inputs,
+        latches: b.latches + n.latches,
+        gates: b.gates + n.gates,
+    }
+}
+
+// The literals of a range behind a place, written as joint literals from another place on. Returns the place after them.
+fn shift_range(range: Range, h: Shift, work: &mut [u64], from: usize, to: usize) -> usize
+    requires { ⌜ CanShift h (now work) (from + range .start) (range .count) to ⌝ }
+    ensures { λ r. ⌜ ShiftsRange range h (now (work .entry)) from to (now (work .exit)) r ⌝ }
+{
+    shift_words(work, from + range.start, range.count, to, h);
+    to + range.count
+}
+
+// A list of one witness, whose words begin at a place, written as joint literals from another place on. Returns the place after it.
+fn shift_list(
+    kind: Literals,
+    n: AagCounts,
+    inputs: usize,
+    latches: usize,
+    b: Before,
+    work: &mut [u64],
+    from: usize,
+    to: usize,
+) -> usize
+    requires { ⌜ SmallBefore inputs latches b n ⌝ }
+    requires { ⌜ CanShiftList kind n (shiftFor inputs latches b n) (now work) from to ⌝ }
+    ensures { λ r. ⌜ ShiftsRange (rangeOf kind n) (shiftFor inputs latches b n) (now (work .entry)) from to (now (work .exit)) r ⌝ }
+{
+    let h = shift_of(inputs, latches, b, n);
+    let range = range_of(kind, n);
+    shift_range(range, h, work, from, to)
+}
+
+// A list of all witnesses, from a place on. Returns the place after it. The texts are lent for the contract alone, which says of which witnesses the words are.
+pub fn gather(
+    witnesses: &[u8],
+    pairs: &[u64],
+    counts: &[u64],
+    work: &mut [u64],
+    kind: Literals,
+    inputs: usize,
+    latches: usize,
+    to: usize,
+) -> usize
+    requires { ⌜ CanGather (literalCount kind) (now witnesses) (now pairs) (now work) to ⌝ }
+    requires { ⌜ CountsListed (now witnesses) (now pairs) (now counts) ⌝ }
+    requires { ⌜ RightTotals (now witnesses) (now pairs) inputs latches ⌝ }
+    ensures { λ r. ⌜ Gathers (jointLiterals (listOf kind) inputs latches) (literalCount kind) (now (witnesses .entry)) (now (pairs .entry)) (now (work .entry)) to (now (work .exit)) r ⌝ }
+{
+    let count = pairs.len() / 2;
+    let mut b = Before {
+        inputs: 0,
+        latches: 0,
+        gates: 0,
+    };
+    let mut from = 0;
+    let mut at = to;
+    let mut w = 0;
+    while w < count {
+        let n = crate::counts::counts_at(counts, w);
+        let next = crate::after_words(n, from, at);
+        at = shift_list(kind, n, inputs, latches, b, work, from, at);
+        from = next;
+        b = pass(inputs, latches, b, n);
+        w += 1;
+    }
+    at
+}

@@ -1,0 +1,119 @@
+-- Laws of laying out region by region: the lists of literals.
+use Prim.Native.Nat.{ℕ, _+_, _*_, _≤_}
+use mathlib.Core.List.{List, [], _∷_, _++_}
+use mathlib.Core.Path.{_≡_, refl, sym, ap, ap₂, _∙_, subst}
+use native.Mathlib.Omega.{arith}
+use lib.ListN.{length, take}
+use Rattle.lists.specs.Parts.{Bytes, put}
+use Rattle.lists.proofs.AnswerLaws.{got-same}
+use Rattle.lists.proofs.PartLaws.{put-take, put-length}
+use Rattle.witness_text.specs.declared.AagCounts.{AagCounts}
+use Rattle.witness_read.specs.Sections.{Sections}
+use Rattle.compose_spec.specs.Calling.{sizes, textsIn}
+use Rattle.compose_joint.specs.declared.Literals.{Literals}
+use Rattle.compose_joint.specs.declared.Literals.the-variants as literals
+use Rattle.compose_joint.specs.Joint.{totalOf, inputCount, latchCount, jointLiterals, gathered, joint, listOf}
+use Rattle.compose_joint.proofs.AmountLaws.{joint-length}
+use Rattle.compose_gather.specs.declared.Totals.{Totals}
+use Rattle.compose_gather.specs.Gathered.{wordTotal, Readable, CanGather, Gathers, literalCount}
+use Rattle.compose_gather.proofs.BlockLaws.{blocks-same}
+use Rattle.compose_layout.specs.declared.Laid.{Laid}
+use Rattle.compose_layout.specs.Laid.{Has, Known, knownLength, Stage, Staged, Goes, literalsAt, nothing, withLatches, withOperands, withSafety, Fitting}
+use Rattle.compose_layout.proofs.HasLaws.{has-put, standing-more, known-more}
+use Rattle.compose_layout.proofs.RoomLaws.{amounts}
+
+-- how long a joint list of literals is
+pub literals-long : (kind : Literals) (ws : List Sections) → length (joint (listOf kind) ws) ≡ totalOf (literalCount kind) ws
+literals-long kind ws = joint-length (listOf kind) ws
+
+-- other words of the same length do as well
+pub fitting-same : (mc : AagCounts) (t : Totals) (buffer : Bytes) (pairs work work' : List ℕ) (m : Sections) (ws : List Sections) → length work' ≡ length work
+    → Fitting mc t buffer pairs work m ws → Fitting mc t buffer pairs work' m ws
+fitting-same mc t buffer pairs work work' m ws e f = record { readable = f .readable; model = f .model; few = f .few; totals = f .totals; room = omega (arith, f .room) }
+
+-- ---- any list behind others
+
+module _ (mc : AagCounts) (t : Totals) (buffer : Bytes) (pairs work : List ℕ) (ks : List Known) (to : ℕ) (m : Sections) (ws : List Sections) (k : Stage mc t buffer pairs work ks to m ws) where
+  pub stage-behind : wordTotal ws ≤ to
+  stage-behind = omega (arith, k .to-is)
+
+  module _ (work' ys : List ℕ) (e : work' ≡ put work to ys) (fits : to + length ys ≤ length work) where
+    same : length work' ≡ length work
+    same = ap length e ∙ put-length work to ys fits
+
+    kept : (n : ℕ) → n ≤ to → take n work' ≡ take n work
+    kept n h = ap (take n) e ∙ put-take work to ys (omega arith) n h
+
+    pub stage-more : (to' : ℕ) → to' ≡ to + length ys → Stage mc t buffer pairs work' (ks ++ record { place = to; words = ys } ∷ []) to' m ws
+    stage-more to' f =
+        record {
+          fitting = fitting-same mc t buffer pairs work work' m ws same (k .fitting);
+          blocks = blocks-same (textsIn buffer pairs) ws work work' (kept (wordTotal ws) stage-behind) (k .blocks);
+          standing =
+              standing-more work work' to (wordTotal ws) ks (record { place = to; words = ys }) (kept to (omega arith)) same (k .to-is) refl
+              (subst (λ (l : List ℕ). Has l to ys) (sym e) (has-put work to ys fits)) (k .standing);
+          to-is = omega (arith, f, k .to-is, known-more ks (record { place = to; words = ys }));
+        }
+
+  module _ (kind : Literals) (room : to + totalOf (literalCount kind) ws ≤ length work) where
+    pub can-gather : CanGather (literalCount kind) buffer pairs work to
+    can-gather = record { ws = ws; readable = k .fitting .readable; blocks = k .blocks; behind = stage-behind; room = room }
+
+    pub stage-gathered : (work' : List ℕ) (r : ℕ) → Gathers (jointLiterals (listOf kind) (t .inputs) (t .latches)) (literalCount kind) buffer pairs work to work' r
+        → Stage mc t buffer pairs work' (ks ++ record { place = to; words = joint (listOf kind) ws } ∷ []) r m ws
+    stage-gathered work' r g =
+        let made = g ws (k .fitting .readable) in
+        let words : gathered (jointLiterals (listOf kind) (t .inputs) (t .latches)) ws ≡ joint (listOf kind) ws =
+        ap₂ (λ (i q : ℕ). gathered (jointLiterals (listOf kind) i q) ws) (k .fitting .totals .inputs) (k .fitting .totals .latches) in
+        let long : length (joint (listOf kind) ws) ≡ totalOf (literalCount kind) ws = literals-long kind ws in
+        stage-more work' (joint (listOf kind) ws) (made .0 ∙ ap (put work to) words) (omega (arith, long, room)) r (made .1 ∙ ap (λ (j : ℕ). to + j) (sym long))
+
+-- the totals are those of the witnesses
+pub stage-totals : (mc : AagCounts) (t : Totals) (buffer : Bytes) (pairs work : List ℕ) (ks : Sections → List Sections → List Known) (to : ℕ) → Staged mc t buffer pairs work ks to
+    → (vs : List Sections) → Readable buffer pairs vs → (t .inputs ≡ totalOf inputCount vs) × (t .latches ≡ totalOf latchCount vs)
+stage-totals mc t buffer pairs work ks to s vs r =
+    let f = s .holds .fitting in
+    let e : s .ws ≡ vs = got-same (s .ws) vs (sym (f .readable .reads) ∙ r .reads) in
+    (f .totals .inputs ∙ ap (totalOf inputCount) e, f .totals .latches ∙ ap (totalOf latchCount) e)
+
+-- ---- a list in its turn
+
+-- the lists so far and the next one have room
+pub record Roomy (ks : Sections → List Sections → List Known) (kind : Literals) : Type 0 where
+  pub most : (m : Sections) (ws : List Sections) → knownLength (ks m ws) + totalOf (literalCount kind) ws ≤ 3 * sizes ws
+
+module _ (ks : Sections → List Sections → List Known) (kind : Literals) (roomy : Roomy ks kind) (mc : AagCounts) (t : Totals) (buffer : Bytes) (pairs work : List ℕ) (to : ℕ) where
+  room : (m : Sections) (ws : List Sections) → Stage mc t buffer pairs work (ks m ws) to m ws → to + totalOf (literalCount kind) ws ≤ length work
+  room m ws k = let n = amounts ws in omega (arith, roomy .most m ws, k .to-is, k .fitting .room, n .words, n .all)
+
+  pub turn-can : Staged mc t buffer pairs work ks to → CanGather (literalCount kind) buffer pairs work to
+  turn-can s = can-gather mc t buffer pairs work (ks (s .m) (s .ws)) to (s .m) (s .ws) (s .holds) kind (room (s .m) (s .ws) (s .holds))
+
+  module _ (work' : List ℕ) (b : ℕ) (g : Gathers (jointLiterals (listOf kind) (t .inputs) (t .latches)) (literalCount kind) buffer pairs work to work' b) where
+    step : (m : Sections) (ws : List Sections) → Stage mc t buffer pairs work (ks m ws) to m ws → Stage mc t buffer pairs work' (ks m ws ++ literalsAt kind to ws ∷ []) b m ws
+    step m ws k = stage-gathered mc t buffer pairs work (ks m ws) to m ws k kind (room m ws k) work' b g
+
+    pub turn-next : Staged mc t buffer pairs work ks to → (ks' : Sections → List Sections → List Known) → ks' ≡ (λ m ws. ks m ws ++ literalsAt kind to ws ∷ []) → Staged mc t buffer pairs work' ks' b
+    turn-next s ks' e = rw e (record { m = s .m; ws = s .ws; holds = step (s .m) (s .ws) (s .holds) })
+
+    pub turn-goes : (work'' : List ℕ) (r : Laid) → Goes mc t buffer pairs work' (λ m ws. ks m ws ++ literalsAt kind to ws ∷ []) b work'' r → Goes mc t buffer pairs work ks to work'' r
+    turn-goes work'' r h = record { goes = λ m ws k. h .goes m ws (step m ws k) }
+
+-- ---- the lists have room
+
+pub roomy-latches : Roomy nothing literals.Latches
+roomy-latches = record { most = λ m ws. let n = amounts ws in omega (arith, n .latches, n .all) }
+
+pub roomy-operands : (a : ℕ) → Roomy (withLatches a) literals.Operands
+roomy-operands a = record { most = λ m ws. let n = amounts ws in omega (arith, n .latches, n .operands, n .all, literals-long literals.Latches ws) }
+
+pub roomy-safety : (a b : ℕ) → Roomy (withOperands a b) literals.Safety
+roomy-safety a b = record { most = λ m ws. let n = amounts ws in omega (arith, n .latches, n .operands, n .safety, n .all, literals-long literals.Latches ws, literals-long literals.Operands ws) }
+
+pub roomy-constraints : (a b c : ℕ) → Roomy (withSafety a b c) literals.Constraints
+roomy-constraints a b c =
+    record {
+      most = λ m ws.
+          let n = amounts ws in
+          omega (arith, n .latches, n .operands, n .safety, n .constraints, n .all, literals-long literals.Latches ws, literals-long literals.Operands ws, literals-long literals.Safety ws);
+    }

@@ -1,0 +1,24 @@
+use native.Mathlib.Omega.{arith}
+use Rattle.text_print.proofs.PrintsLaws.{prints-then}
+use borrow.Author.Needs.{needs}
+use Rattle.compose_lines.proofs.print_field.Statement.{statement}
+use Rattle.compose_lines.proofs.print_field.Tie as tie
+
+print-byte-requires : tie.Need-print-byte-requires
+print-byte-requires c κs = search needs
+
+print-number-requires : tie.Need-print-number-requires
+print-number-requires c κs = search needs
+
+same-length : tie.Need-same-length
+same-length c = search needs
+
+returns : tie.Need-returns
+returns c =
+    let first = c .before .before .before .before .before .before .print-byte in
+    let second = c .before .before .print-number in
+    prints-then _ _ _ _ _ _ _ _ (omega arith) (omega (arith, first .kept .0)) (first .ensures) (second .ensures)
+
+pub print-field-spec : {M : Type 1} → statement M
+print-field-spec =
+    tie.close (tie.spec print-byte-requires print-number-requires same-length returns)

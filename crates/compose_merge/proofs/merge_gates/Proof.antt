@@ -1,0 +1,54 @@
+use native.Mathlib.Omega.{arith}
+use borrow.Author.Needs.{needs}
+use Rattle.compose_merge.proofs.GateLaws.{gates-can, gates-known, gates-many, gates-next, gates-goes}
+use Rattle.compose_merge.proofs.merge_gates.Statement.{statement}
+use Rattle.compose_merge.proofs.merge_gates.Tie as tie
+
+add-known : tie.Need-add-known
+add-known c = omega (arith, gates-known _ _ _ _ _ (c .before .before .pre))
+
+add-known-2 : tie.Need-add-known-2
+add-known-2 c = omega (arith, gates-known _ _ _ _ _ (c .before .before .before .pre))
+
+sub-share-gates : tie.Need-sub-share-gates
+sub-share-gates c = search needs
+
+share-gates-requires : tie.Need-share-gates-requires
+share-gates-requires c κs = search gates-can
+
+enum-told : tie.Need-enum-told
+enum-told c = search needs
+
+enum-known-gates : tie.Need-enum-known-gates
+enum-known-gates c = search needs
+
+merge-definitions-requires : tie.Need-merge-definitions-requires
+merge-definitions-requires c κs = search gates-next
+
+same-length : tie.Need-same-length
+same-length c = search needs
+
+returns : tie.Need-returns
+returns c = search gates-many
+
+same-length-2 : tie.Need-same-length-2
+same-length-2 c = search needs
+
+returns-2 : tie.Need-returns-2
+returns-2 c = search gates-goes
+
+pub merge-gates-spec : {M : Type 1} → statement M
+merge-gates-spec =
+    tie.close
+    (tie.spec
+    add-known
+    add-known-2
+    sub-share-gates
+    share-gates-requires
+    enum-told
+    enum-known-gates
+    merge-definitions-requires
+    same-length
+    returns
+    same-length-2
+    returns-2)

@@ -1,0 +1,40 @@
+use native.Mathlib.Omega.{arith}
+use Rattle.compose_names.proofs.PieceLaws.{head-printed}
+use borrow.Author.Needs.{needs}
+use Rattle.compose_names.proofs.print_head.Statement.{statement}
+use Rattle.compose_names.proofs.print_head.Tie as tie
+
+kind-of-requires : tie.Need-kind-of-requires
+kind-of-requires c κs = search needs
+
+print-byte-requires : tie.Need-print-byte-requires
+print-byte-requires c κs = search needs
+
+print-number-requires : tie.Need-print-number-requires
+print-number-requires c κs = search needs
+
+print-byte-requires-2 : tie.Need-print-byte-requires-2
+print-byte-requires-2 c κs = search needs
+
+same-length : tie.Need-same-length
+same-length c = search needs
+
+returns : tie.Need-returns
+returns c =
+    let args = c .before .before .before .before .before .before .before .before .before .before .before .before .before .before .args in
+    let kind = c .before .before .before .before .before .before .before .before .before .before .before .before .kind-of in
+    let first = c .before .before .before .before .before .before .before .before .before .before .print-byte in
+    let digits = c .before .before .before .before .before .before .print-number in
+    let space = c .before .before .print-byte2 in
+    head-printed _ _ (omega arith) (args .leaves) _ _ _ _ _ _ _ (omega (arith, first .kept .0)) (omega (arith, first .kept .0, digits .kept .0)) _ (kind .ensures) (first .ensures) (digits .ensures) (space .ensures)
+
+pub print-head-spec : {M : Type 1} → statement M
+print-head-spec =
+    tie.close
+    (tie.spec
+    kind-of-requires
+    print-byte-requires
+    print-number-requires
+    print-byte-requires-2
+    same-length
+    returns)

@@ -1,0 +1,32 @@
+use Rattle.compose_names.specs.Names.{ownName, nameFor}
+use native.Mathlib.Omega.{arith}
+use Rattle.compose_names.proofs.PieceLaws.{symbol-printed}
+use borrow.Author.Needs.{needs}
+use Rattle.compose_names.proofs.print_symbol.Statement.{statement}
+use Rattle.compose_names.proofs.print_symbol.Tie as tie
+
+print-head-requires : tie.Need-print-head-requires
+print-head-requires c κs = search needs
+
+print-name-requires : tie.Need-print-name-requires
+print-name-requires c κs = search needs
+
+print-byte-requires : tie.Need-print-byte-requires
+print-byte-requires c κs = search needs
+
+same-length : tie.Need-same-length
+same-length c = search needs
+
+returns : tie.Need-returns
+returns c =
+    let args = c .before .before .before .before .before .before .before .before .before .before .before .before .before .before .args in
+    let head = c .before .before .before .before .before .before .before .before .before .before .print-head in
+    let name = c .before .before .before .before .before .before .print-name in
+    let end = c .before .before .print-byte in
+    symbol-printed _ _ (omega arith) (args .leaves) (args .k) _ _ _ _ _ _ (omega (arith, head .kept .0)) (omega (arith, head .kept .0, name .kept .0))
+    (nameFor (args .leaves) (args .w) (args .origin) (ownName (args .text .now) (args .start) (args .size))) (head .ensures) (name .ensures) (end .ensures)
+
+pub print-symbol-spec : {M : Type 1} → statement M
+print-symbol-spec =
+    tie.close
+    (tie.spec print-head-requires print-name-requires print-byte-requires same-length returns)

@@ -1,0 +1,121 @@
+use Prim.Native.Nat.{_-_, _<_}
+use native.Mathlib.Omega.{arith}
+use lib.ListN.{length}
+use Rattle.key_table.specs.Table.{Comes}
+use Rattle.key_table.proofs.HeldLaws.{Ahead, comes-none, comes-within, comes-ahead, comes-more, walked-none, walked-found}
+use borrow.Author.Needs.{needs}
+use Rattle.key_table.proofs.walk.Statement.{statement}
+use Rattle.key_table.proofs.walk.Tie as tie
+use Rattle.key_table.proofs.walk.Reads as reads
+use Rattle.key_table.proofs.walk.Lts as lts
+use Rattle.lists.proofs.index.Reads as index-reads
+use Rattle.key_table.proofs.head.Reads as head-reads
+use Rattle.key_table.proofs.mix.Reads as mix-reads
+use Rattle.key_table.proofs.turn.Reads as turn-reads
+
+abbrev Inv-loop : tie.InvT-loop
+Inv-loop table heads key mixed at₀ code₀ at code = Comes heads key table at code
+
+abbrev μ-loop : tie.MeasureT-loop
+μ-loop table heads key mixed at₀ code₀ at code = length table - at
+
+-- the search is within the table
+within : (c : tie.At-loop Inv-loop μ-loop) → c .loop .at < length (c .before .before .before .before .before .args .table .now)
+within c =
+    let start = c .before .before .before .before .before in
+    comes-within (start .args .heads) (start .args .key) (start .args .table .now) (start .pre) (c .loop .at) (c .loop .code) (c .loop .inv)
+
+-- the node that the word leads to is within the table too, further on
+ahead : (c : tie.Else1 Inv-loop μ-loop) → Ahead (c .before .before .before .before .before .before .before .before .args .heads) (length (c .before .before .before .before .before .before .before .before .args .table .now)) (c .before .before .before .loop .at) (c .before .index .result)
+ahead c =
+    let start = c .before .before .before .before .before .before .before .before in
+    let turn = c .before .before .before .loop in
+    comes-ahead (start .args .heads) (start .args .key) (start .args .table .now) (start .pre) (turn .at) (turn .code) (turn .inv) (c .before .index .result) (c .before .index .ensures) (c .if1 .left)
+
+mix-requires : tie.Need-mix-requires Inv-loop μ-loop
+mix-requires c κs = search needs
+
+head-requires : tie.Need-head-requires Inv-loop μ-loop
+head-requires c κs = search needs
+
+turn-requires : tie.Need-turn-requires Inv-loop μ-loop
+turn-requires c κs = search needs
+
+loop-holds : tie.Need-loop-holds Inv-loop μ-loop
+loop-holds c = search comes-none
+
+mul-index : tie.Need-mul-index Inv-loop μ-loop
+mul-index c = omega (arith, within c)
+
+shared-slice-read-index : tie.Need-shared-slice-read-index Inv-loop μ-loop
+shared-slice-read-index c = within (c .before)
+
+index-requires : tie.Need-index-requires Inv-loop μ-loop
+index-requires c κs = search needs
+
+returns : tie.Need-returns Inv-loop μ-loop
+returns c = walked-none _ _ _ _ _ (c .before .before .before .loop .inv) _ (c .before .index .ensures) (c .if1 .taken)
+
+sub-node : tie.Need-sub-node Inv-loop μ-loop
+sub-node c = search needs
+
+mul-node : tie.Need-mul-node Inv-loop μ-loop
+mul-node c = omega (arith, ahead c)
+
+add-node : tie.Need-add-node Inv-loop μ-loop
+add-node c = omega (arith, ahead c)
+
+mul-if2 : tie.Need-mul-if2 Inv-loop μ-loop
+mul-if2 c = omega (arith, ahead c)
+
+shared-slice-read-if2 : tie.Need-shared-slice-read-if2 Inv-loop μ-loop
+shared-slice-read-if2 c = omega (arith, ahead (c .before))
+
+add-if2 : tie.Need-add-if2 Inv-loop μ-loop
+add-if2 c = search needs
+
+returns-2 : tie.Need-returns-2 Inv-loop μ-loop
+returns-2 c = walked-found _ _ _ _ _ (c .before .before .before .before .before .loop .inv) _ (c .before .before .before .index .ensures) (c .if2 .taken)
+
+add-at : tie.Need-add-at Inv-loop μ-loop
+add-at c = omega (arith, ahead (c .before .before))
+
+index-requires-2 : tie.Need-index-requires-2 Inv-loop μ-loop
+index-requires-2 c κs = search needs
+
+add-at-2 : tie.Need-add-at-2 Inv-loop μ-loop
+add-at-2 c = omega (arith, ahead (c .before .before .before))
+
+loop-less : tie.Need-loop-less Inv-loop μ-loop
+loop-less c = omega (arith, within (c .before .before .before .before .before .before), ahead (c .before .before .before))
+
+loop-again : tie.Need-loop-again Inv-loop μ-loop
+loop-again c =
+    comes-more _ _ _ (c .before .before .before .before .before .before .before .before .before .before .before .pre) _ _ (c .before .before .before .before .before .before .loop .inv) _ _ (c .before .before .before .before .index .ensures) (c .before .before .before .if1 .left) (c .before .if2 .left) (c .index2 .ensures)
+
+pub walk-spec : {M : Type 1} → statement M
+walk-spec =
+    tie.close
+    (tie.spec
+    Inv-loop
+    μ-loop
+    mix-requires
+    head-requires
+    turn-requires
+    loop-holds
+    mul-index
+    shared-slice-read-index
+    index-requires
+    returns
+    sub-node
+    mul-node
+    add-node
+    mul-if2
+    shared-slice-read-if2
+    add-if2
+    returns-2
+    add-at
+    index-requires-2
+    add-at-2
+    loop-less
+    loop-again)

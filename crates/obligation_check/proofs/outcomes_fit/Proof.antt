@@ -1,0 +1,68 @@
+use Prim.Native.Nat.{_-_}
+use mathlib.Core.Path.{_≡_}
+use lib.ListN.{drop}
+use Rattle.lists.specs.Tests.{all}
+use Rattle.obligation_spec.specs.Lists.{outcomesOf}
+use Rattle.obligation_check.specs.Boundary.{outcomeFits}
+use Rattle.obligation_check.proofs.OutcomeLaws.{target-stop, bits-stop, fit-more, fit-end}
+use borrow.Author.Needs.{needs}
+use Rattle.obligation_check.proofs.outcomes_fit.Statement.{statement}
+use Rattle.obligation_check.proofs.outcomes_fit.Tie as tie
+use Rattle.obligation_check.proofs.outcomes_fit.Reads as reads
+use Rattle.obligation_check.proofs.outcomes_fit.Lts as lts
+use Rattle.obligation_check.proofs.bits_hold.Reads as bits-hold-reads
+use Rattle.obligation_check.proofs.outcome_at.Reads as outcome-at-reads
+use Rattle.obligation_check.proofs.states.Reads as states-reads
+
+abbrev Inv-loop : tie.InvT-loop
+Inv-loop words latches n count top i₀ i = all (outcomeFits latches n) (outcomesOf words) ≡ all (outcomeFits latches n) (drop i (outcomesOf words))
+
+abbrev μ-loop : tie.MeasureT-loop
+μ-loop words latches n count top i₀ i = count - i
+
+states-requires : tie.Need-states-requires Inv-loop μ-loop
+states-requires c κs = search needs
+
+loop-holds : tie.Need-loop-holds Inv-loop μ-loop
+loop-holds c = search needs
+
+outcome-at-requires : tie.Need-outcome-at-requires Inv-loop μ-loop
+outcome-at-requires c κs = search needs
+
+returns : tie.Need-returns Inv-loop μ-loop
+returns c = search target-stop
+
+bits-hold-requires : tie.Need-bits-hold-requires Inv-loop μ-loop
+bits-hold-requires c κs = search needs
+
+add-i : tie.Need-add-i Inv-loop μ-loop
+add-i c = search needs
+
+loop-less : tie.Need-loop-less Inv-loop μ-loop
+loop-less c = search needs
+
+loop-again : tie.Need-loop-again Inv-loop μ-loop
+loop-again c = search fit-more
+
+returns-2 : tie.Need-returns-2 Inv-loop μ-loop
+returns-2 c = search bits-stop
+
+returns-3 : tie.Need-returns-3 Inv-loop μ-loop
+returns-3 c = search fit-end
+
+pub outcomes-fit-spec : {M : Type 1} → statement M
+outcomes-fit-spec =
+    tie.close
+    (tie.spec
+    Inv-loop
+    μ-loop
+    states-requires
+    loop-holds
+    outcome-at-requires
+    returns
+    bits-hold-requires
+    add-i
+    loop-less
+    loop-again
+    returns-2
+    returns-3)

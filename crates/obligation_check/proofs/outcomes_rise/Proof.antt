@@ -1,0 +1,67 @@
+use Prim.Native.Nat.{_-_, _<_}
+use mathlib.Core.Path.{_≡_}
+use native.Mathlib.Omega.{arith}
+use lib.ListN.{drop}
+use Rattle.obligation_spec.specs.Lists.{outcomesOf}
+use Rattle.obligation_spec.specs.Limits.{risingOutcomes}
+use Rattle.obligation_check.proofs.OutcomeLaws.{outcomes-fall, outcomes-more, outcomes-end}
+use borrow.Author.Needs.{needs}
+use Rattle.obligation_check.proofs.outcomes_rise.Statement.{statement}
+use Rattle.obligation_check.proofs.outcomes_rise.Tie as tie
+use Rattle.obligation_check.proofs.outcomes_rise.Reads as reads
+use Rattle.obligation_check.proofs.outcomes_rise.Lts as lts
+use Rattle.obligation_check.proofs.comes_before.Reads as comes-before-reads
+use Rattle.obligation_check.proofs.outcome_at.Reads as outcome-at-reads
+
+abbrev Inv-loop : tie.InvT-loop
+Inv-loop words count i₀ i = (risingOutcomes (outcomesOf words) ≡ risingOutcomes (drop (i - 1) (outcomesOf words))) × (0 < i)
+
+abbrev μ-loop : tie.MeasureT-loop
+μ-loop words count i₀ i = count - i
+
+loop-holds : tie.Need-loop-holds Inv-loop μ-loop
+loop-holds c = search needs
+
+sub-outcome-at : tie.Need-sub-outcome-at Inv-loop μ-loop
+sub-outcome-at c = search needs
+
+outcome-at-requires : tie.Need-outcome-at-requires Inv-loop μ-loop
+outcome-at-requires c κs = search needs
+
+outcome-at-requires-2 : tie.Need-outcome-at-requires-2 Inv-loop μ-loop
+outcome-at-requires-2 c κs = search needs
+
+comes-before-requires : tie.Need-comes-before-requires Inv-loop μ-loop
+comes-before-requires c κs = search needs
+
+add-i : tie.Need-add-i Inv-loop μ-loop
+add-i c = search needs
+
+loop-less : tie.Need-loop-less Inv-loop μ-loop
+loop-less c = search needs
+
+loop-again : tie.Need-loop-again Inv-loop μ-loop
+loop-again c = (search outcomes-more, omega arith)
+
+returns : tie.Need-returns Inv-loop μ-loop
+returns c = search outcomes-fall
+
+returns-2 : tie.Need-returns-2 Inv-loop μ-loop
+returns-2 c = search outcomes-end
+
+pub outcomes-rise-spec : {M : Type 1} → statement M
+outcomes-rise-spec =
+    tie.close
+    (tie.spec
+    Inv-loop
+    μ-loop
+    loop-holds
+    sub-outcome-at
+    outcome-at-requires
+    outcome-at-requires-2
+    comes-before-requires
+    add-i
+    loop-less
+    loop-again
+    returns
+    returns-2)

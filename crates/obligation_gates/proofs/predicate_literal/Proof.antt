@@ -1,0 +1,47 @@
+use Rattle.obligation_gates.proofs.PredicateLaws.{low-literal, indexed, positive, negative}
+use borrow.Author.Needs.{needs}
+use Rattle.obligation_gates.proofs.predicate_literal.Statement.{statement}
+use Rattle.obligation_gates.proofs.predicate_literal.Tie as tie
+use Rattle.obligation_gates.proofs.predicate_literal.Reads as reads
+use Rattle.obligation_gates.proofs.predicate_literal.Lts as lts
+use Rattle.cnf.proofs.opposite_of.Reads as opposite-of-reads
+use Rattle.lists.proofs.index.Reads as index-reads
+use Rattle.lists.proofs.word.Reads as word-reads
+
+cast-index : tie.Need-cast-index
+cast-index c = search needs
+
+word-requires : tie.Need-word-requires
+word-requires c κs = search needs
+
+index-requires : tie.Need-index-requires
+index-requires c κs = search needs
+
+word-requires-2 : tie.Need-word-requires-2
+word-requires-2 c κs = search needs
+
+returns : tie.Need-returns
+returns c = let l = c .before in
+    let s = l .before .before .before .before .before in
+    positive (s .args .inputs .now) (s .args .relevant .now) (s .args .word) _ (indexed (s .args .inputs .now) (s .args .relevant .now) (s .args .word) _ _ _ (l .before .before .word .ensures) (l .before .index .ensures) (l .word2 .ensures)) (c .if1 .taken)
+
+opposite-of-requires : tie.Need-opposite-of-requires
+opposite-of-requires c κs = let s = c .before .before .before .before .before .before in
+    low-literal (s .args .inputs .now) (c .before .before .index .result) _ (s .pre) (c .before .word2 .ensures)
+
+returns-2 : tie.Need-returns-2
+returns-2 c = let l = c .before .before in
+    let s = l .before .before .before .before .before in
+    negative (s .args .inputs .now) (s .args .relevant .now) (s .args .word) _ (indexed (s .args .inputs .now) (s .args .relevant .now) (s .args .word) _ _ _ (l .before .before .word .ensures) (l .before .index .ensures) (l .word2 .ensures)) (c .before .if1 .left) _ (c .opposite-of .ensures)
+
+pub predicate-literal-spec : {M : Type 1} → statement M
+predicate-literal-spec =
+    tie.close
+    (tie.spec
+    cast-index
+    word-requires
+    index-requires
+    word-requires-2
+    returns
+    opposite-of-requires
+    returns-2)

@@ -1,2 +1,0 @@
--- 01's table, as one.
-pub mod Table

@@ -1,1 +1,0 @@
--- No definitions of its own: the table speaks of those of the crates below.

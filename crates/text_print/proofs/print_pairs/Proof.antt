@@ -1,0 +1,19 @@
+-- The table is the one that the inner function asks for.
+use mathlib.Core.Path.{refl}
+use Rattle.text_print.specs.DigitPairs.{digitPairs}
+use borrow.Author.Needs.{needs}
+use Rattle.text_print.proofs.print_pairs.Statement.{statement}
+use Rattle.text_print.proofs.print_pairs.Tie as tie
+
+print-gates-with-requires : tie.Need-print-gates-with-requires
+unfolding digitPairs
+print-gates-with-requires c κs = (search needs, refl)
+
+same-length : tie.Need-same-length
+same-length c = search needs
+
+returns : tie.Need-returns
+returns c = search needs
+
+pub print-pairs-spec : {M : Type 1} → statement M
+print-pairs-spec = tie.close (tie.spec print-gates-with-requires same-length returns)

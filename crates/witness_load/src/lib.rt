@@ -1,0 +1,242 @@
+// The sections of an accepted witness text as words in lent memory: the places of the names in the text, then the literals.
+ghost use mathlib.Core.Bool.{true};
+ghost use mathlib.Core.List.{[], _∷_};
+ghost use mathlib.Core.Path.{_≡_};
+ghost use Prim.Native.Nat.{_+_, _*_, _≤_, _<_, min};
+ghost use lib.Dec.{leb};
+ghost use lib.ListN.{length, drop};
+ghost use Rattle.lists.specs.Parts.{part, put, zeros};
+ghost use Rattle.text.specs.declared.Reader.the-variants.{Witness};
+ghost use Rattle.circuit_lines.specs.Places.{linesFrom};
+ghost use Rattle.circuit_lines.specs.SectionLines.{literalLine, gateLine};
+ghost use Rattle.text.specs.Texts.{limited};
+ghost use Rattle.witness_text.specs.Header.{counted};
+ghost use Rattle.witness_text.specs.LatchLines.{latchLine};
+ghost use Rattle.witness_text.specs.Symbols.{countOf};
+ghost use Rattle.witness_read.specs.Reading.{readAag};
+ghost use Rattle.witness_load.specs.Loaded.{operandWords, Loads};
+ghost use Rattle.witness_load.specs.Loading.{storedWords, literalWord, LoadsSection, restRoom, LoadsRest, bodyRoom, LoadsBody, leafWords, withWords, NamesLine, LoadsNames, Loadable, LoadsText};
+use circuit_lines::Place;
+use circuit_lines::TakenGate;
+use text::Cursor;
+use text::Line;
+use text::Reader;
+use witness_read::ReadAag;
+use witness_text::AagCounts;
+use witness_text::Header;
+use witness_text::Kind;
+use witness_text::SymbolLine;
+use witness_text::TakenLatch;
+
+// The cursor after n lines, or at the end where there are fewer.
+fn pass_lines(s: &[u8], c: Cursor, n: usize) -> Cursor
+    ensures { λ r. ⌜ linesFrom (now (s .entry)) r ≡ drop n (linesFrom (now (s .entry)) c) ⌝ }
+{
+    let mut p = c;
+    let mut i = 0;
+    while i < n {
+        let Line::At { start, end, next } = text::next_line(s, p) else {
+            return p;
+        };
+        p = next;
+        i += 1;
+    }
+    p
+}
+
+fn store_pair(out: &mut [u64], at: usize, x: u64, y: u64)
+    requires { ⌜ at + 1 < length (now out) ⌝ }
+    ensures { λ _. ⌜ now (out .exit) ≡ put (now (out .entry)) at (x ∷ y ∷ []) ⌝ }
+{
+    out[at] = x;
+    out[at + 1] = y;
+}
+
+// Next literal and reset of the latches of the n lines from a cursor on, stored from a place on.
+fn load_latches(s: &[u8], c: Cursor, n: usize, out: &mut [u64], at: usize) -> Place
+    requires { ⌜ at + 2 * n ≤ length (now out) ⌝ }
+    ensures { λ r. ⌜ LoadsSection latchLine storedWords (now (s .entry)) c n (now (out .entry)) at (now (out .exit)) r ⌝ }
+{
+    let mut p = c;
+    let mut i = 0;
+    while i < n {
+        let TakenLatch::Got { latch, next } = witness_text::take_latch(s, p) else {
+            return Place::Bad;
+        };
+        store_pair(out, at + 2 * i, latch.next, latch.reset);
+        p = next;
+        i += 1;
+    }
+    Place::At(p)
+}
+
+// The operands of the gates of the n lines from a cursor on, stored from a place on.
+fn load_gates(s: &[u8], c: Cursor, n: usize, out: &mut [u64], at: usize) -> Place
+    requires { ⌜ at + 2 * n ≤ length (now out) ⌝ }
+    ensures { λ r. ⌜ LoadsSection (gateLine Witness) operandWords (now (s .entry)) c n (now (out .entry)) at (now (out .exit)) r ⌝ }
+{
+    let mut p = c;
+    let mut i = 0;
+    while i < n {
+        let TakenGate::Got { gate, next } = circuit_lines::take_gate(Reader::Witness, s, p) else {
+            return Place::Bad;
+        };
+        store_pair(out, at + 2 * i, gate.left, gate.right);
+        p = next;
+        i += 1;
+    }
+    Place::At(p)
+}
+
+// The literals of the n lines from a cursor on, stored from a place on.
+fn load_literals(s: &[u8], c: Cursor, n: usize, out: &mut [u64], at: usize) -> Place
+    requires { ⌜ at + n ≤ length (now out) ⌝ }
+    ensures { λ r. ⌜ LoadsSection (literalLine Witness) literalWord (now (s .entry)) c n (now (out .entry)) at (now (out .exit)) r ⌝ }
+{
+    let end = at + n;
+    circuit_lines::take_literals(Reader::Witness, s, c, &mut out[at..end])
+}
+
+// Outputs, bads, constraints and gates from a cursor on, stored from a place on, and the cursor after them.
+fn load_rest(s: &[u8], c: Cursor, n: AagCounts, out: &mut [u64], at: usize) -> Cursor
+    requires { ⌜ at + restRoom n ≤ length (now out) ⌝ }
+    ensures { λ r. ⌜ LoadsRest (now (s .entry)) c n (now (out .entry)) at (now (out .exit)) r ⌝ }
+{
+    let count = n.outputs + n.bads + n.constraints;
+    let Place::At(gates) = load_literals(s, c, count, out, at) else {
+        return c;
+    };
+    let Place::At(end) = load_gates(s, gates, n.gates, out, at + count) else {
+        return c;
+    };
+    end
+}
+
+// The literals of all sections but the inputs from a cursor on, stored from a place on, and the cursor after them.
+fn load_body(s: &[u8], c: Cursor, n: AagCounts, out: &mut [u64], at: usize) -> Cursor
+    requires { ⌜ at + bodyRoom n ≤ length (now out) ⌝ }
+    ensures { λ r. ⌜ LoadsBody (now (s .entry)) c n (now (out .entry)) at (now (out .exit)) r ⌝ }
+{
+    let latches = pass_lines(s, c, n.inputs);
+    let Place::At(rest) = load_latches(s, latches, n.latches, out, at) else {
+        return c;
+    };
+    load_rest(s, rest, n, out, at + 2 * n.latches)
+}
+
+fn least(a: usize, b: usize) -> usize
+    ensures { λ r. ⌜ r ≡ min a b ⌝ }
+{
+    if a < b {
+        return a;
+    }
+    b
+}
+
+// Two words of an input or a latch; the other kinds have none.
+fn store_leaf(n: AagCounts, kind: Kind, index: usize, x: u64, y: u64, out: &mut [u64])
+    requires { ⌜ (index < countOf n kind) × (length (now out) ≡ leafWords n) ⌝ }
+    ensures { λ _. ⌜ now (out .exit) ≡ withWords n kind index (x ∷ y ∷ []) (now (out .entry)) ⌝ }
+{
+    match kind {
+        Kind::Input => store_pair(out, 2 * index, x, y),
+        Kind::Latch => store_pair(out, 2 * (n.inputs + index), x, y),
+        Kind::Output => {}
+        Kind::Bad => {}
+        Kind::Constraint => {}
+    }
+}
+
+// Stores where the name of a symbol line stands; the line is from one place of the text to another. False where it is refused.
+fn name_line(s: &[u8], start: usize, end: usize, n: AagCounts, out: &mut [u64]) -> bool
+    requires { ⌜ (0 < start) × (start ≤ end) × (end ≤ length (now s)) × (length (now out) ≡ leafWords n) ⌝ }
+    ensures { λ r. ⌜ NamesLine (now (s .entry)) (part (now (s .entry)) start end) n (now (out .entry)) (now (out .exit)) r ⌝ }
+{
+    let l = &s[start..end];
+    let SymbolLine::Named { kind, index, name } = witness_text::symbol_line(l, n) else {
+        return false;
+    };
+    let at = start + least(name, end - start);
+    store_leaf(n, kind, index, at as u64, (end - at) as u64, out);
+    true
+}
+
+// The names of the symbols from a cursor on, up to the line `c` or the end.
+fn name_leaves(s: &[u8], c: Cursor, n: AagCounts, out: &mut [u64])
+    requires { ⌜ (0 < c .at) × (now out ≡ zeros (leafWords n)) ⌝ }
+    ensures { λ _. ⌜ LoadsNames (now (s .entry)) c n (now (out .exit)) ⌝ }
+{
+    let mut p = c;
+    loop {
+        let Line::At { start, end, next } = text::next_line(s, p) else {
+            return;
+        };
+        if witness_text::ends_symbols(&s[start..end]) {
+            return;
+        }
+        if name_line(s, start, end, n, out) {
+            p = next;
+        } else {
+            return;
+        }
+    }
+}
+
+// The names of inputs and latches, as places in the text; all words are written.
+fn load_names(s: &[u8], c: Cursor, n: AagCounts, out: &mut [u64])
+    requires { ⌜ (0 < c .at) × (length (now out) ≡ leafWords n) ⌝ }
+    ensures { λ _. ⌜ LoadsNames (now (s .entry)) c n (now (out .exit)) ⌝ }
+{
+    lists::clear(out);
+    name_leaves(s, c, n, out);
+}
+
+// The sections of a text with the counts n that is accepted, in front of the words.
+pub fn load(s: &[u8], n: AagCounts, words: &mut [u64])
+    requires { ⌜ Loadable (now s) n (now words) ⌝ }
+    ensures { λ _. ⌜ LoadsText (now (s .entry)) n (now (words .entry)) (now (words .exit)) ⌝ }
+{
+    let Header::Got { counts, next } = witness_text::take_header(s) else {
+        return;
+    };
+    let names = 2 * (n.inputs + n.latches);
+    let c = load_body(s, next, n, words, names);
+    load_names(s, c, n, &mut words[..names]);
+}
+
+// Whether so many words are enough for sections with the counts n. The counts of outputs, bads and constraints are not added, since their sum may pass 2^64.
+fn has_room(n: AagCounts, size: usize) -> bool
+    requires { ⌜ counted limited n ≡ true ⌝ }
+    ensures { λ r. ⌜ r ≡ leb (leafWords n + bodyRoom n) size ⌝ }
+{
+    let fixed = 2 * n.inputs + 4 * n.latches + 2 * n.gates;
+    if size < fixed {
+        return false;
+    }
+    let after_fixed = size - fixed;
+    if after_fixed < n.outputs {
+        return false;
+    }
+    let after_outputs = after_fixed - n.outputs;
+    if after_outputs < n.bads {
+        return false;
+    }
+    n.constraints <= after_outputs - n.bads
+}
+
+// Reads a text as a witness, or as the model where `witness` is false, and loads its sections in front of the words.
+pub fn load_aag(s: &[u8], witness: bool, words: &mut [u64]) -> ReadAag
+    ensures { λ r. ⌜ Loads (now (s .entry)) (readAag limited witness (now (s .entry))) (now (words .entry)) (now (words .exit)) r ⌝ }
+{
+    let read = witness_read::parse_aag(s, witness);
+    match read {
+        ReadAag::Refused(reason) => ReadAag::Refused(reason),
+        ReadAag::Got(n) => {
+            if !has_room(n, words.len()) {
+                return ReadAag::Refused(20);
+            }
+            load(s, n, words);
+            ReadAag::Got(n)
+        }
+    }
+}

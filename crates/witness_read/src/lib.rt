@@ -1,0 +1,93 @@
+// The witness reader of item 4 of 01: from any bytes to the counts of the sections, or the number of the first reason. It is lent no memory.
+ghost use mathlib.Core.Bool.{true};
+ghost use mathlib.Core.Path.{_≡_};
+ghost use Rattle.text.specs.Texts.{limited};
+ghost use Rattle.circuit_lines.specs.Places.{linesFrom};
+ghost use Rattle.witness_text.specs.Header.{counted, withoutLiveness};
+ghost use Rattle.witness_read.specs.Reading.{sectionsOf, afterHeader, readAag, countsRead};
+
+mod body;
+mod tail;
+
+use text::Cursor;
+use text::Reader;
+use witness_text::AagCounts;
+use witness_text::Header;
+use witness_text::Kind;
+
+// The counts of a text that is accepted, or the number of the reason.
+pub enum ReadAag {
+    Got(AagCounts),
+    Refused(u64),
+}
+
+// The place after some sections and whether their literals are in range and order, or that a line is missing or bad.
+pub enum Checked {
+    Done { next: Cursor, fine: bool },
+    Bad,
+}
+
+// The place of the comments, or the number of the reason.
+pub enum Symbols {
+    Done(Cursor),
+    Refused(u64),
+}
+
+// A symbol with the place of the next line, or how the symbols end.
+pub enum NextSymbol {
+    Named {
+        kind: Kind,
+        index: usize,
+        next: Cursor,
+    },
+    End(Symbols),
+}
+
+// The sections from a cursor on. All lines are looked at before 11, since a bad line, symbol or comment counts more.
+fn read_sections(s: &[u8], c: Cursor, n: AagCounts, witness: bool) -> ReadAag
+    requires { ⌜ (counted limited n ≡ true) × (withoutLiveness n ≡ true) ⌝ }
+    ensures { λ r. ⌜ r ≡ countsRead (sectionsOf witness n (linesFrom (now (s .entry)) c)) ⌝ }
+{
+    let Checked::Done { next, fine } = body::check_body(s, c, n) else {
+        return ReadAag::Refused(8);
+    };
+    let symbols = tail::check_tail(s, next, n);
+    match symbols {
+        Symbols::Refused(reason) => ReadAag::Refused(reason),
+        Symbols::Done(comments) => {
+            if !tail::plain_comments(s, comments, witness) {
+                return ReadAag::Refused(10);
+            }
+            if fine {
+                return ReadAag::Got(n);
+            }
+            ReadAag::Refused(11)
+        }
+    }
+}
+
+// What follows a header, from a cursor on.
+fn read_body(s: &[u8], c: Cursor, n: AagCounts, witness: bool) -> ReadAag
+    ensures { λ r. ⌜ r ≡ countsRead (afterHeader limited witness (linesFrom (now (s .entry)) c) n) ⌝ }
+{
+    if !witness_text::counts_hold(n) {
+        return ReadAag::Refused(5);
+    }
+    if !witness_text::no_liveness(n) {
+        return ReadAag::Refused(6);
+    }
+    read_sections(s, c, n, witness)
+}
+
+// Reads a text as a witness, or as the model where `witness` is false: the counts of its sections, or the number of the first reason.
+pub fn parse_aag(s: &[u8], witness: bool) -> ReadAag
+    ensures { λ r. ⌜ r ≡ countsRead (readAag limited witness (now (s .entry))) ⌝ }
+{
+    if !text::good_text(Reader::Witness, s) {
+        return ReadAag::Refused(3);
+    }
+    let Header::Got { counts, next } = witness_text::take_header(s) else {
+        return ReadAag::Refused(4);
+    };
+    read_body(s, next, counts, witness)
+}
