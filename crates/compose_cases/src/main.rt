@@ -1,7 +1,7 @@
 // Runs the composer on 01's composing case and on its neighbours; what they must print is in the file `stdout`.
 use compose::Composed;
-use text_decimal::Written;
 use libc::STDOUT_FILENO;
+use text_decimal::Written;
 
 // Prints `refused`, the number and byte 10.
 fn print_refused(reason: u64) {

@@ -3,11 +3,11 @@ ghost use mathlib.Core.Path.{_≡_};
 ghost use Rattle.compose_joint.specs.declared.Leaves.the-variants as leaf;
 ghost use Rattle.compose_gather.specs.Counts.{CountsListed};
 ghost use Rattle.compose_layout.specs.Laid.{CanLay, Lays, Staged, Goes, GoesRight, nothing, withLatches, withOperands, withSafety, withConstraints, withInputs, PlacesFit, placesOf};
-use compose_spec::ModelLeaves;
 use compose_gather::Totals;
 use compose_joint::Leaves;
 use compose_joint::Literals;
 use compose_origins::Origins;
+use compose_spec::ModelLeaves;
 use witness_text::AagCounts;
 
 // Where the regions of the work words begin.

@@ -1,6 +1,7 @@
 -- Worked examples of the definitions.
 use mathlib.Core.List.{[], _∷_}
 use mathlib.Core.Path.{_≡_, refl}
+use Rattle.lists.specs.Quoted.{bytes}
 use Rattle.text_decimal.specs.Decimal.{decimal}
 use Rattle.compose_spec.specs.Keys.{keyOf}
 use Rattle.compose_lines.specs.Header.{headerOf}
@@ -8,7 +9,7 @@ use Rattle.compose_lines.specs.Header.{headerOf}
 -- `aag 3 1 1 0 1 2 0 0 0`
 pub a-header :
     headerOf (record { variables = 3; inputs = 1; latches = 1; gates = 1; bads = 2; constraints = 0 })
-    ≡ 97 ∷ 97 ∷ 103 ∷ 32 ∷ 51 ∷ 32 ∷ 49 ∷ 32 ∷ 49 ∷ 32 ∷ 48 ∷ 32 ∷ 49 ∷ 32 ∷ 50 ∷ 32 ∷ 48 ∷ 32 ∷ 48 ∷ 32 ∷ 48 ∷ []
+    ≡ bytes "aag 3 1 1 0 1 2 0 0 0"
 unfolding headerOf decimal
 a-header = refl
 

@@ -3,6 +3,7 @@ use Prim.Native.Nat.{ℕ, suc, _+_}
 use mathlib.Core.List.{List, [], _∷_, _++_, map}
 use mathlib.Core.Option.{Option, some}
 use lib.ListN.{length}
+use Rattle.lists.specs.Quoted.{bytes}
 use Rattle.lists.specs.Parts.{Bytes}
 use Rattle.lists.specs.Words.{wordsOf}
 use Rattle.text_decimal.specs.Printed.{textOf}
@@ -18,7 +19,7 @@ use Rattle.compose_lines.specs.Header.{headerOf, countsOf}
 
 -- the line `c` and the composer's comment
 abbrev pub closingText : Bytes
-closingText = textOf ((99 ∷ []) ∷ closing ∷ [])
+closingText = textOf (bytes "c" ∷ closing ∷ [])
 
 -- the texts of header, inputs, latches, bads, constraints, gates, symbols of inputs, symbols of latches, and the last lines; two words a latch, next and reset
 abbrev pub textWith : Counts → List ℕ → List ℕ → List ℕ → List Gate → List (Option Bytes) → List (Option Bytes) → Bytes

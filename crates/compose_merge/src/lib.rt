@@ -2,10 +2,10 @@
 ghost use Rattle.compose_layout.specs.Laid.{Some};
 ghost use Rattle.compose_merge.specs.Merged.{Mergeable, Goes};
 ghost use Rattle.compose_merge.specs.Stages.{Clearable, Clears, Cleared, InputsNumbered, LeavesNumbered, GatesShared, LatchesDefined};
-use compose_gather::Totals;
-use compose_layout::Places;
 use compose_gates::DefinedLatches;
 use compose_gates::SharedGates;
+use compose_gather::Totals;
+use compose_layout::Places;
 use witness_text::AagCounts;
 
 // The counts of the composition.

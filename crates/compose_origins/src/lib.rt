@@ -13,9 +13,9 @@ ghost use Rattle.compose_spec.specs.Mapping.{ontoNumber, byName, byPosition};
 ghost use Rattle.compose_spec.specs.Composing.{isRight};
 ghost use Rattle.compose_joint.specs.Joint.{originWord};
 ghost use Rattle.compose_origins.specs.Mapped.{FewLeaves, SaysName, MapsTo, MappedAt, MapsAt, TestsName, SaysAt, TestsAt, SayNames, AnyMapped, CanMap, StoresOrigins, CanTest, TestsWitness, CanMapWitness, MapsWitness, CanMapAll, MapsAll};
+use compose_joint::Leaves;
 use compose_spec::Mapping;
 use compose_spec::ModelLeaves;
-use compose_joint::Leaves;
 use text::Number;
 use witness_text::AagCounts;
 

@@ -1,10 +1,10 @@
 // The composition's text, printed from the work words: each function prints a part and goes on with the next. With an empty slice they only count.
 ghost use Rattle.compose_gather.specs.Counts.{CountsListed};
 ghost use Rattle.compose_print.specs.Written.{PrintableSome, PrintsText, fromLatchNames, fromInputNames, fromGates, fromConstraints, fromBads, fromLatches, fromInputs, fromHeader};
-use compose_lines::Counts;
 use compose_gather::Totals;
 use compose_joint::Leaves;
 use compose_layout::Places;
+use compose_lines::Counts;
 use compose_merge::Merged;
 
 // From the symbols of the latches on.

@@ -7,6 +7,7 @@ use mathlib.Core.Path.{_≡_, refl, sym, ap, ap₂, _∙_}
 use native.Mathlib.Omega.{arith}
 use lib.ListN.{length, drop, length-map}
 use borrow.Author.Tests.{eq-eqb}
+use Rattle.lists.specs.Quoted.{bytes}
 use Rattle.lists.specs.Answer.{Answer, got, unless, andThen}
 use Rattle.lists.specs.Parts.{Bytes}
 use Rattle.lists.specs.Sets.{distinct}
@@ -131,7 +132,7 @@ module _ (s : Sections) (p : Printable s) where
   tail-back : tailOf (countsIn s) (tailLines s) ≡ got tailIn
   tail-back =
       let n : AagCounts = countsIn s in
-      let cs : List Bytes = (99 ∷ []) ∷ closing ∷ [] in
+      let cs : List Bytes = (bytes "c") ∷ closing ∷ [] in
       let last : Tail = record { symbols = []; comments = closing ∷ [] } in
       let mid : Tail = record { symbols = latchSymbols s; comments = closing ∷ [] } in
       let small : Small (2 * suc (variables s)) = p .small in

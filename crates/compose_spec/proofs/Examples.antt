@@ -1,6 +1,7 @@
 -- Worked examples of the composition: each is computed.
 use mathlib.Core.List.{[], _∷_}
 use mathlib.Core.Path.{_≡_, refl}
+use Rattle.lists.specs.Quoted.{bytes}
 use Rattle.lists.specs.Answer.{got, refused}
 use Rattle.lists.specs.Parts.{Bytes}
 use Rattle.lists.specs.Tests.{every}
@@ -19,27 +20,20 @@ use Rattle.compose_spec.specs.Calling.{composeTexts, composeCall}
 
 -- `aag 1 0 1 0 0`, `2 2`
 abbrev pub model : Bytes
-model = 97 ∷ 97 ∷ 103 ∷ 32 ∷ 49 ∷ 32 ∷ 48 ∷ 32 ∷ 49 ∷ 32 ∷ 48 ∷ 32 ∷ 48 ∷ 10 ∷ 50 ∷ 32 ∷ 50 ∷ 10 ∷ []
+model = bytes "aag 1 0 1 0 0\n2 2\n"
 
 -- `aag 1 0 1 1 0`, `2 2`, `2`
 abbrev pub first : Bytes
-first = 97 ∷ 97 ∷ 103 ∷ 32 ∷ 49 ∷ 32 ∷ 48 ∷ 32 ∷ 49 ∷ 32 ∷ 49 ∷ 32 ∷ 48 ∷ 10 ∷ 50 ∷ 32 ∷ 50 ∷ 10 ∷ 50 ∷ 10 ∷ []
+first = bytes "aag 1 0 1 1 0\n2 2\n2\n"
 
 -- "and the same ending in `3`"
 abbrev pub second : Bytes
-second = 97 ∷ 97 ∷ 103 ∷ 32 ∷ 49 ∷ 32 ∷ 48 ∷ 32 ∷ 49 ∷ 32 ∷ 49 ∷ 32 ∷ 48 ∷ 10 ∷ 50 ∷ 32 ∷ 50 ∷ 10 ∷ 51 ∷ 10 ∷ []
+second = bytes "aag 1 0 1 1 0\n2 2\n3\n"
 
 -- 01's composing case: the text that it prints
 abbrev pub together : Bytes
 together =
-    97 ∷ 97 ∷ 103 ∷ 32 ∷ 49 ∷ 32 ∷ 48 ∷ 32 ∷ 49 ∷ 32 ∷ 48 ∷ 32 ∷ 48 ∷ 32 ∷ 50 ∷ 32 ∷ 48 ∷ 32 ∷ 48 ∷ 32 ∷ 48 ∷ 10
-    ∷ 50 ∷ 32 ∷ 50 ∷ 32 ∷ 48 ∷ 10
-    ∷ 50 ∷ 10
-    ∷ 51 ∷ 10
-    ∷ 108 ∷ 48 ∷ 32 ∷ 61 ∷ 32 ∷ 50 ∷ 10
-    ∷ 99 ∷ 10
-    ∷ 71 ∷ 67 ∷ 67 ∷ 32 ∷ 70 ∷ 77 ∷ 32 ∷ 50 ∷ 48 ∷ 50 ∷ 54 ∷ 32 ∷ 99 ∷ 111 ∷ 109 ∷ 112 ∷ 111 ∷ 115 ∷ 101 ∷ 100 ∷ 45 ∷ 119 ∷ 105 ∷ 116 ∷ 110 ∷ 101
-    ∷ 115 ∷ 115 ∷ 32 ∷ 98 ∷ 97 ∷ 115 ∷ 101 ∷ 108 ∷ 105 ∷ 110 ∷ 101 ∷ 32 ∷ 118 ∷ 49 ∷ 10 ∷ []
+    bytes "aag 1 0 1 0 0 2 0 0 0\n2 2 0\n2\n3\nl0 = 2\nc\nGCC FM 2026 composed-witness baseline v1\n"
 
 pub composing-case : composeTexts 1104 82 model (first ∷ second ∷ []) ≡ got together
 unfolding composeCall readAag goodText every numberOf counted withoutLiveness symbolsOf symbolOf latchNumbered gateNumbered wellNumbered literal ordered compose printed decimal

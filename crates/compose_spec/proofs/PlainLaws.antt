@@ -7,6 +7,7 @@ use mathlib.Core.Path.{_≡_, refl, _∙_}
 use native.Mathlib.Omega.{arith}
 use lib.ListN.{length}
 use borrow.Author.Tests.{le-leb, ne-eqb}
+use Rattle.lists.specs.Quoted.{bytes}
 use Rattle.lists.specs.Parts.{Bytes}
 use Rattle.lists.specs.Tests.{all, Each}
 use Rattle.lists.proofs.BoolLaws.{and-both}
@@ -61,7 +62,7 @@ module _ (s : Sections) (i : Each PlainName (s .inputs)) (l : Each PlainName (la
   -- and all lines after the gates
   tail-plain : Each Plain (tailLines s)
   tail-plain =
-      let cs : List Bytes = (99 ∷ []) ∷ closing ∷ [] in
+      let cs : List Bytes = (bytes "c") ∷ closing ∷ [] in
       each-append Plain (symbolLines 105 0 (s .inputs)) (symbolLines 108 0 (latchNames s) ++ cs) (symbols-plain 105 refl 0 (s .inputs) i)
       (each-append Plain (symbolLines 108 0 (latchNames s)) cs (symbols-plain 108 refl 0 (latchNames s) l) (refl, (refl, tt)))
 

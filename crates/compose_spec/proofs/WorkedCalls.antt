@@ -4,6 +4,7 @@ use mathlib.Core.List.{List, [], _∷_, _++_, map}
 use mathlib.Core.Option.{some, none}
 use mathlib.Core.Path.{_≡_, refl}
 use lib.ListN.{replicate}
+use Rattle.lists.specs.Quoted.{bytes}
 use Rattle.lists.specs.Answer.{Answer, got, refused}
 use Rattle.lists.specs.Parts.{Bytes}
 use Rattle.lists.specs.Tests.{every}
@@ -36,25 +37,7 @@ number (refused n) = n
 -- `aag 7 4 1 0 2 3 1 0 0`, `2`, `4`, `6`, `8`, `10 10 3`, `11`, `14`, `15`, `4`, `12 2 4`, `14 4 8`, `i0 w0:x`, `i1 = 4`, `i2 = 2`, `i3 w1:private-input`, `l0 w0:private-latch`, `c`, `GCC FM 2026 composed-witness baseline v1`
 abbrev longer : Bytes
 longer =
-    97 ∷ 97 ∷ 103 ∷ 32 ∷ 55 ∷ 32 ∷ 52 ∷ 32 ∷ 49 ∷ 32 ∷ 48 ∷ 32 ∷ 50 ∷ 32 ∷ 51 ∷ 32 ∷ 49 ∷ 32 ∷ 48 ∷ 32 ∷ 48 ∷ 10
-    ∷ 50 ∷ 10
-    ∷ 52 ∷ 10
-    ∷ 54 ∷ 10
-    ∷ 56 ∷ 10
-    ∷ 49 ∷ 48 ∷ 32 ∷ 49 ∷ 48 ∷ 32 ∷ 51 ∷ 10
-    ∷ 49 ∷ 49 ∷ 10
-    ∷ 49 ∷ 52 ∷ 10
-    ∷ 49 ∷ 53 ∷ 10
-    ∷ 52 ∷ 10
-    ∷ 49 ∷ 50 ∷ 32 ∷ 50 ∷ 32 ∷ 52 ∷ 10
-    ∷ 49 ∷ 52 ∷ 32 ∷ 52 ∷ 32 ∷ 56 ∷ 10
-    ∷ 105 ∷ 48 ∷ 32 ∷ 119 ∷ 48 ∷ 58 ∷ 120 ∷ 10
-    ∷ 105 ∷ 49 ∷ 32 ∷ 61 ∷ 32 ∷ 52 ∷ 10
-    ∷ 105 ∷ 50 ∷ 32 ∷ 61 ∷ 32 ∷ 50 ∷ 10
-    ∷ 105 ∷ 51 ∷ 32 ∷ 119 ∷ 49 ∷ 58 ∷ 112 ∷ 114 ∷ 105 ∷ 118 ∷ 97 ∷ 116 ∷ 101 ∷ 45 ∷ 105 ∷ 110 ∷ 112 ∷ 117 ∷ 116 ∷ 10
-    ∷ 108 ∷ 48 ∷ 32 ∷ 119 ∷ 48 ∷ 58 ∷ 112 ∷ 114 ∷ 105 ∷ 118 ∷ 97 ∷ 116 ∷ 101 ∷ 45 ∷ 108 ∷ 97 ∷ 116 ∷ 99 ∷ 104 ∷ 10
-    ∷ 99 ∷ 10
-    ∷ 71 ∷ 67 ∷ 67 ∷ 32 ∷ 70 ∷ 77 ∷ 32 ∷ 50 ∷ 48 ∷ 50 ∷ 54 ∷ 32 ∷ 99 ∷ 111 ∷ 109 ∷ 112 ∷ 111 ∷ 115 ∷ 101 ∷ 100 ∷ 45 ∷ 119 ∷ 105 ∷ 116 ∷ 110 ∷ 101 ∷ 115 ∷ 115 ∷ 32 ∷ 98 ∷ 97 ∷ 115 ∷ 101 ∷ 108 ∷ 105 ∷ 110 ∷ 101 ∷ 32 ∷ 118 ∷ 49 ∷ 10 ∷ []
+    bytes "aag 7 4 1 0 2 3 1 0 0\n2\n4\n6\n8\n10 10 3\n11\n14\n15\n4\n12 2 4\n14 4 8\ni0 w0:x\ni1 = 4\ni2 = 2\ni3 w1:private-input\nl0 w0:private-latch\nc\nGCC FM 2026 composed-witness baseline v1\n"
 
 -- two witnesses for the model with inputs 2 and 4 and latch 6
 abbrev two : List Sections
@@ -75,7 +58,7 @@ unfolding compose numberOf printed decimal
 one-byte-short = refl
 
 -- 20 comes after 16 and 19
-pub twenty-last : number (composeSections 0 small (circuit (none ∷ []) [] (2 ∷ []) [] [] [] ∷ circuit (some (61 ∷ 32 ∷ 51 ∷ []) ∷ []) [] [] [] [] [] ∷ []))
+pub twenty-last : number (composeSections 0 small (circuit (none ∷ []) [] (2 ∷ []) [] [] [] ∷ circuit (some (bytes "= 3") ∷ []) [] [] [] [] [] ∷ []))
     ∷ number (composeSections 0 small (circuit (none ∷ []) [] (2 ∷ []) [] [] [] ∷ circuit (none ∷ []) [] [] [] [] [] ∷ [])) ∷ []
     ≡ 16 ∷ 19 ∷ []
 unfolding compose numberOf
@@ -141,26 +124,26 @@ with-texts m ws = number (composeTexts 9999 9999 m ws)
 
 -- `aag 1 0 1 1 0`, `2 2`, `4`: a literal out of range
 abbrev high : Bytes
-high = 97 ∷ 97 ∷ 103 ∷ 32 ∷ 49 ∷ 32 ∷ 48 ∷ 32 ∷ 49 ∷ 32 ∷ 49 ∷ 32 ∷ 48 ∷ 10 ∷ 50 ∷ 32 ∷ 50 ∷ 10 ∷ 52 ∷ 10 ∷ []
+high = bytes "aag 1 0 1 1 0\n2 2\n4\n"
 
 -- the line `c`, then `MAPPING`
 abbrev mapping : Bytes
-mapping = 99 ∷ 10 ∷ 77 ∷ 65 ∷ 80 ∷ 80 ∷ 73 ∷ 78 ∷ 71 ∷ 10 ∷ []
+mapping = bytes "c\nMAPPING\n"
 
 -- `l0 = 9`
 abbrev wrong : Bytes
-wrong = 108 ∷ 48 ∷ 32 ∷ 61 ∷ 32 ∷ 57 ∷ 10 ∷ []
+wrong = bytes "l0 = 9\n"
 
 -- `o0 = 9`
 abbrev plainly : Bytes
-plainly = 111 ∷ 48 ∷ 32 ∷ 61 ∷ 32 ∷ 57 ∷ 10 ∷ []
+plainly = bytes "o0 = 9\n"
 
 -- `l0 a`, `l0 b`
 abbrev twice : Bytes
-twice = 108 ∷ 48 ∷ 32 ∷ 97 ∷ 10 ∷ 108 ∷ 48 ∷ 32 ∷ 98 ∷ 10 ∷ []
+twice = bytes "l0 a\nl0 b\n"
 
 -- the model before the witnesses (4 before 3), witness 0 before witness 1 (11 before 3), and 3 to 11 of witness 1 before 16 of witness 0
-pub in-turn : with-texts (120 ∷ 10 ∷ []) ([] ∷ first ∷ []) ∷ with-texts model (high ∷ [] ∷ []) ∷ with-texts model ((first ++ wrong) ∷ high ∷ []) ∷ []
+pub in-turn : with-texts (bytes "x\n") ([] ∷ first ∷ []) ∷ with-texts model (high ∷ [] ∷ []) ∷ with-texts model ((first ++ wrong) ∷ high ∷ []) ∷ []
     ≡ 4 ∷ 11 ∷ 11 ∷ []
 unfolding composeCall readAag goodText every numberOf counted withoutLiveness symbolsOf symbolOf latchNumbered gateNumbered wellNumbered literal ordered compose printed decimal
 in-turn = refl

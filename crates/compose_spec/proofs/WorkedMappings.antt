@@ -3,6 +3,7 @@ use Prim.Native.Nat.{ℕ}
 use mathlib.Core.List.{List, [], _∷_, map}
 use mathlib.Core.Option.{Option, some, none}
 use mathlib.Core.Path.{_≡_, refl}
+use Rattle.lists.specs.Quoted.{bytes}
 use Rattle.lists.specs.Answer.{Answer, got, refused}
 use Rattle.lists.specs.Parts.{Bytes}
 use Rattle.text.specs.Numbers.{numberOf}
@@ -39,27 +40,27 @@ model = circuit (none ∷ none ∷ []) (latch 6 0 none ∷ latch 8 0 none ∷ []
 
 -- `= 2`
 abbrev pub to2 : Option Bytes
-to2 = some (61 ∷ 32 ∷ 50 ∷ [])
+to2 = some (bytes "= 2")
 
 -- `= 4`
 abbrev pub to4 : Option Bytes
-to4 = some (61 ∷ 32 ∷ 52 ∷ [])
+to4 = some (bytes "= 4")
 
 -- `= +04`
 abbrev pub toPlus04 : Option Bytes
-toPlus04 = some (61 ∷ 32 ∷ 43 ∷ 48 ∷ 52 ∷ [])
+toPlus04 = some (bytes "= +04")
 
 -- `= 6`
 abbrev pub to6 : Option Bytes
-to6 = some (61 ∷ 32 ∷ 54 ∷ [])
+to6 = some (bytes "= 6")
 
 -- `= 8`
 abbrev pub to8 : Option Bytes
-to8 = some (61 ∷ 32 ∷ 56 ∷ [])
+to8 = some (bytes "= 8")
 
 -- `x`
 abbrev pub x : Option Bytes
-x = some (120 ∷ [])
+x = some (bytes "x")
 
 -- the empty name
 abbrev pub empty : Option Bytes
@@ -67,31 +68,31 @@ empty = some []
 
 -- `w0:x`
 abbrev pub w0x : Option Bytes
-w0x = some (119 ∷ 48 ∷ 58 ∷ 120 ∷ [])
+w0x = some (bytes "w0:x")
 
 -- `w1:x`
 abbrev pub w1x : Option Bytes
-w1x = some (119 ∷ 49 ∷ 58 ∷ 120 ∷ [])
+w1x = some (bytes "w1:x")
 
 -- `w0:`
 abbrev pub w0empty : Option Bytes
-w0empty = some (119 ∷ 48 ∷ 58 ∷ [])
+w0empty = some (bytes "w0:")
 
 -- `w0:private-input`
 abbrev pub w0input : Option Bytes
-w0input = some (119 ∷ 48 ∷ 58 ∷ 112 ∷ 114 ∷ 105 ∷ 118 ∷ 97 ∷ 116 ∷ 101 ∷ 45 ∷ 105 ∷ 110 ∷ 112 ∷ 117 ∷ 116 ∷ [])
+w0input = some (bytes "w0:private-input")
 
 -- `w1:private-input`
 abbrev pub w1input : Option Bytes
-w1input = some (119 ∷ 49 ∷ 58 ∷ 112 ∷ 114 ∷ 105 ∷ 118 ∷ 97 ∷ 116 ∷ 101 ∷ 45 ∷ 105 ∷ 110 ∷ 112 ∷ 117 ∷ 116 ∷ [])
+w1input = some (bytes "w1:private-input")
 
 -- `w0:private-latch`
 abbrev pub w0latch : Option Bytes
-w0latch = some (119 ∷ 48 ∷ 58 ∷ 112 ∷ 114 ∷ 105 ∷ 118 ∷ 97 ∷ 116 ∷ 101 ∷ 45 ∷ 108 ∷ 97 ∷ 116 ∷ 99 ∷ 104 ∷ [])
+w0latch = some (bytes "w0:private-latch")
 
 -- `w1:private-latch`
 abbrev pub w1latch : Option Bytes
-w1latch = some (119 ∷ 49 ∷ 58 ∷ 112 ∷ 114 ∷ 105 ∷ 118 ∷ 97 ∷ 116 ∷ 101 ∷ 45 ∷ 108 ∷ 97 ∷ 116 ∷ 99 ∷ 104 ∷ [])
+w1latch = some (bytes "w1:private-latch")
 
 -- ---- mapping, numbering and names
 
@@ -162,14 +163,14 @@ ofLatch name = reason (compose model (circuit [] (latch 2 0 (some name) ∷ []) 
 
 -- `= 2`, `= 4`, `= +4`, `= +04` are readable and even inputs; `=2`, `=`, ` = 2`, `== 2` and the empty name are plain
 pub good-inputs : map ofInput
-    ((61 ∷ 32 ∷ 50 ∷ [])
-    ∷ (61 ∷ 32 ∷ 52 ∷ [])
-    ∷ (61 ∷ 32 ∷ 43 ∷ 52 ∷ [])
-    ∷ (61 ∷ 32 ∷ 43 ∷ 48 ∷ 52 ∷ [])
-    ∷ (61 ∷ 50 ∷ [])
-    ∷ (61 ∷ [])
-    ∷ (32 ∷ 61 ∷ 32 ∷ 50 ∷ [])
-    ∷ (61 ∷ 61 ∷ 32 ∷ 50 ∷ [])
+    (bytes "= 2"
+    ∷ bytes "= 4"
+    ∷ bytes "= +4"
+    ∷ bytes "= +04"
+    ∷ bytes "=2"
+    ∷ bytes "="
+    ∷ bytes " = 2"
+    ∷ bytes "== 2"
     ∷ [] ∷ [])
     ≡ 0 ∷ 0 ∷ 0 ∷ 0 ∷ 0 ∷ 0 ∷ 0 ∷ 0 ∷ 0 ∷ []
 unfolding compose numberOf
@@ -177,43 +178,43 @@ good-inputs = refl
 
 -- unreadable: `= `, `= 2 `, `=  2`, `= 04`, `= +`, `= ++2`, `= x`, `= -2`
 pub unreadable-inputs : map ofInput
-    ((61 ∷ 32 ∷ [])
-    ∷ (61 ∷ 32 ∷ 50 ∷ 32 ∷ [])
-    ∷ (61 ∷ 32 ∷ 32 ∷ 50 ∷ [])
-    ∷ (61 ∷ 32 ∷ 48 ∷ 52 ∷ [])
-    ∷ (61 ∷ 32 ∷ 43 ∷ [])
-    ∷ (61 ∷ 32 ∷ 43 ∷ 43 ∷ 50 ∷ [])
-    ∷ (61 ∷ 32 ∷ 120 ∷ [])
-    ∷ (61 ∷ 32 ∷ 45 ∷ 50 ∷ []) ∷ [])
+    (bytes "= "
+    ∷ bytes "= 2 "
+    ∷ bytes "=  2"
+    ∷ bytes "= 04"
+    ∷ bytes "= +"
+    ∷ bytes "= ++2"
+    ∷ bytes "= x"
+    ∷ bytes "= -2" ∷ [])
     ≡ 16 ∷ 16 ∷ 16 ∷ 16 ∷ 16 ∷ 16 ∷ 16 ∷ 16 ∷ []
 unfolding compose numberOf
 unreadable-inputs = refl
 
 -- 0; odd: 1, 3; a latch, a gate, absent: 6, 10, 12; 2^64 + 2 does not wrap to 2; 2^64 - 2
 pub wrong-inputs : map ofInput
-    ((61 ∷ 32 ∷ 48 ∷ [])
-    ∷ (61 ∷ 32 ∷ 49 ∷ [])
-    ∷ (61 ∷ 32 ∷ 51 ∷ [])
-    ∷ (61 ∷ 32 ∷ 54 ∷ [])
-    ∷ (61 ∷ 32 ∷ 49 ∷ 48 ∷ [])
-    ∷ (61 ∷ 32 ∷ 49 ∷ 50 ∷ [])
-    ∷ (61 ∷ 32 ∷ 49 ∷ 56 ∷ 52 ∷ 52 ∷ 54 ∷ 55 ∷ 52 ∷ 52 ∷ 48 ∷ 55 ∷ 51 ∷ 55 ∷ 48 ∷ 57 ∷ 53 ∷ 53 ∷ 49 ∷ 54 ∷ 49 ∷ 56 ∷ [])
-    ∷ (61 ∷ 32 ∷ 49 ∷ 56 ∷ 52 ∷ 52 ∷ 54 ∷ 55 ∷ 52 ∷ 52 ∷ 48 ∷ 55 ∷ 51 ∷ 55 ∷ 48 ∷ 57 ∷ 53 ∷ 53 ∷ 49 ∷ 54 ∷ 49 ∷ 52 ∷ []) ∷ [])
+    (bytes "= 0"
+    ∷ bytes "= 1"
+    ∷ bytes "= 3"
+    ∷ bytes "= 6"
+    ∷ bytes "= 10"
+    ∷ bytes "= 12"
+    ∷ bytes "= 18446744073709551618"
+    ∷ bytes "= 18446744073709551614" ∷ [])
     ≡ 16 ∷ 16 ∷ 16 ∷ 16 ∷ 16 ∷ 16 ∷ 16 ∷ 16 ∷ []
 unfolding compose numberOf
 wrong-inputs = refl
 
 -- latches: `= 6`, `= 8`, `=4`; then another kind (`= 2`, `= 4`, `= 10`), odd, unreadable, absent
 pub latch-names : map ofLatch
-    ((61 ∷ 32 ∷ 54 ∷ [])
-    ∷ (61 ∷ 32 ∷ 56 ∷ [])
-    ∷ (61 ∷ 52 ∷ [])
-    ∷ (61 ∷ 32 ∷ 50 ∷ [])
-    ∷ (61 ∷ 32 ∷ 52 ∷ [])
-    ∷ (61 ∷ 32 ∷ 49 ∷ 48 ∷ [])
-    ∷ (61 ∷ 32 ∷ 55 ∷ [])
-    ∷ (61 ∷ 32 ∷ [])
-    ∷ (61 ∷ 32 ∷ 49 ∷ 50 ∷ []) ∷ [])
+    (bytes "= 6"
+    ∷ bytes "= 8"
+    ∷ bytes "=4"
+    ∷ bytes "= 2"
+    ∷ bytes "= 4"
+    ∷ bytes "= 10"
+    ∷ bytes "= 7"
+    ∷ bytes "= "
+    ∷ bytes "= 12" ∷ [])
     ≡ 0 ∷ 0 ∷ 0 ∷ 16 ∷ 16 ∷ 16 ∷ 16 ∷ 16 ∷ 16 ∷ []
 unfolding compose numberOf
 latch-names = refl
@@ -221,7 +222,7 @@ latch-names = refl
 -- ---- private names
 
 -- "`w`, the witness index, `:`, then the name": `w10:private-latch`, `w63:y`
-pub private-names : privateName private-latch 10 none ∷ privateName private-input 63 (some (121 ∷ [])) ∷ []
-    ≡ (119 ∷ 49 ∷ 48 ∷ 58 ∷ 112 ∷ 114 ∷ 105 ∷ 118 ∷ 97 ∷ 116 ∷ 101 ∷ 45 ∷ 108 ∷ 97 ∷ 116 ∷ 99 ∷ 104 ∷ []) ∷ (119 ∷ 54 ∷ 51 ∷ 58 ∷ 121 ∷ []) ∷ []
+pub private-names : privateName private-latch 10 none ∷ privateName private-input 63 (some (bytes "y")) ∷ []
+    ≡ bytes "w10:private-latch" ∷ bytes "w63:y" ∷ []
 unfolding decimal
 private-names = refl

@@ -6,6 +6,7 @@ use mathlib.Core.List.{[], _∷_}
 use mathlib.Core.Option.{Option, some, none}
 use lib.Dec.{leb, ltb}
 use lib.ListN.{length, drop}
+use Rattle.lists.specs.Quoted.{bytes}
 use Rattle.lists.specs.Bits.{odd}
 use Rattle.lists.specs.Parts.{Bytes}
 use Rattle.lists.specs.Tests.{any}
@@ -22,7 +23,7 @@ use Rattle.compose_spec.specs.declared.Mapping.the-variants.{Private, On
 
 -- the two bytes of `= `
 abbrev pub equals : Bytes
-equals = 61 ∷ 32 ∷ []
+equals = bytes "= "
 
 -- a name that begins with `= `
 abbrev pub isMapped : Option Bytes → Bool

@@ -5,6 +5,7 @@ use mathlib.Core.List.{List, [], _∷_, _++_, map}
 use mathlib.Core.Option.{Option, some, none}
 use lib.Dec.{eqb}
 use lib.ListN.{length}
+use Rattle.lists.specs.Quoted.{bytes}
 use Rattle.lists.specs.Firsts.{place, appearing}
 use Rattle.lists.specs.Parts.{Bytes}
 use Rattle.text_decimal.specs.Decimal.{decimal}
@@ -35,10 +36,10 @@ sameEntry a b = sameKey (a .key) (b .key)
 
 -- the bytes of `private-input` and of `private-latch`
 abbrev pub private-input : Bytes
-private-input = 112 ∷ 114 ∷ 105 ∷ 118 ∷ 97 ∷ 116 ∷ 101 ∷ 45 ∷ 105 ∷ 110 ∷ 112 ∷ 117 ∷ 116 ∷ []
+private-input = bytes "private-input"
 
 abbrev pub private-latch : Bytes
-private-latch = 112 ∷ 114 ∷ 105 ∷ 118 ∷ 97 ∷ 116 ∷ 101 ∷ 45 ∷ 108 ∷ 97 ∷ 116 ∷ 99 ∷ 104 ∷ []
+private-latch = bytes "private-latch"
 
 -- a name, or what stands for it where there is none; an empty name is one
 abbrev pub orElse : Bytes → Option Bytes → Bytes

@@ -3,6 +3,7 @@ use Prim.Native.Nat.{ℕ, suc, _*_}
 use mathlib.Core.List.{List, [], _∷_, _++_, map}
 use mathlib.Core.Option.{Option, some, none}
 use lib.ListN.{length}
+use Rattle.lists.specs.Quoted.{bytes}
 use Rattle.lists.specs.Parts.{Bytes}
 use Rattle.text.specs.Fields.{aag}
 use Rattle.text_decimal.specs.Decimal.{decimal}
@@ -50,12 +51,11 @@ symbolLines kind k (n ∷ ns) = withLine kind k n (symbolLines kind (suc k) ns)
 -- `GCC FM 2026 composed-witness baseline v1`
 abbrev pub closing : Bytes
 closing =
-    71 ∷ 67 ∷ 67 ∷ 32 ∷ 70 ∷ 77 ∷ 32 ∷ 50 ∷ 48 ∷ 50 ∷ 54 ∷ 32 ∷ 99 ∷ 111 ∷ 109 ∷ 112 ∷ 111 ∷ 115 ∷ 101 ∷ 100 ∷ 45 ∷ 119 ∷ 105 ∷ 116 ∷ 110 ∷ 101
-    ∷ 115 ∷ 115 ∷ 32 ∷ 98 ∷ 97 ∷ 115 ∷ 101 ∷ 108 ∷ 105 ∷ 110 ∷ 101 ∷ 32 ∷ 118 ∷ 49 ∷ []
+    bytes "GCC FM 2026 composed-witness baseline v1"
 
 -- symbols of inputs (byte 105) and latches (108), the line `c` (99), the comment
 abbrev pub tailLines : Sections → List Bytes
-tailLines s = symbolLines 105 0 (s .inputs) ++ (symbolLines 108 0 (latchNames s) ++ ((99 ∷ []) ∷ closing ∷ []))
+tailLines s = symbolLines 105 0 (s .inputs) ++ (symbolLines 108 0 (latchNames s) ++ (bytes "c" ∷ closing ∷ []))
 
 -- all lines after the header
 abbrev pub bodyLines : Sections → List Bytes

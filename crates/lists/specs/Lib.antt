@@ -6,3 +6,4 @@ pub mod Words
 pub mod Bits
 pub mod Sets
 pub mod Firsts
+pub mod Quoted

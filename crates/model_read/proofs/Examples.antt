@@ -3,6 +3,7 @@ use Prim.Native.Nat.{ℕ}
 use mathlib.Core.List.{List, [], _∷_, _++_, map}
 use mathlib.Core.Path.{_≡_, refl}
 use lib.ListN.{replicate}
+use Rattle.lists.specs.Quoted.{bytes}
 use Rattle.lists.specs.Answer.{Answer, got, refused}
 use Rattle.lists.specs.Parts.{Bytes, zeros}
 use Rattle.lists.specs.Tests.{every}
@@ -32,7 +33,7 @@ after head tails = map (λ t. head ++ t) tails
 
 -- the shortest model: `aag 1 0 1 0 0`, `2 0`
 abbrev pub shortest : Bytes
-shortest = 97 ∷ 97 ∷ 103 ∷ 32 ∷ 49 ∷ 32 ∷ 48 ∷ 32 ∷ 49 ∷ 32 ∷ 48 ∷ 32 ∷ 48 ∷ 10 ∷ 50 ∷ 32 ∷ 48 ∷ 10 ∷ []
+shortest = bytes "aag 1 0 1 0 0\n2 0\n"
 
 pub shortest-read : readTransition shortest 0 2 ≡ got (record { variables = 1; inputs = []; latches = record { current = 2; next = 0 } ∷ []; outputs = []; gates = [] })
 unfolding readTransition goodText every numberOf counted wellDefined literal defining ordered defined
@@ -42,10 +43,10 @@ shortest-read = refl
 -- with a plus sign and zeros in front
 pub line-ends :
     reasons (
-    (97 ∷ 97 ∷ 103 ∷ 32 ∷ 49 ∷ 32 ∷ 48 ∷ 32 ∷ 49 ∷ 32 ∷ 48 ∷ 32 ∷ 48 ∷ 10 ∷ 50 ∷ 32 ∷ 48 ∷ []) ∷
-    (97 ∷ 97 ∷ 103 ∷ 32 ∷ 49 ∷ 32 ∷ 48 ∷ 32 ∷ 49 ∷ 32 ∷ 48 ∷ 32 ∷ 48 ∷ 13 ∷ 10 ∷ 50 ∷ 32 ∷ 48 ∷ 13 ∷ 10 ∷ []) ∷
-    (32 ∷ 97 ∷ 97 ∷ 103 ∷ 9 ∷ 49 ∷ 32 ∷ 32 ∷ 48 ∷ 32 ∷ 49 ∷ 32 ∷ 48 ∷ 32 ∷ 48 ∷ 32 ∷ 10 ∷ 9 ∷ 50 ∷ 32 ∷ 48 ∷ 32 ∷ 10 ∷ []) ∷
-    (97 ∷ 97 ∷ 103 ∷ 32 ∷ 43 ∷ 49 ∷ 32 ∷ 48 ∷ 48 ∷ 32 ∷ 48 ∷ 49 ∷ 32 ∷ 48 ∷ 32 ∷ 48 ∷ 10 ∷ 43 ∷ 48 ∷ 50 ∷ 32 ∷ 48 ∷ 48 ∷ 48 ∷ 10 ∷ []) ∷
+    bytes "aag 1 0 1 0 0\n2 0" ∷
+    bytes "aag 1 0 1 0 0\r\n2 0\r\n" ∷
+    bytes " aag\t1  0 1 0 0 \n\t2 0 \n" ∷
+    bytes "aag +1 00 01 0 0\n+02 000\n" ∷
     [])
     ≡ 0 ∷ 0 ∷ 0 ∷ 0 ∷ []
 unfolding readTransition goodText every numberOf counted wellDefined literal defining ordered defined
@@ -54,9 +55,9 @@ line-ends = refl
 -- lines after the gates are ignored, whatever they are: empty, `x`, `c`, byte 127; not a byte above 127, which is 3 anywhere
 pub lines-after :
     reasons (after shortest (
-    (10 ∷ 10 ∷ []) ∷
-    (120 ∷ 10 ∷ []) ∷
-    (99 ∷ 10 ∷ 51 ∷ 10 ∷ []) ∷
+    bytes "\n\n" ∷
+    bytes "x\n" ∷
+    bytes "c\n3\n" ∷
     (127 ∷ []) ∷
     (128 ∷ []) ∷
     []))
@@ -66,7 +67,7 @@ lines-after = refl
 
 -- variables in any order, and negated next and output literals: `aag 3 1 1 1 1`, `6`, `2 7`, `5`, `4 3 2`
 abbrev pub mixed : Bytes
-mixed = 97 ∷ 97 ∷ 103 ∷ 32 ∷ 51 ∷ 32 ∷ 49 ∷ 32 ∷ 49 ∷ 32 ∷ 49 ∷ 32 ∷ 49 ∷ 10 ∷ 54 ∷ 10 ∷ 50 ∷ 32 ∷ 55 ∷ 10 ∷ 53 ∷ 10 ∷ 52 ∷ 32 ∷ 51 ∷ 32 ∷ 50 ∷ 10 ∷ []
+mixed = bytes "aag 3 1 1 1 1\n6\n2 7\n5\n4 3 2\n"
 
 abbrev pub mixedModel : Circuit
 mixedModel =
@@ -86,23 +87,23 @@ mixed-words = (refl, refl)
 
 -- latch 4: "`0`, `1` or reads as the latch's literal": `0`, `1`, `4`, `04`, `+4`; not `00`, `01`, `+0`, `+1`, `2`, `5`, `x`, nor a fourth field
 abbrev pub latch-four : Bytes
-latch-four = 97 ∷ 97 ∷ 103 ∷ 32 ∷ 50 ∷ 32 ∷ 49 ∷ 32 ∷ 49 ∷ 32 ∷ 48 ∷ 32 ∷ 48 ∷ 10 ∷ 50 ∷ 10 ∷ 52 ∷ 32 ∷ 52 ∷ 32 ∷ []
+latch-four = bytes "aag 2 1 1 0 0\n2\n4 4 "
 
 pub initializers :
     reasons (after latch-four (
-    (48 ∷ 10 ∷ []) ∷
-    (49 ∷ 10 ∷ []) ∷
-    (52 ∷ 10 ∷ []) ∷
-    (48 ∷ 52 ∷ 10 ∷ []) ∷
-    (43 ∷ 52 ∷ 10 ∷ []) ∷
-    (48 ∷ 48 ∷ 10 ∷ []) ∷
-    (48 ∷ 49 ∷ 10 ∷ []) ∷
-    (43 ∷ 48 ∷ 10 ∷ []) ∷
-    (43 ∷ 49 ∷ 10 ∷ []) ∷
-    (50 ∷ 10 ∷ []) ∷
-    (53 ∷ 10 ∷ []) ∷
-    (120 ∷ 10 ∷ []) ∷
-    (48 ∷ 32 ∷ 48 ∷ 10 ∷ []) ∷
+    bytes "0\n" ∷
+    bytes "1\n" ∷
+    bytes "4\n" ∷
+    bytes "04\n" ∷
+    bytes "+4\n" ∷
+    bytes "00\n" ∷
+    bytes "01\n" ∷
+    bytes "+0\n" ∷
+    bytes "+1\n" ∷
+    bytes "2\n" ∷
+    bytes "5\n" ∷
+    bytes "x\n" ∷
+    bytes "0 0\n" ∷
     []))
     ≡ 0 ∷ 0 ∷ 0 ∷ 0 ∷ 0 ∷ 8 ∷ 8 ∷ 8 ∷ 8 ∷ 8 ∷ 8 ∷ 8 ∷ 8 ∷ []
 unfolding readTransition goodText every numberOf counted wellDefined literal defining ordered defined
@@ -110,12 +111,12 @@ initializers = refl
 
 -- `0 0 00`: the initializer reads as the literal 0, which then may define no variable; `0 0 01` does not
 abbrev pub latch-nought : Bytes
-latch-nought = 97 ∷ 97 ∷ 103 ∷ 32 ∷ 49 ∷ 32 ∷ 48 ∷ 32 ∷ 49 ∷ 32 ∷ 48 ∷ 32 ∷ 48 ∷ 10 ∷ 48 ∷ 32 ∷ 48 ∷ 32 ∷ []
+latch-nought = bytes "aag 1 0 1 0 0\n0 0 "
 
 pub latch-zero :
     reasons (after latch-nought (
-    (48 ∷ 48 ∷ 10 ∷ []) ∷
-    (48 ∷ 49 ∷ 10 ∷ []) ∷
+    bytes "00\n" ∷
+    bytes "01\n" ∷
     []))
     ≡ 11 ∷ 8 ∷ []
 unfolding readTransition goodText every numberOf counted wellDefined literal defining ordered defined
@@ -127,13 +128,13 @@ latch-zero = refl
 pub headers :
     reasons (
     [] ∷
-    (10 ∷ 97 ∷ 97 ∷ 103 ∷ 32 ∷ 49 ∷ 32 ∷ 48 ∷ 32 ∷ 49 ∷ 32 ∷ 48 ∷ 32 ∷ 48 ∷ 10 ∷ 50 ∷ 32 ∷ 48 ∷ 10 ∷ []) ∷
-    (97 ∷ 105 ∷ 103 ∷ 32 ∷ 49 ∷ 32 ∷ 48 ∷ 32 ∷ 49 ∷ 32 ∷ 48 ∷ 32 ∷ 48 ∷ 10 ∷ 50 ∷ 32 ∷ 48 ∷ 10 ∷ []) ∷
-    (97 ∷ 97 ∷ 103 ∷ 32 ∷ 49 ∷ 32 ∷ 48 ∷ 32 ∷ 49 ∷ 32 ∷ 48 ∷ 10 ∷ 50 ∷ 32 ∷ 48 ∷ 10 ∷ []) ∷
-    (97 ∷ 97 ∷ 103 ∷ 32 ∷ 49 ∷ 32 ∷ 48 ∷ 32 ∷ 49 ∷ 32 ∷ 48 ∷ 32 ∷ 48 ∷ 32 ∷ 48 ∷ 10 ∷ 50 ∷ 32 ∷ 48 ∷ 10 ∷ []) ∷
-    (97 ∷ 97 ∷ 103 ∷ 32 ∷ 49 ∷ 32 ∷ 48 ∷ 32 ∷ 49 ∷ 32 ∷ 48 ∷ 32 ∷ 120 ∷ 10 ∷ 50 ∷ 32 ∷ 48 ∷ 10 ∷ []) ∷
-    (97 ∷ 97 ∷ 103 ∷ 10 ∷ []) ∷
-    (99 ∷ 10 ∷ 97 ∷ 97 ∷ 103 ∷ 32 ∷ 49 ∷ 32 ∷ 48 ∷ 32 ∷ 49 ∷ 32 ∷ 48 ∷ 32 ∷ 48 ∷ 10 ∷ 50 ∷ 32 ∷ 48 ∷ 10 ∷ []) ∷
+    bytes "\naag 1 0 1 0 0\n2 0\n" ∷
+    bytes "aig 1 0 1 0 0\n2 0\n" ∷
+    bytes "aag 1 0 1 0\n2 0\n" ∷
+    bytes "aag 1 0 1 0 0 0\n2 0\n" ∷
+    bytes "aag 1 0 1 0 x\n2 0\n" ∷
+    bytes "aag\n" ∷
+    bytes "c\naag 1 0 1 0 0\n2 0\n" ∷
     [])
     ≡ 4 ∷ 4 ∷ 4 ∷ 4 ∷ 4 ∷ 4 ∷ 4 ∷ 4 ∷ []
 unfolding readTransition goodText every numberOf counted wellDefined literal defining ordered defined
@@ -142,12 +143,12 @@ headers = refl
 -- 5: M too large by one and too small by one, no latch, 9 latches; the count 18446744073709551615 is read, 18446744073709551616 is not (4)
 pub limits :
     reasons (
-    (97 ∷ 97 ∷ 103 ∷ 32 ∷ 50 ∷ 32 ∷ 48 ∷ 32 ∷ 49 ∷ 32 ∷ 48 ∷ 32 ∷ 48 ∷ 10 ∷ 50 ∷ 32 ∷ 48 ∷ 10 ∷ []) ∷
-    (97 ∷ 97 ∷ 103 ∷ 32 ∷ 49 ∷ 32 ∷ 49 ∷ 32 ∷ 49 ∷ 32 ∷ 48 ∷ 32 ∷ 48 ∷ 10 ∷ 50 ∷ 10 ∷ 50 ∷ 32 ∷ 48 ∷ 10 ∷ []) ∷
-    (97 ∷ 97 ∷ 103 ∷ 32 ∷ 49 ∷ 32 ∷ 49 ∷ 32 ∷ 48 ∷ 32 ∷ 48 ∷ 32 ∷ 48 ∷ 10 ∷ 50 ∷ 10 ∷ []) ∷
-    (97 ∷ 97 ∷ 103 ∷ 32 ∷ 57 ∷ 32 ∷ 48 ∷ 32 ∷ 57 ∷ 32 ∷ 48 ∷ 32 ∷ 48 ∷ 10 ∷ []) ∷
-    (97 ∷ 97 ∷ 103 ∷ 32 ∷ 49 ∷ 56 ∷ 52 ∷ 52 ∷ 54 ∷ 55 ∷ 52 ∷ 52 ∷ 48 ∷ 55 ∷ 51 ∷ 55 ∷ 48 ∷ 57 ∷ 53 ∷ 53 ∷ 49 ∷ 54 ∷ 49 ∷ 53 ∷ 32 ∷ 48 ∷ 32 ∷ 49 ∷ 32 ∷ 48 ∷ 32 ∷ 48 ∷ 10 ∷ []) ∷
-    (97 ∷ 97 ∷ 103 ∷ 32 ∷ 49 ∷ 56 ∷ 52 ∷ 52 ∷ 54 ∷ 55 ∷ 52 ∷ 52 ∷ 48 ∷ 55 ∷ 51 ∷ 55 ∷ 48 ∷ 57 ∷ 53 ∷ 53 ∷ 49 ∷ 54 ∷ 49 ∷ 54 ∷ 32 ∷ 48 ∷ 32 ∷ 49 ∷ 32 ∷ 48 ∷ 32 ∷ 48 ∷ 10 ∷ []) ∷
+    bytes "aag 2 0 1 0 0\n2 0\n" ∷
+    bytes "aag 1 1 1 0 0\n2\n2 0\n" ∷
+    bytes "aag 1 1 0 0 0\n2\n" ∷
+    bytes "aag 9 0 9 0 0\n" ∷
+    bytes "aag 18446744073709551615 0 1 0 0\n" ∷
+    bytes "aag 18446744073709551616 0 1 0 0\n" ∷
     [])
     ≡ 5 ∷ 5 ∷ 5 ∷ 5 ∷ 5 ∷ 4 ∷ []
 unfolding readTransition goodText every numberOf counted wellDefined literal defining ordered defined
@@ -155,21 +156,21 @@ limits = refl
 
 -- 8 in the sections of `aag 3 1 1 1 1`: a line is missing, empty, has too few or too many fields or no number
 abbrev pub header : Bytes
-header = 97 ∷ 97 ∷ 103 ∷ 32 ∷ 51 ∷ 32 ∷ 49 ∷ 32 ∷ 49 ∷ 32 ∷ 49 ∷ 32 ∷ 49 ∷ 10 ∷ []
+header = bytes "aag 3 1 1 1 1\n"
 
 pub section-lines :
     reasons (after header (
     [] ∷
-    (50 ∷ 10 ∷ 52 ∷ 32 ∷ 54 ∷ 10 ∷ 54 ∷ 10 ∷ []) ∷
-    (10 ∷ 52 ∷ 32 ∷ 54 ∷ 10 ∷ 54 ∷ 10 ∷ 54 ∷ 32 ∷ 52 ∷ 32 ∷ 50 ∷ 10 ∷ []) ∷
-    (50 ∷ 32 ∷ 50 ∷ 10 ∷ 52 ∷ 32 ∷ 54 ∷ 10 ∷ 54 ∷ 10 ∷ 54 ∷ 32 ∷ 52 ∷ 32 ∷ 50 ∷ 10 ∷ []) ∷
-    (50 ∷ 10 ∷ 52 ∷ 10 ∷ 54 ∷ 10 ∷ 54 ∷ 32 ∷ 52 ∷ 32 ∷ 50 ∷ 10 ∷ []) ∷
-    (50 ∷ 10 ∷ 52 ∷ 32 ∷ 54 ∷ 10 ∷ 10 ∷ 54 ∷ 32 ∷ 52 ∷ 32 ∷ 50 ∷ 10 ∷ []) ∷
-    (50 ∷ 10 ∷ 52 ∷ 32 ∷ 54 ∷ 10 ∷ 54 ∷ 10 ∷ 54 ∷ 32 ∷ 52 ∷ 10 ∷ []) ∷
-    (50 ∷ 10 ∷ 52 ∷ 32 ∷ 54 ∷ 10 ∷ 54 ∷ 10 ∷ 54 ∷ 32 ∷ 52 ∷ 32 ∷ 50 ∷ 32 ∷ 50 ∷ 10 ∷ []) ∷
-    (120 ∷ 10 ∷ 52 ∷ 32 ∷ 54 ∷ 10 ∷ 54 ∷ 10 ∷ 54 ∷ 32 ∷ 52 ∷ 32 ∷ 50 ∷ 10 ∷ []) ∷
-    (50 ∷ 10 ∷ 52 ∷ 32 ∷ 45 ∷ 54 ∷ 10 ∷ 54 ∷ 10 ∷ 54 ∷ 32 ∷ 52 ∷ 32 ∷ 50 ∷ 10 ∷ []) ∷
-    (50 ∷ 10 ∷ 52 ∷ 32 ∷ 54 ∷ 10 ∷ 54 ∷ 10 ∷ 54 ∷ 32 ∷ 52 ∷ 32 ∷ 50 ∷ 10 ∷ []) ∷
+    bytes "2\n4 6\n6\n" ∷
+    bytes "\n4 6\n6\n6 4 2\n" ∷
+    bytes "2 2\n4 6\n6\n6 4 2\n" ∷
+    bytes "2\n4\n6\n6 4 2\n" ∷
+    bytes "2\n4 6\n\n6 4 2\n" ∷
+    bytes "2\n4 6\n6\n6 4\n" ∷
+    bytes "2\n4 6\n6\n6 4 2 2\n" ∷
+    bytes "x\n4 6\n6\n6 4 2\n" ∷
+    bytes "2\n4 -6\n6\n6 4 2\n" ∷
+    bytes "2\n4 6\n6\n6 4 2\n" ∷
     []))
     ≡ 8 ∷ 8 ∷ 8 ∷ 8 ∷ 8 ∷ 8 ∷ 8 ∷ 8 ∷ 8 ∷ 8 ∷ 0 ∷ []
 unfolding readTransition goodText every numberOf counted wellDefined literal defining ordered defined
@@ -179,16 +180,16 @@ section-lines = refl
 -- a latch with the variable of the input, a gate that reads itself; the literal 18446744073709551615 is read, 18446744073709551616 is not (8)
 pub literals :
     reasons (after header (
-    (48 ∷ 10 ∷ 52 ∷ 32 ∷ 54 ∷ 10 ∷ 54 ∷ 10 ∷ 54 ∷ 32 ∷ 52 ∷ 32 ∷ 50 ∷ 10 ∷ []) ∷
-    (51 ∷ 10 ∷ 52 ∷ 32 ∷ 54 ∷ 10 ∷ 54 ∷ 10 ∷ 54 ∷ 32 ∷ 52 ∷ 32 ∷ 50 ∷ 10 ∷ []) ∷
-    (56 ∷ 10 ∷ 52 ∷ 32 ∷ 54 ∷ 10 ∷ 54 ∷ 10 ∷ 54 ∷ 32 ∷ 52 ∷ 32 ∷ 50 ∷ 10 ∷ []) ∷
-    (50 ∷ 10 ∷ 52 ∷ 32 ∷ 54 ∷ 10 ∷ 55 ∷ 10 ∷ 54 ∷ 32 ∷ 52 ∷ 32 ∷ 50 ∷ 10 ∷ []) ∷
-    (50 ∷ 10 ∷ 52 ∷ 32 ∷ 54 ∷ 10 ∷ 56 ∷ 10 ∷ 54 ∷ 32 ∷ 52 ∷ 32 ∷ 50 ∷ 10 ∷ []) ∷
-    (50 ∷ 10 ∷ 52 ∷ 32 ∷ 56 ∷ 10 ∷ 54 ∷ 10 ∷ 54 ∷ 32 ∷ 52 ∷ 32 ∷ 50 ∷ 10 ∷ []) ∷
-    (50 ∷ 10 ∷ 50 ∷ 32 ∷ 54 ∷ 10 ∷ 54 ∷ 10 ∷ 54 ∷ 32 ∷ 50 ∷ 32 ∷ 50 ∷ 10 ∷ []) ∷
-    (50 ∷ 10 ∷ 52 ∷ 32 ∷ 54 ∷ 10 ∷ 54 ∷ 10 ∷ 54 ∷ 32 ∷ 54 ∷ 32 ∷ 50 ∷ 10 ∷ []) ∷
-    (50 ∷ 10 ∷ 52 ∷ 32 ∷ 54 ∷ 10 ∷ 49 ∷ 56 ∷ 52 ∷ 52 ∷ 54 ∷ 55 ∷ 52 ∷ 52 ∷ 48 ∷ 55 ∷ 51 ∷ 55 ∷ 48 ∷ 57 ∷ 53 ∷ 53 ∷ 49 ∷ 54 ∷ 49 ∷ 53 ∷ 10 ∷ 54 ∷ 32 ∷ 52 ∷ 32 ∷ 50 ∷ 10 ∷ []) ∷
-    (50 ∷ 10 ∷ 52 ∷ 32 ∷ 54 ∷ 10 ∷ 49 ∷ 56 ∷ 52 ∷ 52 ∷ 54 ∷ 55 ∷ 52 ∷ 52 ∷ 48 ∷ 55 ∷ 51 ∷ 55 ∷ 48 ∷ 57 ∷ 53 ∷ 53 ∷ 49 ∷ 54 ∷ 49 ∷ 54 ∷ 10 ∷ 54 ∷ 32 ∷ 52 ∷ 32 ∷ 50 ∷ 10 ∷ []) ∷
+    bytes "0\n4 6\n6\n6 4 2\n" ∷
+    bytes "3\n4 6\n6\n6 4 2\n" ∷
+    bytes "8\n4 6\n6\n6 4 2\n" ∷
+    bytes "2\n4 6\n7\n6 4 2\n" ∷
+    bytes "2\n4 6\n8\n6 4 2\n" ∷
+    bytes "2\n4 8\n6\n6 4 2\n" ∷
+    bytes "2\n2 6\n6\n6 2 2\n" ∷
+    bytes "2\n4 6\n6\n6 6 2\n" ∷
+    bytes "2\n4 6\n18446744073709551615\n6 4 2\n" ∷
+    bytes "2\n4 6\n18446744073709551616\n6 4 2\n" ∷
     []))
     ≡ 11 ∷ 11 ∷ 11 ∷ 0 ∷ 11 ∷ 11 ∷ 11 ∷ 11 ∷ 11 ∷ 8 ∷ []
 unfolding readTransition goodText every numberOf counted wellDefined literal defining ordered defined
@@ -200,8 +201,8 @@ literals = refl
 pub three-four-eight :
     reasons (
     (128 ∷ []) ∷
-    (97 ∷ 97 ∷ 103 ∷ 32 ∷ 57 ∷ 32 ∷ 48 ∷ 32 ∷ 49 ∷ 32 ∷ 48 ∷ 32 ∷ 120 ∷ 10 ∷ []) ∷
-    (97 ∷ 97 ∷ 103 ∷ 32 ∷ 50 ∷ 32 ∷ 49 ∷ 32 ∷ 49 ∷ 32 ∷ 48 ∷ 32 ∷ 48 ∷ 10 ∷ 48 ∷ 10 ∷ []) ∷
+    bytes "aag 9 0 1 0 x\n" ∷
+    bytes "aag 2 1 1 0 0\n0\n" ∷
     [])
     ≡ 3 ∷ 4 ∷ 8 ∷ []
 unfolding readTransition goodText every numberOf counted wellDefined literal defining ordered defined
@@ -209,9 +210,9 @@ three-four-eight = refl
 
 -- 5 before 7, with one work word: M is no sum. 7 before 8, with M work words, or 3A - 1 gate words, and no line
 pub five-seven-eight :
-    (readTransition (97 ∷ 97 ∷ 103 ∷ 32 ∷ 50 ∷ 32 ∷ 48 ∷ 32 ∷ 49 ∷ 32 ∷ 48 ∷ 32 ∷ 48 ∷ 10 ∷ []) 0 1 ≡ refused 5)
-    × (readTransition (97 ∷ 97 ∷ 103 ∷ 32 ∷ 49 ∷ 32 ∷ 48 ∷ 32 ∷ 49 ∷ 32 ∷ 48 ∷ 32 ∷ 48 ∷ 10 ∷ []) 0 1 ≡ refused 7)
-    × (readTransition (97 ∷ 97 ∷ 103 ∷ 32 ∷ 49 ∷ 32 ∷ 48 ∷ 32 ∷ 49 ∷ 32 ∷ 48 ∷ 32 ∷ 48 ∷ 10 ∷ []) 0 2 ≡ refused 8)
+    (readTransition (bytes "aag 2 0 1 0 0\n") 0 1 ≡ refused 5)
+    × (readTransition (bytes "aag 1 0 1 0 0\n") 0 1 ≡ refused 7)
+    × (readTransition (bytes "aag 1 0 1 0 0\n") 0 2 ≡ refused 8)
     × (readTransition header 2 4 ≡ refused 7)
     × (readTransition header 3 3 ≡ refused 7)
     × (readTransition header 3 4 ≡ refused 8)
@@ -219,7 +220,7 @@ unfolding readTransition goodText every numberOf counted wellDefined literal def
 five-seven-eight = (refl, refl, refl, refl, refl, refl)
 
 -- 5 before 7 for the gate words too: `aag 9 1 1 1 1`, no gate words and no work words
-pub five-before-seven : readTransition (97 ∷ 97 ∷ 103 ∷ 32 ∷ 57 ∷ 32 ∷ 49 ∷ 32 ∷ 49 ∷ 32 ∷ 49 ∷ 32 ∷ 49 ∷ 10 ∷ []) 0 0 ≡ refused 5
+pub five-before-seven : readTransition (bytes "aag 9 1 1 1 1\n") 0 0 ≡ refused 5
 unfolding readTransition goodText every numberOf counted
 five-before-seven = refl
 

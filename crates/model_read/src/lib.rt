@@ -12,13 +12,13 @@ ghost use Rattle.circuit_lines.specs.Places.{linesFrom};
 ghost use Rattle.model_read.specs.Reading.{modelOf, bodyOf, readTransition, readOf, Reads};
 ghost use Rattle.model_read.specs.Passes.{TakesStart, TakesLiterals, AddsNext, ChecksGates, Writes, gatesOf, verdictOf, Readable};
 use aiger::Gate;
+use circuit_lines::Place;
+use circuit_lines::TakenGate;
 use model::AigerLatch;
 use model::AigerTransition;
 use model::Counts;
 use model::Verdict;
 use model_text::Header;
-use circuit_lines::Place;
-use circuit_lines::TakenGate;
 use text::Cursor;
 use text::Reader;
 

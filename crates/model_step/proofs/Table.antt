@@ -5,6 +5,7 @@ use mathlib.Core.List.{[], _∷_, map}
 use mathlib.Core.Path.{_≡_, refl, ap}
 use native.Mathlib.Omega.{arith}
 use lib.Dec.{ltb}
+use Rattle.lists.specs.Quoted.{bytes}
 use Rattle.lists.specs.Answer.{Answer, got, refused}
 use Rattle.lists.specs.Parts.{Bytes}
 use Rattle.lists.specs.Tests.{every}
@@ -25,12 +26,7 @@ use Rattle.model_step.specs.Step.{stepValues, outcomeUnder, stepOf}
 -- "Model K: `aag 3 1 1 1 1`, `2`, `4 6`, `6`, `6 4 2`."
 abbrev pub textK : Bytes
 textK =
-    97 ∷ 97 ∷ 103 ∷ 32 ∷ 51 ∷ 32 ∷ 49 ∷ 32 ∷ 49 ∷ 32 ∷ 49 ∷ 32 ∷ 49 ∷ 10 ∷
-    50 ∷ 10 ∷
-    52 ∷ 32 ∷ 54 ∷ 10 ∷
-    54 ∷ 10 ∷
-    54 ∷ 32 ∷ 52 ∷ 32 ∷ 50 ∷ 10 ∷
-    []
+    bytes "aag 3 1 1 1 1\n2\n4 6\n6\n6 4 2\n"
 
 abbrev pub modelK : Circuit
 modelK =
@@ -45,12 +41,7 @@ modelK =
 -- "Model Q: `aag 3 0 1 1 2`, `2 6`, `6`, `6 4 4`, `4 2 2`"
 abbrev pub textQ : Bytes
 textQ =
-    97 ∷ 97 ∷ 103 ∷ 32 ∷ 51 ∷ 32 ∷ 48 ∷ 32 ∷ 49 ∷ 32 ∷ 49 ∷ 32 ∷ 50 ∷ 10 ∷
-    50 ∷ 32 ∷ 54 ∷ 10 ∷
-    54 ∷ 10 ∷
-    54 ∷ 32 ∷ 52 ∷ 32 ∷ 52 ∷ 10 ∷
-    52 ∷ 32 ∷ 50 ∷ 32 ∷ 50 ∷ 10 ∷
-    []
+    bytes "aag 3 0 1 1 2\n2 6\n6\n6 4 4\n4 2 2\n"
 
 abbrev pub modelQ : Circuit
 modelQ =

@@ -2,6 +2,7 @@
 use mathlib.Core.Bool.{true, false}
 use mathlib.Core.List.{List, [], _∷_, map}
 use mathlib.Core.Path.{_≡_, refl}
+use Rattle.lists.specs.Quoted.{bytes}
 use Rattle.lists.specs.Answer.{got, refused}
 use Rattle.lists.specs.Parts.{Bytes}
 use Rattle.text.specs.Numbers.{numberOf}
@@ -13,7 +14,7 @@ use Rattle.model_text.specs.ModelLines.{initializer, latchLine}
 
 -- `aag 3 1 1 1 1`
 abbrev pub header-k : Bytes
-header-k = 97 ∷ 97 ∷ 103 ∷ 32 ∷ 51 ∷ 32 ∷ 49 ∷ 32 ∷ 49 ∷ 32 ∷ 49 ∷ 32 ∷ 49 ∷ []
+header-k = bytes "aag 3 1 1 1 1"
 
 pub counts-k : headerOf (header-k ∷ []) ≡ got (countsFrom (3 ∷ 1 ∷ 1 ∷ 1 ∷ 1 ∷ []))
 unfolding numberOf
@@ -23,10 +24,10 @@ counts-k = refl
 abbrev pub no-headers : List (List Bytes)
 no-headers =
     [] ∷ ([] ∷ [])
-    ∷ ((97 ∷ 97 ∷ 103 ∷ 32 ∷ 51 ∷ 32 ∷ 49 ∷ 32 ∷ 49 ∷ 32 ∷ 49 ∷ []) ∷ [])
-    ∷ ((97 ∷ 97 ∷ 103 ∷ 32 ∷ 51 ∷ 32 ∷ 49 ∷ 32 ∷ 49 ∷ 32 ∷ 49 ∷ 32 ∷ 49 ∷ 32 ∷ 48 ∷ []) ∷ [])
-    ∷ ((97 ∷ 97 ∷ 103 ∷ 32 ∷ 51 ∷ 32 ∷ 49 ∷ 32 ∷ 49 ∷ 32 ∷ 49 ∷ 32 ∷ 120 ∷ []) ∷ [])
-    ∷ ((97 ∷ 105 ∷ 103 ∷ 32 ∷ 51 ∷ 32 ∷ 49 ∷ 32 ∷ 49 ∷ 32 ∷ 49 ∷ 32 ∷ 49 ∷ []) ∷ []) ∷ []
+    ∷ (bytes "aag 3 1 1 1" ∷ [])
+    ∷ (bytes "aag 3 1 1 1 1 0" ∷ [])
+    ∷ (bytes "aag 3 1 1 1 x" ∷ [])
+    ∷ (bytes "aig 3 1 1 1 1" ∷ []) ∷ []
 
 pub refused-headers : map headerOf no-headers ≡ refused 4 ∷ refused 4 ∷ refused 4 ∷ refused 4 ∷ refused 4 ∷ refused 4 ∷ []
 unfolding numberOf
@@ -35,12 +36,12 @@ refused-headers = refl
 -- ---- latches
 
 -- `0`, `1`, `4`, `+4`, `04` of the latch 4
-pub initializers-taken : map (initializer 4) ((48 ∷ []) ∷ (49 ∷ []) ∷ (52 ∷ []) ∷ (43 ∷ 52 ∷ []) ∷ (48 ∷ 52 ∷ []) ∷ []) ≡ true ∷ true ∷ true ∷ true ∷ true ∷ []
+pub initializers-taken : map (initializer 4) (bytes "0" ∷ bytes "1" ∷ bytes "4" ∷ bytes "+4" ∷ bytes "04" ∷ []) ≡ true ∷ true ∷ true ∷ true ∷ true ∷ []
 unfolding numberOf
 initializers-taken = refl
 
 -- `00`, `01`, `+1`, `2`, `5`, `x` of the latch 4
-pub initializers-refused : map (initializer 4) ((48 ∷ 48 ∷ []) ∷ (48 ∷ 49 ∷ []) ∷ (43 ∷ 49 ∷ []) ∷ (50 ∷ []) ∷ (53 ∷ []) ∷ (120 ∷ []) ∷ [])
+pub initializers-refused : map (initializer 4) (bytes "00" ∷ bytes "01" ∷ bytes "+1" ∷ bytes "2" ∷ bytes "5" ∷ bytes "x" ∷ [])
     ≡ false ∷ false ∷ false ∷ false ∷ false ∷ false ∷ []
 unfolding numberOf
 initializers-refused = refl
@@ -49,17 +50,17 @@ abbrev pub latch-k : AigerLatch
 latch-k = record { current = 4; next = 6 }
 
 -- `4 6`, `4 6 0`, `4 6 4`
-pub latches-taken : map latchLine ((52 ∷ 32 ∷ 54 ∷ []) ∷ (52 ∷ 32 ∷ 54 ∷ 32 ∷ 48 ∷ []) ∷ (52 ∷ 32 ∷ 54 ∷ 32 ∷ 52 ∷ []) ∷ []) ≡ got latch-k ∷ got latch-k ∷ got latch-k ∷ []
+pub latches-taken : map latchLine (bytes "4 6" ∷ bytes "4 6 0" ∷ bytes "4 6 4" ∷ []) ≡ got latch-k ∷ got latch-k ∷ got latch-k ∷ []
 unfolding numberOf
 latches-taken = refl
 
 -- the empty line, `4`, `4 6 6`, `4 6 0 0`, `x 6`
-pub latches-refused : map latchLine ([] ∷ (52 ∷ []) ∷ (52 ∷ 32 ∷ 54 ∷ 32 ∷ 54 ∷ []) ∷ (52 ∷ 32 ∷ 54 ∷ 32 ∷ 48 ∷ 32 ∷ 48 ∷ []) ∷ (120 ∷ 32 ∷ 54 ∷ []) ∷ [])
+pub latches-refused : map latchLine ([] ∷ bytes "4" ∷ bytes "4 6 6" ∷ bytes "4 6 0 0" ∷ bytes "x 6" ∷ [])
     ≡ refused 8 ∷ refused 8 ∷ refused 8 ∷ refused 8 ∷ refused 8 ∷ []
 unfolding numberOf
 latches-refused = refl
 
 -- zeros in front are taken in every place: `04 06 00004`
-pub zeros-in-front : latchLine (48 ∷ 52 ∷ 32 ∷ 48 ∷ 54 ∷ 32 ∷ 48 ∷ 48 ∷ 48 ∷ 48 ∷ 52 ∷ []) ≡ got latch-k
+pub zeros-in-front : latchLine (bytes "04 06 00004") ≡ got latch-k
 unfolding numberOf
 zeros-in-front = refl

@@ -5,6 +5,7 @@ use mathlib.Core.List.{List, [], _∷_}
 use mathlib.Core.Path.{_≡_, refl, ap, sym, _∙_}
 use lib.Dec.{eqb}
 use lib.ListN.{drop}
+use Rattle.lists.specs.Quoted.{bytes}
 use Rattle.lists.specs.Answer.{got, refused, unless}
 use Rattle.lists.specs.Parts.{Bytes, part}
 use Rattle.scan.specs.Same.{sameBytes}
@@ -35,11 +36,11 @@ use Rattle.model_text.specs.declared.TakenLatch.the-variants as latch
 
 -- ---- initializer_holds
 
-module _ (f : Bytes) (current : ℕ) (zero? : Bool) (q : zero? ≡ sameBytes f (48 ∷ [])) where
+module _ (f : Bytes) (current : ℕ) (zero? : Bool) (q : zero? ≡ sameBytes f (bytes "0")) where
   pub initializer-zero : zero? ≡ true → true ≡ initializer current f
   initializer-zero k = rw (sym q ∙ k)
 
-  module _ (k : zero? ≡ false) (one? : Bool) (q₁ : one? ≡ sameBytes f (49 ∷ [])) where
+  module _ (k : zero? ≡ false) (one? : Bool) (q₁ : one? ≡ sameBytes f (bytes "1")) where
     pub initializer-one : one? ≡ true → true ≡ initializer current f
     initializer-one k₁ = rw (sym q ∙ k, sym q₁ ∙ k₁)
 

@@ -3,6 +3,7 @@ use Prim.Native.Nat.{ℕ}
 use mathlib.Core.Bool.{Bool, false, _||_}
 use mathlib.Core.List.{List, [], _∷_}
 use lib.Dec.{eqb}
+use Rattle.lists.specs.Quoted.{bytes}
 use Rattle.lists.specs.Answer.{Answer, got, refused, unless, andThen}
 use Rattle.lists.specs.Parts.{Bytes}
 use Rattle.scan.specs.Same.{sameBytes}
@@ -21,7 +22,7 @@ isNumber Unreadable n = false
 
 -- "An initializer is `0`, `1` or reads as the latch's literal": the byte 48, the byte 49, or a number that is the literal
 abbrev pub initializer : ℕ → Bytes → Bool
-initializer current f = sameBytes f (48 ∷ []) || (sameBytes f (49 ∷ []) || isNumber (numberOf Transition f) current)
+initializer current f = sameBytes f (bytes "0") || (sameBytes f (bytes "1") || isNumber (numberOf Transition f) current)
 
 -- a latch: its literal and its next literal
 abbrev pub latchFrom : Bytes → Bytes → Answer AigerLatch

@@ -2,6 +2,7 @@
 use Prim.Native.Nat.{ℕ}
 use mathlib.Core.List.{[], _∷_, map}
 use mathlib.Core.Path.{_≡_, refl}
+use Rattle.lists.specs.Quoted.{bytes}
 use Rattle.lists.specs.Answer.{got, refused}
 use Rattle.lists.specs.Parts.{Bytes}
 use Rattle.text.specs.Numbers.{numberOf}
@@ -12,7 +13,7 @@ use Rattle.nitrasovy.specs.FlatCompositions.{flatComposed}
 
 -- `+7`, byte 10, `07`, byte 10, `6 2`, byte 10, byte 10, `9`
 abbrev pub lines : Bytes
-lines = 43 ∷ 55 ∷ 10 ∷ 48 ∷ 55 ∷ 10 ∷ 54 ∷ 32 ∷ 50 ∷ 10 ∷ 10 ∷ 57 ∷ []
+lines = bytes "+7\n07\n6 2\n\n9"
 
 -- the cursor goes from line to line, also past those that are refused
 pub places : map (λ (at : ℕ). placeAfter (literalFrom lines at)) (0 ∷ 3 ∷ 6 ∷ 10 ∷ 11 ∷ []) ≡ 3 ∷ 6 ∷ 10 ∷ 11 ∷ 12 ∷ []
@@ -50,5 +51,5 @@ not-stepped = refl
 pub made : flatMade (got ((0 ∷ []) ∷ [] ∷ [])) ≡ record { reason = 0; clauses = 2; literals = 1 }
 made = refl
 
-pub composed : flatComposed (got (97 ∷ 97 ∷ 103 ∷ [])) ≡ record { reason = 0; bytes = 3 }
+pub composed : flatComposed (got (bytes "aag")) ≡ record { reason = 0; bytes = 3 }
 composed = refl

@@ -2,6 +2,7 @@
 use mathlib.Core.Bool.{true, false}
 use mathlib.Core.List.{[], _∷_, _++_}
 use mathlib.Core.Path.{_≡_}
+use Rattle.lists.specs.Quoted.{bytes}
 use Rattle.lists.specs.Answer.{got, refused, andThen}
 use Rattle.text.specs.declared.Number.the-variants.{Value, Unreadable}
 use Rattle.text.specs.declared.Reader.the-variants.{Transition, Witness}
@@ -31,8 +32,8 @@ pub record Table : Type 0 where
   pub q-state-1 : stepFrom modelQ 4 1 0 ≡ outcome 0 0
   pub q-complete : (relationRow (plain modelQ) 1 (1 ∷ []) enough ≡ got qRow) × Unsatisfiable 3 qRow
   -- "Reader: `+7` is 7; `07` by the witness reader is refused"
-  pub plus-7 : (numberOf Transition (43 ∷ 55 ∷ []) ≡ Value 7) × (numberOf Witness (43 ∷ 55 ∷ []) ≡ Value 7)
-  pub zero-7 : numberOf Witness (48 ∷ 55 ∷ []) ≡ Unreadable
+  pub plus-7 : (numberOf Transition (bytes "+7") ≡ Value 7) × (numberOf Witness (bytes "+7") ≡ Value 7)
+  pub zero-7 : numberOf Witness (bytes "07") ≡ Unreadable
   -- "Composing model `aag 1 0 1 0 0`, `2 2` with witnesses `aag 1 0 1 1 0`, `2 2`, `2` and the same ending in `3` gives"
   pub composes : composeCall 1104 82 model (first ++ second) (0 ∷ 20 ∷ 20 ∷ 20 ∷ []) ≡ got together
 

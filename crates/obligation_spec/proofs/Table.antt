@@ -2,6 +2,7 @@
 use mathlib.Core.Bool.{true, false}
 use mathlib.Core.List.{List, [], _∷_}
 use mathlib.Core.Path.{_≡_, refl}
+use Rattle.lists.specs.Quoted.{bytes}
 use Rattle.lists.specs.Answer.{got, andThen}
 use Rattle.lists.specs.Parts.{Bytes}
 use Rattle.lists.specs.Tests.{every}
@@ -95,9 +96,7 @@ k-zero-means t =
 
 abbrev pub textZ : Bytes
 textZ =
-    97 ∷ 97 ∷ 103 ∷ 32 ∷ 49 ∷ 32 ∷ 48 ∷ 32 ∷ 49 ∷ 32 ∷ 48 ∷ 32 ∷ 48 ∷ 10 ∷
-    50 ∷ 32 ∷ 48 ∷ 10 ∷
-    []
+    bytes "aag 1 0 1 0 0\n2 0\n"
 
 abbrev pub modelZ : Circuit
 modelZ = record { variables = 1; inputs = []; latches = record { current = 2; next = 0 } ∷ []; outputs = []; gates = [] }

@@ -14,13 +14,13 @@ ghost use Rattle.probe.specs.Flat.{readerOf, flatNumber, flatLiteral, fl
 mod models;
 mod witnesses;
 
-use text_decimal::Written;
 use text::Cursor;
 use text::Field;
 use text::Line;
 use text::Literal;
 use text::Number;
 use text::Reader;
+use text_decimal::Written;
 
 #[repr(C)]
 pub struct ProbeNumber {

@@ -2,6 +2,7 @@
 use mathlib.Core.Path.{_≡_, refl}
 use mathlib.Core.List.{[], _∷_}
 use lib.ListN.{length}
+use Rattle.lists.specs.Quoted.{bytes}
 use Rattle.lists.specs.Answer.{got, refused}
 use Rattle.text.specs.Numbers.{numberOf}
 use Rattle.text_decimal.specs.Decimal.{decimal}
@@ -10,32 +11,32 @@ use Rattle.row_text.specs.RowProgram.{firstLine, afterLine, pieces, numb
 -- ---- the first line
 
 -- `1 1` and byte 10, then `a`
-line : firstLine (49 ∷ 32 ∷ 49 ∷ 10 ∷ 97 ∷ []) ≡ 49 ∷ 32 ∷ 49 ∷ []
+line : firstLine (bytes "1 1\na") ≡ bytes "1 1"
 line = refl
 
-after : afterLine (49 ∷ 32 ∷ 49 ∷ 10 ∷ 97 ∷ []) ≡ 97 ∷ []
+after : afterLine (bytes "1 1\na") ≡ bytes "a"
 after = refl
 
 -- a first line without byte 10: the model is empty
-no-line-feed : afterLine (49 ∷ 32 ∷ 49 ∷ []) ≡ []
+no-line-feed : afterLine (bytes "1 1") ≡ []
 no-line-feed = refl
 
 -- ---- its pieces
 
-one-piece : pieces (49 ∷ 50 ∷ []) ≡ (49 ∷ 50 ∷ []) ∷ []
+one-piece : pieces (bytes "12") ≡ bytes "12" ∷ []
 one-piece = refl
 
-two-pieces : pieces (49 ∷ 32 ∷ 50 ∷ []) ≡ (49 ∷ []) ∷ (50 ∷ []) ∷ []
+two-pieces : pieces (bytes "1 2") ≡ bytes "1" ∷ bytes "2" ∷ []
 two-pieces = refl
 
 -- nothing stands between two spaces, before the first or after the last
-double-space : pieces (49 ∷ 32 ∷ 32 ∷ 50 ∷ []) ≡ (49 ∷ []) ∷ [] ∷ (50 ∷ []) ∷ []
+double-space : pieces (bytes "1  2") ≡ bytes "1" ∷ [] ∷ bytes "2" ∷ []
 double-space = refl
 
-trailing-space : pieces (49 ∷ 32 ∷ []) ≡ (49 ∷ []) ∷ [] ∷ []
+trailing-space : pieces (bytes "1 ") ≡ bytes "1" ∷ [] ∷ []
 trailing-space = refl
 
-leading-space : pieces (32 ∷ 49 ∷ []) ≡ [] ∷ (49 ∷ []) ∷ []
+leading-space : pieces (bytes " 1") ≡ [] ∷ bytes "1" ∷ []
 leading-space = refl
 
 empty-line : pieces [] ≡ [] ∷ []
@@ -43,16 +44,16 @@ empty-line = refl
 
 -- ---- its numbers
 
-numbers : numbersOf (pieces (49 ∷ 32 ∷ 48 ∷ 32 ∷ 50 ∷ 53 ∷ [])) ≡ got (1 ∷ 0 ∷ 25 ∷ [])
+numbers : numbersOf (pieces (bytes "1 0 25")) ≡ got (1 ∷ 0 ∷ 25 ∷ [])
 unfolding numberOf
 numbers = refl
 
 -- the transition reader's numbers: `+7` and `07` are 7
-plus : numbersOf (pieces (43 ∷ 55 ∷ [])) ≡ got (7 ∷ [])
+plus : numbersOf (pieces (bytes "+7")) ≡ got (7 ∷ [])
 unfolding numberOf
 plus = refl
 
-zero-in-front : numbersOf (pieces (48 ∷ 55 ∷ [])) ≡ got (7 ∷ [])
+zero-in-front : numbersOf (pieces (bytes "07")) ≡ got (7 ∷ [])
 unfolding numberOf
 zero-in-front = refl
 
@@ -61,40 +62,40 @@ empty-refused : numbersOf (pieces []) ≡ refused 14
 unfolding numberOf
 empty-refused = refl
 
-double-refused : numbersOf (pieces (49 ∷ 32 ∷ 32 ∷ 50 ∷ [])) ≡ refused 14
+double-refused : numbersOf (pieces (bytes "1  2")) ≡ refused 14
 unfolding numberOf
 double-refused = refl
 
-trailing-refused : numbersOf (pieces (49 ∷ 32 ∷ [])) ≡ refused 14
+trailing-refused : numbersOf (pieces (bytes "1 ")) ≡ refused 14
 unfolding numberOf
 trailing-refused = refl
 
-leading-refused : numbersOf (pieces (32 ∷ 49 ∷ [])) ≡ refused 14
+leading-refused : numbersOf (pieces (bytes " 1")) ≡ refused 14
 unfolding numberOf
 leading-refused = refl
 
-tab-refused : numbersOf (pieces (49 ∷ 9 ∷ 49 ∷ [])) ≡ refused 14
+tab-refused : numbersOf (pieces (bytes "1\t1")) ≡ refused 14
 unfolding numberOf
 tab-refused = refl
 
-return-refused : numbersOf (pieces (49 ∷ 13 ∷ [])) ≡ refused 14
+return-refused : numbersOf (pieces (bytes "1\r")) ≡ refused 14
 unfolding numberOf
 return-refused = refl
 
-letter-refused : numbersOf (pieces (49 ∷ 32 ∷ 97 ∷ [])) ≡ refused 14
+letter-refused : numbersOf (pieces (bytes "1 a")) ≡ refused 14
 unfolding numberOf
 letter-refused = refl
 
-high-refused : numbersOf (pieces (49 ∷ 200 ∷ [])) ≡ refused 14
+high-refused : numbersOf (pieces (bytes "1È")) ≡ refused 14
 unfolding numberOf
 high-refused = refl
 
 -- 2^64 - 1 is read, and 2^64 is refused
-largest : numbersOf (pieces (49 ∷ 56 ∷ 52 ∷ 52 ∷ 54 ∷ 55 ∷ 52 ∷ 52 ∷ 48 ∷ 55 ∷ 51 ∷ 55 ∷ 48 ∷ 57 ∷ 53 ∷ 53 ∷ 49 ∷ 54 ∷ 49 ∷ 53 ∷ [])) ≡ got (18446744073709551615 ∷ [])
+largest : numbersOf (pieces (bytes "18446744073709551615")) ≡ got (18446744073709551615 ∷ [])
 unfolding numberOf
 largest = refl
 
-too-large : numbersOf (pieces (49 ∷ 56 ∷ 52 ∷ 52 ∷ 54 ∷ 55 ∷ 52 ∷ 52 ∷ 48 ∷ 55 ∷ 51 ∷ 55 ∷ 48 ∷ 57 ∷ 53 ∷ 53 ∷ 49 ∷ 54 ∷ 49 ∷ 54 ∷ [])) ≡ refused 14
+too-large : numbersOf (pieces (bytes "18446744073709551616")) ≡ refused 14
 unfolding numberOf
 too-large = refl
 
@@ -102,26 +103,21 @@ too-large = refl
 
 -- 01's example: the five clauses of the row `1 1` of K
 example : printed (got ((3 ∷ []) ∷ (3 ∷ 4 ∷ []) ∷ (1 ∷ 4 ∷ []) ∷ (0 ∷ 2 ∷ 5 ∷ []) ∷ (4 ∷ []) ∷ []))
-    ≡ 114 ∷ 111 ∷ 119 ∷ 115 ∷ 32 ∷ 53 ∷ 10
-    ∷ 48 ∷ 32 ∷ 49 ∷ 32 ∷ 51 ∷ 10
-    ∷ 49 ∷ 32 ∷ 50 ∷ 32 ∷ 51 ∷ 32 ∷ 52 ∷ 10
-    ∷ 51 ∷ 32 ∷ 50 ∷ 32 ∷ 49 ∷ 32 ∷ 52 ∷ 10
-    ∷ 53 ∷ 32 ∷ 51 ∷ 32 ∷ 48 ∷ 32 ∷ 50 ∷ 32 ∷ 53 ∷ 10
-    ∷ 56 ∷ 32 ∷ 49 ∷ 32 ∷ 52 ∷ 10 ∷ []
+    ≡ bytes "rows 5\n0 1 3\n1 2 3 4\n3 2 1 4\n5 3 0 2 5\n8 1 4\n"
 unfolding decimal
 example = refl
 
 -- an empty clause has its offset and its length, and no clauses have the first line alone
-empty-clause : printed (got ((0 ∷ []) ∷ [] ∷ [])) ≡ 114 ∷ 111 ∷ 119 ∷ 115 ∷ 32 ∷ 50 ∷ 10 ∷ 48 ∷ 32 ∷ 49 ∷ 32 ∷ 48 ∷ 10 ∷ 49 ∷ 32 ∷ 48 ∷ 10 ∷ []
+empty-clause : printed (got ((0 ∷ []) ∷ [] ∷ [])) ≡ bytes "rows 2\n0 1 0\n1 0\n"
 unfolding decimal
 empty-clause = refl
 
-no-clauses : printed (got []) ≡ 114 ∷ 111 ∷ 119 ∷ 115 ∷ 32 ∷ 48 ∷ 10 ∷ []
+no-clauses : printed (got []) ≡ bytes "rows 0\n"
 unfolding decimal
 no-clauses = refl
 
 -- `refused 14`
-refusal : printed (refused 14) ≡ 114 ∷ 101 ∷ 102 ∷ 117 ∷ 115 ∷ 101 ∷ 100 ∷ 32 ∷ 49 ∷ 52 ∷ 10 ∷ []
+refusal : printed (refused 14) ≡ bytes "refused 14\n"
 unfolding decimal
 refusal = refl
 
@@ -132,6 +128,6 @@ empty-input : rowText [] ≡ printed (refused 14)
 unfolding rowText rowAnswer numberOf
 empty-input = refl
 
-form-first : rowText (49 ∷ 32 ∷ 10 ∷ 200 ∷ []) ≡ printed (refused 14)
+form-first : rowText (bytes "1 \nÈ") ≡ printed (refused 14)
 unfolding rowText rowAnswer numberOf
 form-first = refl

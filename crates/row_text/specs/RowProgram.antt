@@ -5,6 +5,7 @@ use mathlib.Core.List.{List, [], _∷_, _++_}
 use mathlib.Core.Path.{_≡_}
 use lib.Dec.{leb, eqb}
 use lib.ListN.{length, take, drop}
+use Rattle.lists.specs.Quoted.{bytes}
 use Rattle.lists.specs.Answer.{Answer, got, refused, unless, andThen}
 use Rattle.lists.specs.Parts.{Bytes, front, zeros}
 use Rattle.scan.specs.Spans.{span, inLine}
@@ -74,10 +75,10 @@ clauseLines at (c ∷ cs) = numberLine (at ∷ length c ∷ c) ∷ clauseLines (
 
 -- the bytes of `refused ` and of `rows `
 abbrev pub refusedWord : Bytes
-refusedWord = 114 ∷ 101 ∷ 102 ∷ 117 ∷ 115 ∷ 101 ∷ 100 ∷ 32 ∷ []
+refusedWord = bytes "refused "
 
 abbrev pub rowsWord : Bytes
-rowsWord = 114 ∷ 111 ∷ 119 ∷ 115 ∷ 32 ∷ []
+rowsWord = bytes "rows "
 
 -- "It prints `refused` and the number .., or `rows` and the count, then offset, length and literals of each clause."
 abbrev pub printed : Answer (List Clause) → Bytes

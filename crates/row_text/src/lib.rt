@@ -13,11 +13,11 @@ ghost use Rattle.row_text.specs.RowProgram.{pieces, numbersOf, printed, 
 ghost use Rattle.row_text.specs.Steps.{inPiece, answerIn, spacedNumbers, clauseBytes, clausesBytes, numbersIn, InFront, Prints};
 ghost use Rattle.obligation_spec.specs.Calls.{relationRow};
 ghost use Rattle.row_text.specs.Made.{madeAnswer, Printable, PrintsIn, PrintsFor};
-use text_decimal::Written;
 use model::AigerTransition;
 use model::Verdict;
 use obligation::Made;
 use text::Number;
+use text_decimal::Written;
 
 // How many numbers a line has, or that its form is another one.
 pub enum Numbers {

@@ -4,6 +4,7 @@ use mathlib.Core.List.{List, [], _∷_}
 use mathlib.Core.Bool.{Bool, cond, not, _&&_, _||_}
 use lib.ListN.{length, drop}
 use lib.Dec.{ltb, leb, eqb}
+use Rattle.lists.specs.Quoted.{bytes}
 use Rattle.lists.specs.Parts.{Bytes}
 use Rattle.scan.specs.Spans.{span}
 use Rattle.scan.specs.Same.{sameBytes}
@@ -40,7 +41,7 @@ firstField l = headOf (fieldsOf l)
 
 -- "the three bytes of `aag`"
 abbrev pub aag : Bytes
-aag = 97 ∷ 97 ∷ 103 ∷ []
+aag = bytes "aag"
 
 -- "The header word is compared with the three bytes of `aag`"
 abbrev pub isHeaderWord : Bytes → Bool

@@ -1,30 +1,31 @@
 -- Worked examples of the definitions. (`decimal-zero` of DecimalLaws is the first.)
 use mathlib.Core.Path.{_≡_, refl}
 use mathlib.Core.List.{[], _∷_}
+use Rattle.lists.specs.Quoted.{bytes}
 use Rattle.text_decimal.specs.declared.Written.the-variants.{Next, NoRoom}
 use Rattle.text_decimal.specs.Decimal.{decimal}
 use Rattle.text_decimal.specs.Printed.{numberLine, textOf}
 use Rattle.text_decimal.specs.Writing.{written, writtenAt}
 
-pub two-digits : decimal 10 ≡ 49 ∷ 48 ∷ []
+pub two-digits : decimal 10 ≡ bytes "10"
 unfolding decimal
 two-digits = refl
 
-pub two-million : decimal 2000000 ≡ 50 ∷ 48 ∷ 48 ∷ 48 ∷ 48 ∷ 48 ∷ 48 ∷ []
+pub two-million : decimal 2000000 ≡ bytes "2000000"
 unfolding decimal
 two-million = refl
 
 -- 2^64 - 1
-pub largest-word : decimal 18446744073709551615 ≡ 49 ∷ 56 ∷ 52 ∷ 52 ∷ 54 ∷ 55 ∷ 52 ∷ 52 ∷ 48 ∷ 55 ∷ 51 ∷ 55 ∷ 48 ∷ 57 ∷ 53 ∷ 53 ∷ 49 ∷ 54 ∷ 49 ∷ 53 ∷ []
+pub largest-word : decimal 18446744073709551615 ≡ bytes "18446744073709551615"
 unfolding decimal
 largest-word = refl
 
 -- single spaces between the numbers of a line, and byte 10 after each line: `2 10`, and an empty line
-pub two-numbers : numberLine (2 ∷ 10 ∷ []) ≡ 50 ∷ 32 ∷ 49 ∷ 48 ∷ []
+pub two-numbers : numberLine (2 ∷ 10 ∷ []) ≡ bytes "2 10"
 unfolding decimal
 two-numbers = refl
 
-pub two-lines : textOf (numberLine (2 ∷ 10 ∷ []) ∷ [] ∷ []) ≡ 50 ∷ 32 ∷ 49 ∷ 48 ∷ 10 ∷ 10 ∷ []
+pub two-lines : textOf (numberLine (2 ∷ 10 ∷ []) ∷ [] ∷ []) ≡ bytes "2 10\n\n"
 unfolding decimal
 two-lines = refl
 

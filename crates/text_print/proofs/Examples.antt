@@ -2,6 +2,7 @@
 use mathlib.Core.Path.{_≡_, refl}
 use mathlib.Core.List.{[], _∷_}
 use native.Mathlib.Omega.{arith}
+use Rattle.lists.specs.Quoted.{bytes}
 use Rattle.lists.specs.Sets.{holds}
 use Rattle.text_decimal.specs.Decimal.{decimal}
 use Rattle.text_decimal.specs.Printed.{textOf}
@@ -24,12 +25,12 @@ pub two-measured : Prints [] 1 (8 ∷ 9 ∷ []) [] 3
 two-measured = record { next = refl; stands = λ h. absurd (omega arith) }
 
 -- the variables 4 and 5: the lines `8` and `10`
-pub two-literals : textOf (literalLines (literalsFrom 4 2)) ≡ 56 ∷ 10 ∷ 49 ∷ 48 ∷ 10 ∷ []
+pub two-literals : textOf (literalLines (literalsFrom 4 2)) ≡ bytes "8\n10\n"
 unfolding decimal
 two-literals = refl
 
 -- one gate, the line `6 4 3`; the third word is no pair
-pub one-gate : textOf (gateLines 3 (4 ∷ 3 ∷ 7 ∷ [])) ≡ 54 ∷ 32 ∷ 52 ∷ 32 ∷ 51 ∷ 10 ∷ []
+pub one-gate : textOf (gateLines 3 (4 ∷ 3 ∷ 7 ∷ [])) ≡ bytes "6 4 3\n"
 unfolding decimal
 one-gate = refl
 

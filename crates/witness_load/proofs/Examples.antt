@@ -3,6 +3,7 @@ use mathlib.Core.Bool.{true}
 use mathlib.Core.List.{[], _∷_}
 use mathlib.Core.Option.{some, none}
 use mathlib.Core.Path.{_≡_, refl}
+use Rattle.lists.specs.Quoted.{bytes}
 use Rattle.lists.specs.Answer.{got, refused}
 use Rattle.lists.specs.Parts.{Bytes}
 use Rattle.lists.specs.Tests.{every}
@@ -19,13 +20,13 @@ use Rattle.witness_load.specs.Loaded.{nameFrom, Loaded, withRoom}
 
 -- the lines `aag 2 1 1 1 0`, `2`, `4 3`, `4`, `i0 a` and `l0 `
 abbrev text : Bytes
-text = 97 ∷ 97 ∷ 103 ∷ 32 ∷ 50 ∷ 32 ∷ 49 ∷ 32 ∷ 49 ∷ 32 ∷ 49 ∷ 32 ∷ 48 ∷ 10 ∷ 50 ∷ 10 ∷ 52 ∷ 32 ∷ 51 ∷ 10 ∷ 52 ∷ 10 ∷ 105 ∷ 48 ∷ 32 ∷ 97 ∷ 10 ∷ 108 ∷ 48 ∷ 32 ∷ 10 ∷ []
+text = bytes "aag 2 1 1 1 0\n2\n4 3\n4\ni0 a\nl0 \n"
 
 -- an input `a`, and a latch with an empty name
 abbrev sections : Sections
 sections =
     record {
-      inputs = some (97 ∷ []) ∷ [];
+      inputs = some (bytes "a") ∷ [];
       latches = record { next = 3; reset = 0; name = some [] } ∷ [];
       outputs = 4 ∷ [];
       bads = [];

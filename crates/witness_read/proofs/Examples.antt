@@ -5,6 +5,7 @@ use mathlib.Core.List.{List, [], _∷_, _++_, map}
 use mathlib.Core.Option.{some, none}
 use mathlib.Core.Path.{_≡_, refl, ap}
 use lib.ListN.{length, drop, replicate}
+use Rattle.lists.specs.Quoted.{bytes}
 use Rattle.lists.specs.Answer.{Answer, got, refused, unless, andThen}
 use Rattle.lists.specs.Parts.{Bytes}
 use Rattle.lists.specs.Tests.{every}
@@ -43,7 +44,7 @@ after head tails = map (λ t. head ++ t) tails
 
 -- `aag` and a space
 abbrev pub word : Bytes
-word = 97 ∷ 97 ∷ 103 ∷ 32 ∷ []
+word = bytes "aag "
 
 -- ---- the texts of 01's composing case
 
@@ -52,25 +53,25 @@ abbrev pub oneLatch : List ℕ → Sections
 oneLatch outs = record { inputs = []; latches = record { next = 2; reset = 0; name = none } ∷ []; outputs = outs; bads = []; constraints = []; gates = [] }
 
 -- `aag 1 0 1 0 0`, `2 2`: the reset is absent, so 0
-pub model-read : readAag limited false (97 ∷ 97 ∷ 103 ∷ 32 ∷ 49 ∷ 32 ∷ 48 ∷ 32 ∷ 49 ∷ 32 ∷ 48 ∷ 32 ∷ 48 ∷ 10 ∷ 50 ∷ 32 ∷ 50 ∷ 10 ∷ []) ≡ got (oneLatch [])
+pub model-read : readAag limited false (bytes "aag 1 0 1 0 0\n2 2\n") ≡ got (oneLatch [])
 unfolding readAag goodText every numberOf counted withoutLiveness symbolsOf symbolOf latchNumbered gateNumbered wellNumbered literal ordered
 model-read = refl
 
 -- `aag 1 0 1 1 0`, `2 2`, and then `2` or `3`
 abbrev pub witness-text : Bytes
-witness-text = 97 ∷ 97 ∷ 103 ∷ 32 ∷ 49 ∷ 32 ∷ 48 ∷ 32 ∷ 49 ∷ 32 ∷ 49 ∷ 32 ∷ 48 ∷ 10 ∷ 50 ∷ 32 ∷ 50 ∷ 10 ∷ []
+witness-text = bytes "aag 1 0 1 1 0\n2 2\n"
 
-pub witnesses-read : map (readAag limited true) (after witness-text ((50 ∷ 10 ∷ []) ∷ (51 ∷ 10 ∷ []) ∷ [])) ≡ got (oneLatch (2 ∷ [])) ∷ got (oneLatch (3 ∷ [])) ∷ []
+pub witnesses-read : map (readAag limited true) (after witness-text (bytes "2\n" ∷ bytes "3\n" ∷ [])) ≡ got (oneLatch (2 ∷ [])) ∷ got (oneLatch (3 ∷ [])) ∷ []
 unfolding readAag goodText every numberOf counted withoutLiveness symbolsOf symbolOf latchNumbered gateNumbered wellNumbered literal ordered
 witnesses-read = refl
 
 -- the composition: `aag 1 0 1 0 0 2 0 0 0`, `2 2 0`, `2`, `3`, `l0 = 2`, `c`, `GCC FM 2026 composed-witness baseline v1`
 abbrev pub composed-text : Bytes
-composed-text = 97 ∷ 97 ∷ 103 ∷ 32 ∷ 49 ∷ 32 ∷ 48 ∷ 32 ∷ 49 ∷ 32 ∷ 48 ∷ 32 ∷ 48 ∷ 32 ∷ 50 ∷ 32 ∷ 48 ∷ 32 ∷ 48 ∷ 32 ∷ 48 ∷ 10 ∷ 50 ∷ 32 ∷ 50 ∷ 32 ∷ 48 ∷ 10 ∷ 50 ∷ 10 ∷ 51 ∷ 10 ∷ 108 ∷ 48 ∷ 32 ∷ 61 ∷ 32 ∷ 50 ∷ 10 ∷ 99 ∷ 10 ∷ 71 ∷ 67 ∷ 67 ∷ 32 ∷ 70 ∷ 77 ∷ 32 ∷ 50 ∷ 48 ∷ 50 ∷ 54 ∷ 32 ∷ 99 ∷ 111 ∷ 109 ∷ 112 ∷ 111 ∷ 115 ∷ 101 ∷ 100 ∷ 45 ∷ 119 ∷ 105 ∷ 116 ∷ 110 ∷ 101 ∷ 115 ∷ 115 ∷ 32 ∷ 98 ∷ 97 ∷ 115 ∷ 101 ∷ 108 ∷ 105 ∷ 110 ∷ 101 ∷ 32 ∷ 118 ∷ 49 ∷ 10 ∷ []
+composed-text = bytes "aag 1 0 1 0 0 2 0 0 0\n2 2 0\n2\n3\nl0 = 2\nc\nGCC FM 2026 composed-witness baseline v1\n"
 
 -- a latch whose name is `= 2`, and two bads
 abbrev pub composed : Sections
-composed = record { inputs = []; latches = record { next = 2; reset = 0; name = some (61 ∷ 32 ∷ 50 ∷ []) } ∷ []; outputs = []; bads = 2 ∷ 3 ∷ []; constraints = []; gates = [] }
+composed = record { inputs = []; latches = record { next = 2; reset = 0; name = some (bytes "= 2") } ∷ []; outputs = []; bads = 2 ∷ 3 ∷ []; constraints = []; gates = [] }
 
 -- it is read without limits, alike as a witness and as a model
 pub composed-read : map (λ witness. readAag free witness composed-text) (true ∷ false ∷ []) ≡ got composed ∷ got composed ∷ []
@@ -81,13 +82,13 @@ composed-read = refl
 
 -- `aag 6 2 2 1 2 1 1`, `2`, `4`, `6 10 13`, `8 3`, `5`, `7`, `9`, `10 9 4`, `12 11 0`, `i1 a b`, `l1 `, `o0 x`, `o0 y`, `b0 z`, `c0 w`, `l0 = 2`, `c`, `end`
 abbrev pub full-text : Bytes
-full-text = 97 ∷ 97 ∷ 103 ∷ 32 ∷ 54 ∷ 32 ∷ 50 ∷ 32 ∷ 50 ∷ 32 ∷ 49 ∷ 32 ∷ 50 ∷ 32 ∷ 49 ∷ 32 ∷ 49 ∷ 10 ∷ 50 ∷ 10 ∷ 52 ∷ 10 ∷ 54 ∷ 32 ∷ 49 ∷ 48 ∷ 32 ∷ 49 ∷ 51 ∷ 10 ∷ 56 ∷ 32 ∷ 51 ∷ 10 ∷ 53 ∷ 10 ∷ 55 ∷ 10 ∷ 57 ∷ 10 ∷ 49 ∷ 48 ∷ 32 ∷ 57 ∷ 32 ∷ 52 ∷ 10 ∷ 49 ∷ 50 ∷ 32 ∷ 49 ∷ 49 ∷ 32 ∷ 48 ∷ 10 ∷ 105 ∷ 49 ∷ 32 ∷ 97 ∷ 32 ∷ 98 ∷ 10 ∷ 108 ∷ 49 ∷ 32 ∷ 10 ∷ 111 ∷ 48 ∷ 32 ∷ 120 ∷ 10 ∷ 111 ∷ 48 ∷ 32 ∷ 121 ∷ 10 ∷ 98 ∷ 48 ∷ 32 ∷ 122 ∷ 10 ∷ 99 ∷ 48 ∷ 32 ∷ 119 ∷ 10 ∷ 108 ∷ 48 ∷ 32 ∷ 61 ∷ 32 ∷ 50 ∷ 10 ∷ 99 ∷ 10 ∷ 101 ∷ 110 ∷ 100 ∷ 10 ∷ []
+full-text = bytes "aag 6 2 2 1 2 1 1\n2\n4\n6 10 13\n8 3\n5\n7\n9\n10 9 4\n12 11 0\ni1 a b\nl1 \no0 x\no0 y\nb0 z\nc0 w\nl0 = 2\nc\nend\n"
 
 -- input 0 has no name, latch 1 the empty one; a reset of 2M + 1; the symbols go on after `c0 w`; a second name of output 0
 pub full-read : readAag limited true full-text
     ≡ got (record {
-      inputs = none ∷ some (97 ∷ 32 ∷ 98 ∷ []) ∷ [];
-      latches = record { next = 10; reset = 13; name = some (61 ∷ 32 ∷ 50 ∷ []) } ∷ record { next = 3; reset = 0; name = some [] } ∷ [];
+      inputs = none ∷ some (bytes "a b") ∷ [];
+      latches = record { next = 10; reset = 13; name = some (bytes "= 2") } ∷ record { next = 3; reset = 0; name = some [] } ∷ [];
       outputs = 5 ∷ [];
       bads = 7 ∷ [];
       constraints = 9 ∷ [];
@@ -126,9 +127,9 @@ longest t p = ap (λ n. every (within limited 16777216 n ∷ goodBytes Witness t
 
 -- M = 0: `aag 0 0 0 0 0` and with one and with four more counts. Not: four numbers, ten, none
 pub header-lengths : witnesses (after word (
-    (48 ∷ 32 ∷ 48 ∷ 32 ∷ 48 ∷ 32 ∷ 48 ∷ 32 ∷ 48 ∷ 10 ∷ []) ∷ (48 ∷ 32 ∷ 48 ∷ 32 ∷ 48 ∷ 32 ∷ 48 ∷ 32 ∷ 48 ∷ 32 ∷ 48 ∷ 10 ∷ []) ∷
-    (48 ∷ 32 ∷ 48 ∷ 32 ∷ 48 ∷ 32 ∷ 48 ∷ 32 ∷ 48 ∷ 32 ∷ 48 ∷ 32 ∷ 48 ∷ 32 ∷ 48 ∷ 32 ∷ 48 ∷ 10 ∷ []) ∷ (48 ∷ 32 ∷ 48 ∷ 32 ∷ 48 ∷ 32 ∷ 48 ∷ 10 ∷ []) ∷
-    (48 ∷ 32 ∷ 48 ∷ 32 ∷ 48 ∷ 32 ∷ 48 ∷ 32 ∷ 48 ∷ 32 ∷ 48 ∷ 32 ∷ 48 ∷ 32 ∷ 48 ∷ 32 ∷ 48 ∷ 32 ∷ 48 ∷ 10 ∷ []) ∷ (10 ∷ []) ∷
+    bytes "0 0 0 0 0\n" ∷ bytes "0 0 0 0 0 0\n" ∷
+    bytes "0 0 0 0 0 0 0 0 0\n" ∷ bytes "0 0 0 0\n" ∷
+    bytes "0 0 0 0 0 0 0 0 0 0\n" ∷ bytes "\n" ∷
     [])) ≡ 0 ∷ 0 ∷ 0 ∷ 4 ∷ 4 ∷ 4 ∷ []
 unfolding readAag goodText every numberOf counted withoutLiveness symbolsOf symbolOf latchNumbered gateNumbered wellNumbered literal ordered
 header-lengths = refl
@@ -136,11 +137,11 @@ header-lengths = refl
 -- taken: ` aag  0`, tab, `0`, byte 11, `0`, byte 12, `0 0 `; `aag +0 0 0 0 +00`.
 -- Not: `aag 0 0 0 0 00`; byte 31 for a blank; `aag0 0 0 0 0 0`; `Aag 0 0 0 0 0`; an empty line first; `x` as A
 pub header-forms : witnesses (
-    (32 ∷ 97 ∷ 97 ∷ 103 ∷ 32 ∷ 32 ∷ 48 ∷ 9 ∷ 48 ∷ 11 ∷ 48 ∷ 12 ∷ 48 ∷ 32 ∷ 48 ∷ 32 ∷ 10 ∷ []) ∷
-    (97 ∷ 97 ∷ 103 ∷ 32 ∷ 43 ∷ 48 ∷ 32 ∷ 48 ∷ 32 ∷ 48 ∷ 32 ∷ 48 ∷ 32 ∷ 43 ∷ 48 ∷ 48 ∷ 10 ∷ []) ∷ (97 ∷ 97 ∷ 103 ∷ 32 ∷ 48 ∷ 32 ∷ 48 ∷ 32 ∷ 48 ∷ 32 ∷ 48 ∷ 32 ∷ 48 ∷ 48 ∷ 10 ∷ []) ∷
-    (97 ∷ 97 ∷ 103 ∷ 32 ∷ 48 ∷ 32 ∷ 48 ∷ 32 ∷ 48 ∷ 32 ∷ 48 ∷ 31 ∷ 48 ∷ 10 ∷ []) ∷ (97 ∷ 97 ∷ 103 ∷ 48 ∷ 32 ∷ 48 ∷ 32 ∷ 48 ∷ 32 ∷ 48 ∷ 32 ∷ 48 ∷ 32 ∷ 48 ∷ 10 ∷ []) ∷
-    (65 ∷ 97 ∷ 103 ∷ 32 ∷ 48 ∷ 32 ∷ 48 ∷ 32 ∷ 48 ∷ 32 ∷ 48 ∷ 32 ∷ 48 ∷ 10 ∷ []) ∷ (10 ∷ 97 ∷ 97 ∷ 103 ∷ 32 ∷ 48 ∷ 32 ∷ 48 ∷ 32 ∷ 48 ∷ 32 ∷ 48 ∷ 32 ∷ 48 ∷ 10 ∷ []) ∷
-    (97 ∷ 97 ∷ 103 ∷ 32 ∷ 48 ∷ 32 ∷ 48 ∷ 32 ∷ 48 ∷ 32 ∷ 48 ∷ 32 ∷ 120 ∷ 10 ∷ []) ∷
+    bytes " aag  0\t0\u{b}0\u{c}0 0 \n" ∷
+    bytes "aag +0 0 0 0 +00\n" ∷ bytes "aag 0 0 0 0 00\n" ∷
+    bytes "aag 0 0 0 0\u{1f}0\n" ∷ bytes "aag0 0 0 0 0 0\n" ∷
+    bytes "Aag 0 0 0 0 0\n" ∷ bytes "\naag 0 0 0 0 0\n" ∷
+    bytes "aag 0 0 0 0 x\n" ∷
     []) ≡ 0 ∷ 0 ∷ 4 ∷ 4 ∷ 4 ∷ 4 ∷ 4 ∷ 4 ∷ []
 unfolding readAag goodText every numberOf counted withoutLiveness symbolsOf symbolOf latchNumbered gateNumbered wellNumbered literal ordered
 header-forms = refl
@@ -156,18 +157,18 @@ unfolding counted every
 limits-of-m = (refl, refl)
 
 -- `aag 2000001 2000001 0 0 0` and no line: 5, and without limits 8, for the line that is missing
-pub large-text : map (λ lim. reason (readAag lim true (97 ∷ 97 ∷ 103 ∷ 32 ∷ 50 ∷ 48 ∷ 48 ∷ 48 ∷ 48 ∷ 48 ∷ 49 ∷ 32 ∷ 50 ∷ 48 ∷ 48 ∷ 48 ∷ 48 ∷ 48 ∷ 49 ∷ 32 ∷ 48 ∷ 32 ∷ 48 ∷ 32 ∷ 48 ∷ 10 ∷ []))) (limited ∷ free ∷ []) ≡ 5 ∷ 8 ∷ []
+pub large-text : map (λ lim. reason (readAag lim true (bytes "aag 2000001 2000001 0 0 0\n"))) (limited ∷ free ∷ []) ≡ 5 ∷ 8 ∷ []
 unfolding readAag goodText every numberOf counted withoutLiveness symbolsOf symbolOf latchNumbered gateNumbered wellNumbered literal ordered
 large-text = refl
 
 -- `aag 0 0 0 1 0 1 1 0 0`: an output, a bad and a constraint; where M = 0 the literals are 0 and 1
 abbrev pub constants : Bytes
-constants = 97 ∷ 97 ∷ 103 ∷ 32 ∷ 48 ∷ 32 ∷ 48 ∷ 32 ∷ 48 ∷ 32 ∷ 49 ∷ 32 ∷ 48 ∷ 32 ∷ 49 ∷ 32 ∷ 49 ∷ 32 ∷ 48 ∷ 32 ∷ 48 ∷ 10 ∷ []
+constants = bytes "aag 0 0 0 1 0 1 1 0 0\n"
 
 -- `0`, `1`, `0`; then 2, and then `01`, as the output, the bad, the constraint; a line less
 pub constant-literals : witnesses (after constants (
-    (48 ∷ 10 ∷ 49 ∷ 10 ∷ 48 ∷ 10 ∷ []) ∷ (50 ∷ 10 ∷ 48 ∷ 10 ∷ 48 ∷ 10 ∷ []) ∷ (48 ∷ 10 ∷ 50 ∷ 10 ∷ 48 ∷ 10 ∷ []) ∷ (48 ∷ 10 ∷ 48 ∷ 10 ∷ 50 ∷ 10 ∷ []) ∷
-    (48 ∷ 49 ∷ 10 ∷ 48 ∷ 10 ∷ 48 ∷ 10 ∷ []) ∷ (48 ∷ 10 ∷ 48 ∷ 49 ∷ 10 ∷ 48 ∷ 10 ∷ []) ∷ (48 ∷ 10 ∷ 48 ∷ 10 ∷ 48 ∷ 49 ∷ 10 ∷ []) ∷ (48 ∷ 10 ∷ 48 ∷ 10 ∷ []) ∷
+    bytes "0\n1\n0\n" ∷ bytes "2\n0\n0\n" ∷ bytes "0\n2\n0\n" ∷ bytes "0\n0\n2\n" ∷
+    bytes "01\n0\n0\n" ∷ bytes "0\n01\n0\n" ∷ bytes "0\n0\n01\n" ∷ bytes "0\n0\n" ∷
     [])) ≡ 0 ∷ 11 ∷ 11 ∷ 11 ∷ 8 ∷ 8 ∷ 8 ∷ 8 ∷ []
 unfolding readAag goodText every numberOf counted withoutLiveness symbolsOf symbolOf latchNumbered gateNumbered wellNumbered literal ordered
 constant-literals = refl
@@ -176,26 +177,26 @@ constant-literals = refl
 
 -- `aag 1 0 1 0 0`, `2 `
 abbrev pub latch-head : Bytes
-latch-head = 97 ∷ 97 ∷ 103 ∷ 32 ∷ 49 ∷ 32 ∷ 48 ∷ 32 ∷ 49 ∷ 32 ∷ 48 ∷ 32 ∷ 48 ∷ 10 ∷ 50 ∷ 32 ∷ []
+latch-head = bytes "aag 1 0 1 0 0\n2 "
 
 -- next `3`; resets `1`, `2`, `3`, which is 2M + 1, not `4`; next not `4`. 8: a fourth field, no next, an unreadable reset
 pub latch-lines : witnesses (after latch-head (
-    (51 ∷ 10 ∷ []) ∷ (50 ∷ 32 ∷ 49 ∷ 10 ∷ []) ∷ (50 ∷ 32 ∷ 50 ∷ 10 ∷ []) ∷ (50 ∷ 32 ∷ 51 ∷ 10 ∷ []) ∷ (50 ∷ 32 ∷ 52 ∷ 10 ∷ []) ∷ (52 ∷ 10 ∷ []) ∷ (52 ∷ 32 ∷ 48 ∷ 10 ∷ []) ∷
-    (50 ∷ 32 ∷ 48 ∷ 32 ∷ 48 ∷ 10 ∷ []) ∷ (10 ∷ []) ∷ (50 ∷ 32 ∷ 120 ∷ 10 ∷ []) ∷ (50 ∷ 32 ∷ 48 ∷ 49 ∷ 10 ∷ []) ∷
+    bytes "3\n" ∷ bytes "2 1\n" ∷ bytes "2 2\n" ∷ bytes "2 3\n" ∷ bytes "2 4\n" ∷ bytes "4\n" ∷ bytes "4 0\n" ∷
+    bytes "2 0 0\n" ∷ bytes "\n" ∷ bytes "2 x\n" ∷ bytes "2 01\n" ∷
     [])) ≡ 0 ∷ 0 ∷ 0 ∷ 0 ∷ 11 ∷ 11 ∷ 11 ∷ 8 ∷ 8 ∷ 8 ∷ 8 ∷ []
 unfolding readAag goodText every numberOf counted withoutLiveness symbolsOf symbolOf latchNumbered gateNumbered wellNumbered literal ordered
 latch-lines = refl
 
 -- `aag 2 1 0 0 1`, `2`
 abbrev pub gate-head : Bytes
-gate-head = 97 ∷ 97 ∷ 103 ∷ 32 ∷ 50 ∷ 32 ∷ 49 ∷ 32 ∷ 48 ∷ 32 ∷ 48 ∷ 32 ∷ 49 ∷ 10 ∷ 50 ∷ 10 ∷ []
+gate-head = bytes "aag 2 1 0 0 1\n2\n"
 
 -- `4 2 3`, `4 0 1`. Not the gate's own variable (`4`, `5`) on the left or right, nor one above. Gate 4 is due: not `5`, `6` or `2`. 8: two fields, four, `02`
 pub gate-lines : witnesses (after gate-head (
-    (52 ∷ 32 ∷ 50 ∷ 32 ∷ 51 ∷ 10 ∷ []) ∷ (52 ∷ 32 ∷ 48 ∷ 32 ∷ 49 ∷ 10 ∷ []) ∷ (52 ∷ 32 ∷ 52 ∷ 32 ∷ 50 ∷ 10 ∷ []) ∷ (52 ∷ 32 ∷ 50 ∷ 32 ∷ 52 ∷ 10 ∷ []) ∷
-    (52 ∷ 32 ∷ 53 ∷ 32 ∷ 50 ∷ 10 ∷ []) ∷ (52 ∷ 32 ∷ 50 ∷ 32 ∷ 53 ∷ 10 ∷ []) ∷ (52 ∷ 32 ∷ 54 ∷ 32 ∷ 50 ∷ 10 ∷ []) ∷ (53 ∷ 32 ∷ 50 ∷ 32 ∷ 50 ∷ 10 ∷ []) ∷
-    (54 ∷ 32 ∷ 50 ∷ 32 ∷ 50 ∷ 10 ∷ []) ∷ (50 ∷ 32 ∷ 48 ∷ 32 ∷ 48 ∷ 10 ∷ []) ∷ (52 ∷ 32 ∷ 50 ∷ 10 ∷ []) ∷ (52 ∷ 32 ∷ 50 ∷ 32 ∷ 50 ∷ 32 ∷ 50 ∷ 10 ∷ []) ∷
-    (52 ∷ 32 ∷ 48 ∷ 50 ∷ 32 ∷ 50 ∷ 10 ∷ []) ∷
+    bytes "4 2 3\n" ∷ bytes "4 0 1\n" ∷ bytes "4 4 2\n" ∷ bytes "4 2 4\n" ∷
+    bytes "4 5 2\n" ∷ bytes "4 2 5\n" ∷ bytes "4 6 2\n" ∷ bytes "5 2 2\n" ∷
+    bytes "6 2 2\n" ∷ bytes "2 0 0\n" ∷ bytes "4 2\n" ∷ bytes "4 2 2 2\n" ∷
+    bytes "4 02 2\n" ∷
     [])) ≡ 0 ∷ 0 ∷ 11 ∷ 11 ∷ 11 ∷ 11 ∷ 11 ∷ 11 ∷ 11 ∷ 11 ∷ 8 ∷ 8 ∷ 8 ∷ []
 unfolding readAag goodText every numberOf counted withoutLiveness symbolsOf symbolOf latchNumbered gateNumbered wellNumbered literal ordered
 gate-lines = refl
@@ -203,17 +204,17 @@ gate-lines = refl
 -- `aag 3 2 1 0 0`, `2`, `4`, `6 2`; inputs turned round; an input twice; an odd one; 0; the latch first; latch 8; `02`; `+02`.
 -- `aag 2 0 0 0 2`, `2 0 0`, `4 2 1`; gates turned round
 pub numbering : witnesses (after word (
-    (51 ∷ 32 ∷ 50 ∷ 32 ∷ 49 ∷ 32 ∷ 48 ∷ 32 ∷ 48 ∷ 10 ∷ 50 ∷ 10 ∷ 52 ∷ 10 ∷ 54 ∷ 32 ∷ 50 ∷ 10 ∷ []) ∷
-    (51 ∷ 32 ∷ 50 ∷ 32 ∷ 49 ∷ 32 ∷ 48 ∷ 32 ∷ 48 ∷ 10 ∷ 52 ∷ 10 ∷ 50 ∷ 10 ∷ 54 ∷ 32 ∷ 50 ∷ 10 ∷ []) ∷
-    (51 ∷ 32 ∷ 50 ∷ 32 ∷ 49 ∷ 32 ∷ 48 ∷ 32 ∷ 48 ∷ 10 ∷ 50 ∷ 10 ∷ 50 ∷ 10 ∷ 54 ∷ 32 ∷ 50 ∷ 10 ∷ []) ∷
-    (51 ∷ 32 ∷ 50 ∷ 32 ∷ 49 ∷ 32 ∷ 48 ∷ 32 ∷ 48 ∷ 10 ∷ 51 ∷ 10 ∷ 52 ∷ 10 ∷ 54 ∷ 32 ∷ 50 ∷ 10 ∷ []) ∷
-    (51 ∷ 32 ∷ 50 ∷ 32 ∷ 49 ∷ 32 ∷ 48 ∷ 32 ∷ 48 ∷ 10 ∷ 48 ∷ 10 ∷ 52 ∷ 10 ∷ 54 ∷ 32 ∷ 50 ∷ 10 ∷ []) ∷
-    (51 ∷ 32 ∷ 50 ∷ 32 ∷ 49 ∷ 32 ∷ 48 ∷ 32 ∷ 48 ∷ 10 ∷ 52 ∷ 10 ∷ 54 ∷ 10 ∷ 50 ∷ 32 ∷ 50 ∷ 10 ∷ []) ∷
-    (51 ∷ 32 ∷ 50 ∷ 32 ∷ 49 ∷ 32 ∷ 48 ∷ 32 ∷ 48 ∷ 10 ∷ 50 ∷ 10 ∷ 52 ∷ 10 ∷ 56 ∷ 32 ∷ 50 ∷ 10 ∷ []) ∷
-    (51 ∷ 32 ∷ 50 ∷ 32 ∷ 49 ∷ 32 ∷ 48 ∷ 32 ∷ 48 ∷ 10 ∷ 48 ∷ 50 ∷ 10 ∷ 52 ∷ 10 ∷ 54 ∷ 32 ∷ 50 ∷ 10 ∷ []) ∷
-    (51 ∷ 32 ∷ 50 ∷ 32 ∷ 49 ∷ 32 ∷ 48 ∷ 32 ∷ 48 ∷ 10 ∷ 43 ∷ 48 ∷ 50 ∷ 10 ∷ 52 ∷ 10 ∷ 54 ∷ 32 ∷ 50 ∷ 10 ∷ []) ∷
-    (50 ∷ 32 ∷ 48 ∷ 32 ∷ 48 ∷ 32 ∷ 48 ∷ 32 ∷ 50 ∷ 10 ∷ 50 ∷ 32 ∷ 48 ∷ 32 ∷ 48 ∷ 10 ∷ 52 ∷ 32 ∷ 50 ∷ 32 ∷ 49 ∷ 10 ∷ []) ∷
-    (50 ∷ 32 ∷ 48 ∷ 32 ∷ 48 ∷ 32 ∷ 48 ∷ 32 ∷ 50 ∷ 10 ∷ 52 ∷ 32 ∷ 48 ∷ 32 ∷ 48 ∷ 10 ∷ 50 ∷ 32 ∷ 48 ∷ 32 ∷ 49 ∷ 10 ∷ []) ∷
+    bytes "3 2 1 0 0\n2\n4\n6 2\n" ∷
+    bytes "3 2 1 0 0\n4\n2\n6 2\n" ∷
+    bytes "3 2 1 0 0\n2\n2\n6 2\n" ∷
+    bytes "3 2 1 0 0\n3\n4\n6 2\n" ∷
+    bytes "3 2 1 0 0\n0\n4\n6 2\n" ∷
+    bytes "3 2 1 0 0\n4\n6\n2 2\n" ∷
+    bytes "3 2 1 0 0\n2\n4\n8 2\n" ∷
+    bytes "3 2 1 0 0\n02\n4\n6 2\n" ∷
+    bytes "3 2 1 0 0\n+02\n4\n6 2\n" ∷
+    bytes "2 0 0 0 2\n2 0 0\n4 2 1\n" ∷
+    bytes "2 0 0 0 2\n4 0 0\n2 0 1\n" ∷
     [])) ≡ 0 ∷ 11 ∷ 11 ∷ 11 ∷ 11 ∷ 11 ∷ 11 ∷ 8 ∷ 0 ∷ 0 ∷ 11 ∷ []
 unfolding readAag goodText every numberOf counted withoutLiveness symbolsOf symbolOf latchNumbered gateNumbered wellNumbered literal ordered
 numbering = refl

@@ -1,6 +1,7 @@
 -- 10 of 01: "A witness comment's first field is `MAPPING` or `INTERVENTION`".
 use mathlib.Core.Bool.{Bool, true, false, not, _||_}
 use mathlib.Core.List.{List, [], _∷_}
+use Rattle.lists.specs.Quoted.{bytes}
 use Rattle.lists.specs.Parts.{Bytes}
 use Rattle.lists.specs.Tests.{all}
 use Rattle.scan.specs.Same.{sameBytes}
@@ -8,11 +9,11 @@ use Rattle.text.specs.Fields.{firstField}
 
 -- the bytes of `MAPPING`
 abbrev pub MAPPING : Bytes
-MAPPING = 77 ∷ 65 ∷ 80 ∷ 80 ∷ 73 ∷ 78 ∷ 71 ∷ []
+MAPPING = bytes "MAPPING"
 
 -- the bytes of `INTERVENTION`
 abbrev pub INTERVENTION : Bytes
-INTERVENTION = 73 ∷ 78 ∷ 84 ∷ 69 ∷ 82 ∷ 86 ∷ 69 ∷ 78 ∷ 84 ∷ 73 ∷ 79 ∷ 78 ∷ []
+INTERVENTION = bytes "INTERVENTION"
 
 -- a comment line whose first field is neither word
 abbrev pub plainComment : Bytes → Bool

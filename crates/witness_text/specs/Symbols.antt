@@ -4,6 +4,7 @@ use mathlib.Core.Bool.{Bool, cond, not}
 use mathlib.Core.List.{[], _∷_}
 use lib.Dec.{eqb, ltb}
 use lib.ListN.{length, take, drop}
+use Rattle.lists.specs.Quoted.{bytes}
 use Rattle.lists.specs.Answer.{Answer, got, refused, unless, andThen}
 use Rattle.lists.specs.Parts.{Bytes}
 use Rattle.scan.specs.Same.{sameBytes}
@@ -18,7 +19,7 @@ use Rattle.witness_text.specs.declared.Kind.the-variants.{Input, Latch, 
 
 -- the symbols end at "a line that is exactly `c`": the byte 99
 abbrev pub endsSymbols : Bytes → Bool
-endsSymbols l = sameBytes l (99 ∷ [])
+endsSymbols l = sameBytes l (bytes "c")
 
 -- "A symbol line is taken apart into kind, index and name"
 pub record Symbol : Type 0 where

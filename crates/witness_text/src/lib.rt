@@ -91,8 +91,11 @@ pub fn take_header(s: &[u8]) -> Header
     ensures { λ r. ⌜ TakesCounts (now (s .entry)) r ⌝ }
 {
     let mut ns: [u64; 9] = [0; 9];
-    let circuit_lines::Header::Got { count, next } = circuit_lines::take_header(Reader::Witness, s, &mut ns)
-    else {
+    let circuit_lines::Header::Got { count, next } = circuit_lines::take_header(
+        Reader::Witness,
+        s,
+        &mut ns,
+    ) else {
         return Header::Refused;
     };
     if count < 5 {

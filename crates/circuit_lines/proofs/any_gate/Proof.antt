@@ -4,15 +4,6 @@ use Rattle.text.proofs.LineLaws.{line-ordered, line-within}
 use Rattle.circuit_lines.proofs.any_gate.Statement.{statement}
 use Rattle.circuit_lines.proofs.any_gate.Tie as tie
 
-next-line-requires : tie.Need-next-line-requires
-next-line-requires c κs = search needs
-
-enum-known-start : tie.Need-enum-known-start
-enum-known-start c = search needs
-
-enum-told : tie.Need-enum-told
-enum-told c = search needs
-
 returns : tie.Need-returns
 returns c = search gate-missing
 
@@ -25,15 +16,6 @@ part-gate-line-start c = search line-ordered
 part-gate-line-end : tie.Need-part-gate-line-end
 part-gate-line-end c = search line-within
 
-gate-line-requires : tie.Need-gate-line-requires
-gate-line-requires c κs = search needs
-
-enum-known-gate : tie.Need-enum-known-gate
-enum-known-gate c = search needs
-
-enum-told-2 : tie.Need-enum-told-2
-enum-told-2 c = search needs
-
 returns-2 : tie.Need-returns-2
 returns-2 c = search gate-bad
 
@@ -44,15 +26,15 @@ pub any-gate-spec : {M : Type 1} → statement M
 any-gate-spec =
     tie.close
     (tie.spec
-    next-line-requires
-    enum-known-start
-    enum-told
+    (λ c κs. search needs)
+    (λ c. search needs)
+    (λ c. search needs)
     returns
     sub-gate-line
     part-gate-line-start
     part-gate-line-end
-    gate-line-requires
-    enum-known-gate
-    enum-told-2
+    (λ c κs. search needs)
+    (λ c. search needs)
+    (λ c. search needs)
     returns-2
     returns-3)

@@ -9,17 +9,8 @@ returns c = search call-few
 returns-2 : tie.Need-returns-2
 returns-2 c = search call-many
 
-in-order-requires : tie.Need-in-order-requires
-in-order-requires c κs = search needs
-
 compose-texts-requires : tie.Need-compose-texts-requires
 compose-texts-requires c κs = search call-in-order
-
-same-length : tie.Need-same-length
-same-length c = search needs
-
-same-length-2 : tie.Need-same-length-2
-same-length-2 c = search needs
 
 returns-3 : tie.Need-returns-3
 returns-3 c = search call-composed
@@ -33,9 +24,9 @@ compose-in-spec =
     (tie.spec
     returns
     returns-2
-    in-order-requires
+    (λ c κs. search needs)
     compose-texts-requires
-    same-length
-    same-length-2
+    (λ c. search needs)
+    (λ c. search needs)
     returns-3
     returns-4)

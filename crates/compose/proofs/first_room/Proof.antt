@@ -6,11 +6,8 @@ use Rattle.compose.proofs.CallLaws.{room-none, room-some}
 returns : tie.Need-returns
 returns c = search room-none
 
-add-result : tie.Need-add-result
-add-result c = search needs
-
 returns-2 : tie.Need-returns-2
 returns-2 c = search room-some
 
 pub first-room-spec : {M : Type 1} → statement M
-first-room-spec = tie.close (tie.spec returns add-result returns-2)
+first-room-spec = tie.close (tie.spec returns (λ c. search needs) returns-2)

@@ -3,36 +3,6 @@ use Rattle.compose.proofs.pair_end.Statement.{statement}
 use Rattle.compose.proofs.pair_end.Tie as tie
 use Rattle.compose.proofs.CallLaws.{pair-ends}
 
-mul-index : tie.Need-mul-index
-mul-index c = search needs
-
-mul-index-2 : tie.Need-mul-index-2
-mul-index-2 c = search needs
-
-shared-slice-read-index : tie.Need-shared-slice-read-index
-shared-slice-read-index c = search needs
-
-index-requires : tie.Need-index-requires
-index-requires c κs = search needs
-
-mul-index-3 : tie.Need-mul-index-3
-mul-index-3 c = search needs
-
-add-index : tie.Need-add-index
-add-index c = search needs
-
-mul-index-4 : tie.Need-mul-index-4
-mul-index-4 c = search needs
-
-shared-slice-read-index-2 : tie.Need-shared-slice-read-index-2
-shared-slice-read-index-2 c = search needs
-
-index-requires-2 : tie.Need-index-requires-2
-index-requires-2 c κs = search needs
-
-part-end-requires : tie.Need-part-end-requires
-part-end-requires c κs = search needs
-
 returns : tie.Need-returns
 returns c = search pair-ends
 
@@ -40,14 +10,14 @@ pub pair-end-spec : {M : Type 1} → statement M
 pair-end-spec =
     tie.close
     (tie.spec
-    mul-index
-    mul-index-2
-    shared-slice-read-index
-    index-requires
-    mul-index-3
-    add-index
-    mul-index-4
-    shared-slice-read-index-2
-    index-requires-2
-    part-end-requires
+    (λ c. search needs)
+    (λ c. search needs)
+    (λ c. search needs)
+    (λ c κs. search needs)
+    (λ c. search needs)
+    (λ c. search needs)
+    (λ c. search needs)
+    (λ c. search needs)
+    (λ c κs. search needs)
+    (λ c κs. search needs)
     returns)

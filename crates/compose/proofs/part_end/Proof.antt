@@ -12,11 +12,8 @@ returns-2 c = search end-past
 returns-3 : tie.Need-returns-3
 returns-3 c = search end-behind
 
-add-t6 : tie.Need-add-t6
-add-t6 c = search needs
-
 returns-4 : tie.Need-returns-4
 returns-4 c = search end-within
 
 pub part-end-spec : {M : Type 1} → statement M
-part-end-spec = tie.close (tie.spec returns returns-2 returns-3 add-t6 returns-4)
+part-end-spec = tie.close (tie.spec returns returns-2 returns-3 (λ c. search needs) returns-4)

@@ -9,17 +9,11 @@ use native.Mathlib.Omega.{arith}
 measure-requires : tie.Need-measure-requires
 measure-requires c κs = (search needs, search needs)
 
-same-length : tie.Need-same-length
-same-length c = search needs
-
 returns : tie.Need-returns
 returns c = search too-long
 
 print-composition-requires : tie.Need-print-composition-requires
 print-composition-requires c κs = (search needs, search needs)
-
-same-length-2 : tie.Need-same-length-2
-same-length-2 c = search needs
 
 returns-2 : tie.Need-returns-2
 returns-2 c = let small : length (c .before .before .before .before .before .before .before .before .before .before .before .before .before .before .args .out .now) < 9223372036854775808 = omega (arith, c .before .before .before .before .before .before .before .before .before .before .before .before .before .before .good .1 .1 .1 .1 .1 .1 .1 .0) in search written
@@ -29,8 +23,8 @@ write-merged-spec =
     tie.close
     (tie.spec
     measure-requires
-    same-length
+    (λ c. search needs)
     returns
     print-composition-requires
-    same-length-2
+    (λ c. search needs)
     returns-2)

@@ -15,50 +15,17 @@ abbrev μ-loop : tie.MeasureT-loop
 loop-holds : tie.Need-loop-holds Inv-loop μ-loop
 loop-holds c = (refl, search defining-none)
 
-add-slot-of : tie.Need-add-slot-of Inv-loop μ-loop
-add-slot-of c = search needs
-
 slot-of-requires : tie.Need-slot-of-requires Inv-loop μ-loop
 slot-of-requires c κs = search turn-slot
-
-mul-place : tie.Need-mul-place Inv-loop μ-loop
-mul-place c = search needs
-
-add-place : tie.Need-add-place Inv-loop μ-loop
-add-place c = search needs
-
-mul-define-latch : tie.Need-mul-define-latch Inv-loop μ-loop
-mul-define-latch c = search needs
-
-add-define-latch : tie.Need-add-define-latch Inv-loop μ-loop
-add-define-latch c = search needs
 
 define-latch-requires : tie.Need-define-latch-requires Inv-loop μ-loop
 define-latch-requires c κs = search turn-storable
 
-add-greater : tie.Need-add-greater Inv-loop μ-loop
-add-greater c = search needs
-
-greater-requires : tie.Need-greater-requires Inv-loop μ-loop
-greater-requires c κs = search needs
-
-add-j : tie.Need-add-j Inv-loop μ-loop
-add-j c = search needs
-
-loop-less : tie.Need-loop-less Inv-loop μ-loop
-loop-less c = search needs
-
 loop-again : tie.Need-loop-again Inv-loop μ-loop
 loop-again c = (search needs, search turn-agrees)
 
-same-length : tie.Need-same-length Inv-loop μ-loop
-same-length c = search needs
-
 returns : tie.Need-returns Inv-loop μ-loop
 returns c = search turn-differs
-
-same-length-2 : tie.Need-same-length-2 Inv-loop μ-loop
-same-length-2 c = search needs
 
 returns-2 : tie.Need-returns-2 Inv-loop μ-loop
 returns-2 c = search defining-done
@@ -70,19 +37,19 @@ define-latches-spec =
     Inv-loop
     μ-loop
     loop-holds
-    add-slot-of
+    (λ c. search needs)
     slot-of-requires
-    mul-place
-    add-place
-    mul-define-latch
-    add-define-latch
+    (λ c. search needs)
+    (λ c. search needs)
+    (λ c. search needs)
+    (λ c. search needs)
     define-latch-requires
-    add-greater
-    greater-requires
-    add-j
-    loop-less
+    (λ c. search needs)
+    (λ c κs. search needs)
+    (λ c. search needs)
+    (λ c. search needs)
     loop-again
-    same-length
+    (λ c. search needs)
     returns
-    same-length-2
+    (λ c. search needs)
     returns-2)

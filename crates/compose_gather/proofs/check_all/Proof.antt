@@ -15,35 +15,14 @@ abbrev μ-loop : tie.MeasureT-loop
 loop-holds : tie.Need-loop-holds Inv-loop μ-loop
 loop-holds c = (search checking-none, search needs, search needs)
 
-text-at-requires : tie.Need-text-at-requires Inv-loop μ-loop
-text-at-requires c κs = search needs
-
 check-one-requires : tie.Need-check-one-requires Inv-loop μ-loop
 check-one-requires c κs = search checking-can
-
-enum-known-checked : tie.Need-enum-known-checked Inv-loop μ-loop
-enum-known-checked c = search needs
-
-same-length : tie.Need-same-length Inv-loop μ-loop
-same-length c = search needs
 
 returns : tie.Need-returns Inv-loop μ-loop
 returns c = search checking-refused
 
-enum-known-checked-2 : tie.Need-enum-known-checked-2 Inv-loop μ-loop
-enum-known-checked-2 c = search needs
-
-add-w : tie.Need-add-w Inv-loop μ-loop
-add-w c = search needs
-
-loop-less : tie.Need-loop-less Inv-loop μ-loop
-loop-less c = search needs
-
 loop-again : tie.Need-loop-again Inv-loop μ-loop
 loop-again c = (search checking-more, search needs, search needs)
-
-same-length-2 : tie.Need-same-length-2 Inv-loop μ-loop
-same-length-2 c = search needs
 
 returns-2 : tie.Need-returns-2 Inv-loop μ-loop
 returns-2 c = search checking-end
@@ -55,14 +34,14 @@ check-all-spec =
     Inv-loop
     μ-loop
     loop-holds
-    text-at-requires
+    (λ c κs. search needs)
     check-one-requires
-    enum-known-checked
-    same-length
+    (λ c. search needs)
+    (λ c. search needs)
     returns
-    enum-known-checked-2
-    add-w
-    loop-less
+    (λ c. search needs)
+    (λ c. search needs)
+    (λ c. search needs)
     loop-again
-    same-length-2
+    (λ c. search needs)
     returns-2)

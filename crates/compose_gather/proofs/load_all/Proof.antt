@@ -15,26 +15,11 @@ abbrev μ-loop : tie.MeasureT-loop
 loop-holds : tie.Need-loop-holds Inv-loop μ-loop
 loop-holds c = search (needs, loading-none)
 
-text-at-requires : tie.Need-text-at-requires Inv-loop μ-loop
-text-at-requires c κs = search needs
-
-counts-at-requires : tie.Need-counts-at-requires Inv-loop μ-loop
-counts-at-requires c κs = search needs
-
 load-at-requires : tie.Need-load-at-requires Inv-loop μ-loop
 load-at-requires c κs = search loading-loadable
 
-add-w : tie.Need-add-w Inv-loop μ-loop
-add-w c = search needs
-
-loop-less : tie.Need-loop-less Inv-loop μ-loop
-loop-less c = search needs
-
 loop-again : tie.Need-loop-again Inv-loop μ-loop
 loop-again c = (search loading-more, search needs, search needs)
-
-same-length : tie.Need-same-length Inv-loop μ-loop
-same-length c = search needs
 
 returns : tie.Need-returns Inv-loop μ-loop
 returns c = search loading-end
@@ -46,11 +31,11 @@ load-all-spec =
     Inv-loop
     μ-loop
     loop-holds
-    text-at-requires
-    counts-at-requires
+    (λ c κs. search needs)
+    (λ c κs. search needs)
     load-at-requires
-    add-w
-    loop-less
+    (λ c. search needs)
+    (λ c. search needs)
     loop-again
-    same-length
+    (λ c. search needs)
     returns)

@@ -9,11 +9,8 @@ load-all-requires c κs = (search lay-load, search needs)
 lay-latches-requires : tie.Need-lay-latches-requires
 lay-latches-requires c κs = (search lay-staged, search needs)
 
-same-length : tie.Need-same-length
-same-length c = search needs
-
 returns : tie.Need-returns
 returns c = search lay-goes
 
 pub lay-spec : {M : Type 1} → statement M
-lay-spec = tie.close (tie.spec load-all-requires lay-latches-requires same-length returns)
+lay-spec = tie.close (tie.spec load-all-requires lay-latches-requires (λ c. search needs) returns)

@@ -9,11 +9,8 @@ gather-requires c κs = (search (turn-can, roomy-constraints), (search needs, st
 lay-inputs-requires : tie.Need-lay-inputs-requires
 lay-inputs-requires c κs = (search (turn-next, roomy-constraints), search needs)
 
-same-length : tie.Need-same-length
-same-length c = search needs
-
 returns : tie.Need-returns
 returns c = search (turn-goes, roomy-constraints)
 
 pub lay-constraints-spec : {M : Type 1} → statement M
-lay-constraints-spec = tie.close (tie.spec gather-requires lay-inputs-requires same-length returns)
+lay-constraints-spec = tie.close (tie.spec gather-requires lay-inputs-requires (λ c. search needs) returns)

@@ -6,23 +6,11 @@ use Rattle.compose_layout.proofs.LayLaws.{inputs-can, inputs-wrong, inp
 gather-origins-requires : tie.Need-gather-origins-requires
 gather-origins-requires c κs = (search inputs-can, search needs)
 
-enum-known-b : tie.Need-enum-known-b
-enum-known-b c = search needs
-
-enum-told : tie.Need-enum-told
-enum-told c = search needs
-
-same-length : tie.Need-same-length
-same-length c = search needs
-
 returns : tie.Need-returns
 returns c = search inputs-wrong
 
 lay-leaves-requires : tie.Need-lay-leaves-requires
 lay-leaves-requires c κs = (search inputs-next, search needs)
-
-same-length-2 : tie.Need-same-length-2
-same-length-2 c = search needs
 
 returns-2 : tie.Need-returns-2
 returns-2 c = search inputs-goes
@@ -32,10 +20,10 @@ lay-inputs-spec =
     tie.close
     (tie.spec
     gather-origins-requires
-    enum-known-b
-    enum-told
-    same-length
+    (λ c. search needs)
+    (λ c. search needs)
+    (λ c. search needs)
     returns
     lay-leaves-requires
-    same-length-2
+    (λ c. search needs)
     returns-2)

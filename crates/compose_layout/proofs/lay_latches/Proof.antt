@@ -9,11 +9,8 @@ gather-requires c κs = (search (turn-can, roomy-latches), (search needs, stage-
 lay-operands-requires : tie.Need-lay-operands-requires
 lay-operands-requires c κs = (search (turn-next, roomy-latches), search needs)
 
-same-length : tie.Need-same-length
-same-length c = search needs
-
 returns : tie.Need-returns
 returns c = search (turn-goes, roomy-latches)
 
 pub lay-latches-spec : {M : Type 1} → statement M
-lay-latches-spec = tie.close (tie.spec gather-requires lay-operands-requires same-length returns)
+lay-latches-spec = tie.close (tie.spec gather-requires lay-operands-requires (λ c. search needs) returns)

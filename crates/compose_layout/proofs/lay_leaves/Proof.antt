@@ -6,23 +6,11 @@ use Rattle.compose_layout.proofs.LayLaws.{latches-can, latches-wrong, p
 gather-origins-requires : tie.Need-gather-origins-requires
 gather-origins-requires c κs = (search latches-can, search needs)
 
-enum-known-table : tie.Need-enum-known-table
-enum-known-table c = search needs
-
-enum-told : tie.Need-enum-told
-enum-told c = search needs
-
-same-length : tie.Need-same-length
-same-length c = search needs
-
 returns : tie.Need-returns
 returns c = search latches-wrong
 
 place-regions-requires : tie.Need-place-regions-requires
 place-regions-requires c κs = search places-fit
-
-same-length-2 : tie.Need-same-length-2
-same-length-2 c = search needs
 
 returns-2 : tie.Need-returns-2
 returns-2 c = search latches-laid
@@ -32,10 +20,10 @@ lay-leaves-spec =
     tie.close
     (tie.spec
     gather-origins-requires
-    enum-known-table
-    enum-told
-    same-length
+    (λ c. search needs)
+    (λ c. search needs)
+    (λ c. search needs)
     returns
     place-regions-requires
-    same-length-2
+    (λ c. search needs)
     returns-2)

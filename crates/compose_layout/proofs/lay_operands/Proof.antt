@@ -9,11 +9,8 @@ gather-requires c κs = (search (turn-can, roomy-operands), (search needs, stage
 lay-safety-requires : tie.Need-lay-safety-requires
 lay-safety-requires c κs = (search (turn-next, roomy-operands), search needs)
 
-same-length : tie.Need-same-length
-same-length c = search needs
-
 returns : tie.Need-returns
 returns c = search (turn-goes, roomy-operands)
 
 pub lay-operands-spec : {M : Type 1} → statement M
-lay-operands-spec = tie.close (tie.spec gather-requires lay-safety-requires same-length returns)
+lay-operands-spec = tie.close (tie.spec gather-requires lay-safety-requires (λ c. search needs) returns)

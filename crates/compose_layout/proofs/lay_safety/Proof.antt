@@ -9,11 +9,8 @@ gather-requires c κs = (search (turn-can, roomy-safety), (search needs, stage-t
 lay-constraints-requires : tie.Need-lay-constraints-requires
 lay-constraints-requires c κs = (search (turn-next, roomy-safety), search needs)
 
-same-length : tie.Need-same-length
-same-length c = search needs
-
 returns : tie.Need-returns
 returns c = search (turn-goes, roomy-safety)
 
 pub lay-safety-spec : {M : Type 1} → statement M
-lay-safety-spec = tie.close (tie.spec gather-requires lay-constraints-requires same-length returns)
+lay-safety-spec = tie.close (tie.spec gather-requires lay-constraints-requires (λ c. search needs) returns)

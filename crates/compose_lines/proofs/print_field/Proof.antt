@@ -4,15 +4,6 @@ use borrow.Author.Needs.{needs}
 use Rattle.compose_lines.proofs.print_field.Statement.{statement}
 use Rattle.compose_lines.proofs.print_field.Tie as tie
 
-print-byte-requires : tie.Need-print-byte-requires
-print-byte-requires c κs = search needs
-
-print-number-requires : tie.Need-print-number-requires
-print-number-requires c κs = search needs
-
-same-length : tie.Need-same-length
-same-length c = search needs
-
 returns : tie.Need-returns
 returns c =
     let first = c .before .before .before .before .before .before .print-byte in
@@ -21,4 +12,4 @@ returns c =
 
 pub print-field-spec : {M : Type 1} → statement M
 print-field-spec =
-    tie.close (tie.spec print-byte-requires print-number-requires same-length returns)
+    tie.close (tie.spec (λ c κs. search needs) (λ c κs. search needs) (λ c. search needs) returns)

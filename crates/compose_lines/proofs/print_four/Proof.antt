@@ -4,15 +4,6 @@ use borrow.Author.Needs.{needs}
 use Rattle.compose_lines.proofs.print_four.Statement.{statement}
 use Rattle.compose_lines.proofs.print_four.Tie as tie
 
-print-two-requires : tie.Need-print-two-requires
-print-two-requires c κs = search needs
-
-print-two-requires-2 : tie.Need-print-two-requires-2
-print-two-requires-2 c κs = search needs
-
-same-length : tie.Need-same-length
-same-length c = search needs
-
 returns : tie.Need-returns
 returns c =
     let first = c .before .before .before .before .before .before .print-two in
@@ -20,4 +11,4 @@ returns c =
     four-printed _ _ _ _ _ _ (omega arith) (omega (arith, first .kept .0)) _ _ _ _ (first .ensures) (second .ensures)
 
 pub print-four-spec : {M : Type 1} → statement M
-print-four-spec = tie.close (tie.spec print-two-requires print-two-requires-2 same-length returns)
+print-four-spec = tie.close (tie.spec (λ c κs. search needs) (λ c κs. search needs) (λ c. search needs) returns)

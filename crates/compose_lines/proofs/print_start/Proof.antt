@@ -4,18 +4,6 @@ use borrow.Author.Needs.{needs}
 use Rattle.compose_lines.proofs.print_start.Statement.{statement}
 use Rattle.compose_lines.proofs.print_start.Tie as tie
 
-slice-aggregate-print-bytes : tie.Need-slice-aggregate-print-bytes
-slice-aggregate-print-bytes c = search needs
-
-print-bytes-requires : tie.Need-print-bytes-requires
-print-bytes-requires c κs = search needs
-
-print-four-requires : tie.Need-print-four-requires
-print-four-requires c κs = search needs
-
-same-length : tie.Need-same-length
-same-length c = search needs
-
 returns : tie.Need-returns
 returns c =
     let first = c .before .before .before .before .before .before .print-bytes in
@@ -26,8 +14,8 @@ pub print-start-spec : {M : Type 1} → statement M
 print-start-spec =
     tie.close
     (tie.spec
-    slice-aggregate-print-bytes
-    print-bytes-requires
-    print-four-requires
-    same-length
+    (λ c. search needs)
+    (λ c κs. search needs)
+    (λ c κs. search needs)
+    (λ c. search needs)
     returns)

@@ -4,15 +4,6 @@ use borrow.Author.Needs.{needs}
 use Rattle.compose_lines.proofs.print_two.Statement.{statement}
 use Rattle.compose_lines.proofs.print_two.Tie as tie
 
-print-field-requires : tie.Need-print-field-requires
-print-field-requires c κs = search needs
-
-print-field-requires-2 : tie.Need-print-field-requires-2
-print-field-requires-2 c κs = search needs
-
-same-length : tie.Need-same-length
-same-length c = search needs
-
 returns : tie.Need-returns
 returns c =
     let first = c .before .before .before .before .before .before .print-field in
@@ -21,4 +12,4 @@ returns c =
 
 pub print-two-spec : {M : Type 1} → statement M
 print-two-spec =
-    tie.close (tie.spec print-field-requires print-field-requires-2 same-length returns)
+    tie.close (tie.spec (λ c κs. search needs) (λ c κs. search needs) (λ c. search needs) returns)

@@ -9,11 +9,8 @@ clear-regions-requires c κs = search clear-can
 merge-inputs-requires : tie.Need-merge-inputs-requires
 merge-inputs-requires c κs = search clear-next
 
-same-length : tie.Need-same-length
-same-length c = search needs
-
 returns : tie.Need-returns
 returns c = search clear-goes
 
 pub merge-spec : {M : Type 1} → statement M
-merge-spec = tie.close (tie.spec clear-regions-requires merge-inputs-requires same-length returns)
+merge-spec = tie.close (tie.spec clear-regions-requires merge-inputs-requires (λ c. search needs) returns)

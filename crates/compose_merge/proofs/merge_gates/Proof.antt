@@ -10,29 +10,14 @@ add-known c = omega (arith, gates-known _ _ _ _ _ (c .before .before .pre))
 add-known-2 : tie.Need-add-known-2
 add-known-2 c = omega (arith, gates-known _ _ _ _ _ (c .before .before .before .pre))
 
-sub-share-gates : tie.Need-sub-share-gates
-sub-share-gates c = search needs
-
 share-gates-requires : tie.Need-share-gates-requires
 share-gates-requires c κs = search gates-can
-
-enum-told : tie.Need-enum-told
-enum-told c = search needs
-
-enum-known-gates : tie.Need-enum-known-gates
-enum-known-gates c = search needs
 
 merge-definitions-requires : tie.Need-merge-definitions-requires
 merge-definitions-requires c κs = search gates-next
 
-same-length : tie.Need-same-length
-same-length c = search needs
-
 returns : tie.Need-returns
 returns c = search gates-many
-
-same-length-2 : tie.Need-same-length-2
-same-length-2 c = search needs
 
 returns-2 : tie.Need-returns-2
 returns-2 c = search gates-goes
@@ -43,12 +28,12 @@ merge-gates-spec =
     (tie.spec
     add-known
     add-known-2
-    sub-share-gates
+    (λ c. search needs)
     share-gates-requires
-    enum-told
-    enum-known-gates
+    (λ c. search needs)
+    (λ c. search needs)
     merge-definitions-requires
-    same-length
+    (λ c. search needs)
     returns
-    same-length-2
+    (λ c. search needs)
     returns-2)

@@ -13,12 +13,9 @@ number-leaves-requires c κs = search inputs-can
 merge-latches-requires : tie.Need-merge-latches-requires
 merge-latches-requires c κs = search inputs-next
 
-same-length : tie.Need-same-length
-same-length c = search needs
-
 returns : tie.Need-returns
 returns c = search inputs-goes
 
 pub merge-inputs-spec : {M : Type 1} → statement M
 merge-inputs-spec =
-    tie.close (tie.spec add-own number-leaves-requires merge-latches-requires same-length returns)
+    tie.close (tie.spec add-own number-leaves-requires merge-latches-requires (λ c. search needs) returns)

@@ -4,12 +4,6 @@ use Rattle.compose_merge.proofs.LatchLaws.{latches-can, latches-own, la
 use Rattle.compose_merge.proofs.merge_latches.Statement.{statement}
 use Rattle.compose_merge.proofs.merge_latches.Tie as tie
 
-add-table : tie.Need-add-table
-add-table c = search needs
-
-add-own : tie.Need-add-own
-add-own c = search needs
-
 add-own-2 : tie.Need-add-own-2
 add-own-2 c = omega (arith, latches-own _ _ _ _ _ (c .before .before .before .before .before .pre))
 
@@ -19,9 +13,6 @@ number-leaves-requires c κs = search latches-can
 merge-gates-requires : tie.Need-merge-gates-requires
 merge-gates-requires c κs = search latches-next
 
-same-length : tie.Need-same-length
-same-length c = search needs
-
 returns : tie.Need-returns
 returns c = search latches-goes
 
@@ -29,10 +20,10 @@ pub merge-latches-spec : {M : Type 1} → statement M
 merge-latches-spec =
     tie.close
     (tie.spec
-    add-table
-    add-own
+    (λ c. search needs)
+    (λ c. search needs)
     add-own-2
     number-leaves-requires
     merge-gates-requires
-    same-length
+    (λ c. search needs)
     returns)

@@ -4,21 +4,6 @@ use borrow.Author.Needs.{needs}
 use Rattle.compose_names.proofs.print_head.Statement.{statement}
 use Rattle.compose_names.proofs.print_head.Tie as tie
 
-kind-of-requires : tie.Need-kind-of-requires
-kind-of-requires c κs = search needs
-
-print-byte-requires : tie.Need-print-byte-requires
-print-byte-requires c κs = search needs
-
-print-number-requires : tie.Need-print-number-requires
-print-number-requires c κs = search needs
-
-print-byte-requires-2 : tie.Need-print-byte-requires-2
-print-byte-requires-2 c κs = search needs
-
-same-length : tie.Need-same-length
-same-length c = search needs
-
 returns : tie.Need-returns
 returns c =
     let args = c .before .before .before .before .before .before .before .before .before .before .before .before .before .before .args in
@@ -32,9 +17,9 @@ pub print-head-spec : {M : Type 1} → statement M
 print-head-spec =
     tie.close
     (tie.spec
-    kind-of-requires
-    print-byte-requires
-    print-number-requires
-    print-byte-requires-2
-    same-length
+    (λ c κs. search needs)
+    (λ c κs. search needs)
+    (λ c κs. search needs)
+    (λ c κs. search needs)
+    (λ c. search needs)
     returns)

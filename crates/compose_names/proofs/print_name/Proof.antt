@@ -5,33 +5,12 @@ use borrow.Author.Needs.{needs}
 use Rattle.compose_names.proofs.print_name.Statement.{statement}
 use Rattle.compose_names.proofs.print_name.Tie as tie
 
-slice-aggregate-print-bytes : tie.Need-slice-aggregate-print-bytes
-slice-aggregate-print-bytes c = search needs
-
-print-bytes-requires : tie.Need-print-bytes-requires
-print-bytes-requires c κs = search needs
-
-print-number-requires : tie.Need-print-number-requires
-print-number-requires c κs = search needs
-
-same-length : tie.Need-same-length
-same-length c = search needs
-
 returns : tie.Need-returns
 returns c =
     let args = c .before .before .before .before .before .before .before .before .before .before .before .before .args in
     let equals = c .before .before .before .before .before .before .print-bytes in
     let digits = c .before .before .print-number in
     shared-printed _ _ (omega arith) (args .leaves) (args .w) (args .origin) (ownName (args .text .now) (args .start) (args .size)) _ _ _ _ (omega (arith, equals .kept .0)) (search needs) (equals .ensures) (digits .ensures)
-
-print-owner-requires : tie.Need-print-owner-requires
-print-owner-requires c κs = search needs
-
-print-own-requires : tie.Need-print-own-requires
-print-own-requires c κs = search needs
-
-same-length-2 : tie.Need-same-length-2
-same-length-2 c = search needs
 
 returns-2 : tie.Need-returns-2
 returns-2 c =
@@ -44,12 +23,12 @@ pub print-name-spec : {M : Type 1} → statement M
 print-name-spec =
     tie.close
     (tie.spec
-    slice-aggregate-print-bytes
-    print-bytes-requires
-    print-number-requires
-    same-length
+    (λ c. search needs)
+    (λ c κs. search needs)
+    (λ c κs. search needs)
+    (λ c. search needs)
     returns
-    print-owner-requires
-    print-own-requires
-    same-length-2
+    (λ c κs. search needs)
+    (λ c κs. search needs)
+    (λ c. search needs)
     returns-2)

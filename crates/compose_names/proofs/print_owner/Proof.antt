@@ -4,18 +4,6 @@ use borrow.Author.Needs.{needs}
 use Rattle.compose_names.proofs.print_owner.Statement.{statement}
 use Rattle.compose_names.proofs.print_owner.Tie as tie
 
-print-byte-requires : tie.Need-print-byte-requires
-print-byte-requires c κs = search needs
-
-print-number-requires : tie.Need-print-number-requires
-print-number-requires c κs = search needs
-
-print-byte-requires-2 : tie.Need-print-byte-requires-2
-print-byte-requires-2 c κs = search needs
-
-same-length : tie.Need-same-length
-same-length c = search needs
-
 returns : tie.Need-returns
 returns c =
     let first = c .before .before .before .before .before .before .before .before .before .before .print-byte in
@@ -26,4 +14,4 @@ returns c =
 pub print-owner-spec : {M : Type 1} → statement M
 print-owner-spec =
     tie.close
-    (tie.spec print-byte-requires print-number-requires print-byte-requires-2 same-length returns)
+    (tie.spec (λ c κs. search needs) (λ c κs. search needs) (λ c κs. search needs) (λ c. search needs) returns)

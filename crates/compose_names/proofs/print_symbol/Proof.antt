@@ -5,18 +5,6 @@ use borrow.Author.Needs.{needs}
 use Rattle.compose_names.proofs.print_symbol.Statement.{statement}
 use Rattle.compose_names.proofs.print_symbol.Tie as tie
 
-print-head-requires : tie.Need-print-head-requires
-print-head-requires c κs = search needs
-
-print-name-requires : tie.Need-print-name-requires
-print-name-requires c κs = search needs
-
-print-byte-requires : tie.Need-print-byte-requires
-print-byte-requires c κs = search needs
-
-same-length : tie.Need-same-length
-same-length c = search needs
-
 returns : tie.Need-returns
 returns c =
     let args = c .before .before .before .before .before .before .before .before .before .before .before .before .before .before .args in
@@ -29,4 +17,4 @@ returns c =
 pub print-symbol-spec : {M : Type 1} → statement M
 print-symbol-spec =
     tie.close
-    (tie.spec print-head-requires print-name-requires print-byte-requires same-length returns)
+    (tie.spec (λ c κs. search needs) (λ c κs. search needs) (λ c κs. search needs) (λ c. search needs) returns)

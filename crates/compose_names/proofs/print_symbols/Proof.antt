@@ -18,23 +18,11 @@ abbrev μ-loop : tie.MeasureT-loop
 loop-holds : tie.Need-loop-holds Inv-loop μ-loop
 loop-holds c = (walking-none _ _ _ _ _ _ _ _ _ (search needs) (omega arith) (omega arith), search needs)
 
-text-at-requires : tie.Need-text-at-requires Inv-loop μ-loop
-text-at-requires c κs = search needs
-
-counts-at-requires : tie.Need-counts-at-requires Inv-loop μ-loop
-counts-at-requires c κs = search needs
-
 print-witness-requires : tie.Need-print-witness-requires Inv-loop μ-loop
 print-witness-requires c κs = search walking-can
 
 pass-requires : tie.Need-pass-requires Inv-loop μ-loop
 pass-requires c κs = search walking-pass
-
-add-w : tie.Need-add-w Inv-loop μ-loop
-add-w c = search needs
-
-loop-less : tie.Need-loop-less Inv-loop μ-loop
-loop-less c = search needs
 
 loop-again : tie.Need-loop-again Inv-loop μ-loop
 loop-again c =
@@ -47,9 +35,6 @@ loop-again c =
     let places = c .pass in
     (walking-more _ _ _ _ _ _ _ _ _ _ _ _ _ _ (loop .inv .0) (loop .inv .1) (omega (arith, less)) _ (text .ensures) _ (start .pre .1) _ (counts .ensures) _ _ (omega (arith, lines .kept .0)) (lines .ensures) _ (places .ensures), search needs)
 
-same-length : tie.Need-same-length Inv-loop μ-loop
-same-length c = search needs
-
 returns : tie.Need-returns Inv-loop μ-loop
 returns c = search walking-end
 
@@ -60,12 +45,12 @@ print-symbols-spec =
     Inv-loop
     μ-loop
     loop-holds
-    text-at-requires
-    counts-at-requires
+    (λ c κs. search needs)
+    (λ c κs. search needs)
     print-witness-requires
     pass-requires
-    add-w
-    loop-less
+    (λ c. search needs)
+    (λ c. search needs)
     loop-again
-    same-length
+    (λ c. search needs)
     returns)

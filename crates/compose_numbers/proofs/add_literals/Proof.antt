@@ -12,29 +12,14 @@ Inv-loop work₀ from count vars bits words end found₀ i₀ work found i = (le
 abbrev μ-loop : tie.MeasureT-loop
 μ-loop work₀ from count vars bits words end found₀ i₀ work found i = count - i
 
-add-end : tie.Need-add-end Inv-loop μ-loop
-add-end c = search needs
-
 loop-holds : tie.Need-loop-holds Inv-loop μ-loop
 loop-holds c = (refl, search adding-none)
-
-add-add-literal : tie.Need-add-add-literal Inv-loop μ-loop
-add-add-literal c = search needs
 
 add-literal-requires : tie.Need-add-literal-requires Inv-loop μ-loop
 add-literal-requires c κs = search turn-addable
 
-add-i : tie.Need-add-i Inv-loop μ-loop
-add-i c = search needs
-
-loop-less : tie.Need-loop-less Inv-loop μ-loop
-loop-less c = search needs
-
 loop-again : tie.Need-loop-again Inv-loop μ-loop
 loop-again c = (search needs, search turn-more)
-
-same-length : tie.Need-same-length Inv-loop μ-loop
-same-length c = search needs
 
 returns : tie.Need-returns Inv-loop μ-loop
 returns c = search adding-done
@@ -45,12 +30,12 @@ add-literals-spec =
     (tie.spec
     Inv-loop
     μ-loop
-    add-end
+    (λ c. search needs)
     loop-holds
-    add-add-literal
+    (λ c. search needs)
     add-literal-requires
-    add-i
-    loop-less
+    (λ c. search needs)
+    (λ c. search needs)
     loop-again
-    same-length
+    (λ c. search needs)
     returns)

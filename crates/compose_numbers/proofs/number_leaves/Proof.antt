@@ -15,26 +15,11 @@ abbrev μ-loop : tie.MeasureT-loop
 loop-holds : tie.Need-loop-holds Inv-loop μ-loop
 loop-holds c = (refl, search numbering-none)
 
-add-number-leaf : tie.Need-add-number-leaf Inv-loop μ-loop
-add-number-leaf c = search needs
-
-add-number-leaf-2 : tie.Need-add-number-leaf-2 Inv-loop μ-loop
-add-number-leaf-2 c = search needs
-
 number-leaf-requires : tie.Need-number-leaf-requires Inv-loop μ-loop
 number-leaf-requires c κs = search turn-numberable
 
-add-i : tie.Need-add-i Inv-loop μ-loop
-add-i c = search needs
-
-loop-less : tie.Need-loop-less Inv-loop μ-loop
-loop-less c = search needs
-
 loop-again : tie.Need-loop-again Inv-loop μ-loop
 loop-again c = (search needs, search turn-more)
-
-same-length : tie.Need-same-length Inv-loop μ-loop
-same-length c = search needs
 
 returns : tie.Need-returns Inv-loop μ-loop
 returns c = search numbering-done
@@ -46,11 +31,11 @@ number-leaves-spec =
     Inv-loop
     μ-loop
     loop-holds
-    add-number-leaf
-    add-number-leaf-2
+    (λ c. search needs)
+    (λ c. search needs)
     number-leaf-requires
-    add-i
-    loop-less
+    (λ c. search needs)
+    (λ c. search needs)
     loop-again
-    same-length
+    (λ c. search needs)
     returns)

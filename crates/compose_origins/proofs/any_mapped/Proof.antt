@@ -21,12 +21,6 @@ mapped-at-requires c κs = search testing-says
 returns : tie.Need-returns Inv-loop μ-loop
 returns c = search testing-true
 
-add-i : tie.Need-add-i Inv-loop μ-loop
-add-i c = search needs
-
-loop-less : tie.Need-loop-less Inv-loop μ-loop
-loop-less c = search needs
-
 loop-again : tie.Need-loop-again Inv-loop μ-loop
 loop-again c = (search testing-more, search needs)
 
@@ -42,7 +36,7 @@ any-mapped-spec =
     loop-holds
     mapped-at-requires
     returns
-    add-i
-    loop-less
+    (λ c. search needs)
+    (λ c. search needs)
     loop-again
     returns-2)

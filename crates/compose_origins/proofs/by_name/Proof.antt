@@ -6,24 +6,6 @@ use Rattle.compose_origins.proofs.MappingLaws.{name-short, name-mapped,
 returns : tie.Need-returns
 returns c = search name-short
 
-slice-aggregate-begins-with : tie.Need-slice-aggregate-begins-with
-slice-aggregate-begins-with c = search needs
-
-begins-with-requires : tie.Need-begins-with-requires
-begins-with-requires c κs = search needs
-
-sub-onto-digits : tie.Need-sub-onto-digits
-sub-onto-digits c = search needs
-
-part-onto-digits-start : tie.Need-part-onto-digits-start
-part-onto-digits-start c = search needs
-
-part-onto-digits-end : tie.Need-part-onto-digits-end
-part-onto-digits-end c = search needs
-
-onto-digits-requires : tie.Need-onto-digits-requires
-onto-digits-requires c κs = search needs
-
 returns-2 : tie.Need-returns-2
 returns-2 c = search name-mapped
 
@@ -35,11 +17,11 @@ by-name-spec =
     tie.close
     (tie.spec
     returns
-    slice-aggregate-begins-with
-    begins-with-requires
-    sub-onto-digits
-    part-onto-digits-start
-    part-onto-digits-end
-    onto-digits-requires
+    (λ c. search needs)
+    (λ c κs. search needs)
+    (λ c. search needs)
+    (λ c. search needs)
+    (λ c. search needs)
+    (λ c κs. search needs)
     returns-2
     returns-3)

@@ -15,41 +15,17 @@ abbrev μ-loop : tie.MeasureT-loop
 loop-holds : tie.Need-loop-holds Inv-loop μ-loop
 loop-holds c = search (needs, mapping-none)
 
-text-at-requires : tie.Need-text-at-requires Inv-loop μ-loop
-text-at-requires c κs = search needs
-
-counts-at-requires : tie.Need-counts-at-requires Inv-loop μ-loop
-counts-at-requires c κs = search needs
-
 after-words-requires : tie.Need-after-words-requires Inv-loop μ-loop
 after-words-requires c κs = search mapping-behind
 
 witness-origins-requires : tie.Need-witness-origins-requires Inv-loop μ-loop
 witness-origins-requires c κs = search mapping-can
 
-enum-known-end : tie.Need-enum-known-end Inv-loop μ-loop
-enum-known-end c = search needs
-
-enum-told : tie.Need-enum-told Inv-loop μ-loop
-enum-told c = search needs
-
-same-length : tie.Need-same-length Inv-loop μ-loop
-same-length c = search needs
-
 returns : tie.Need-returns Inv-loop μ-loop
 returns c = search mapping-wrong
 
-add-w : tie.Need-add-w Inv-loop μ-loop
-add-w c = search needs
-
-loop-less : tie.Need-loop-less Inv-loop μ-loop
-loop-less c = search needs
-
 loop-again : tie.Need-loop-again Inv-loop μ-loop
 loop-again c = (search mapping-more, search needs, search needs)
-
-same-length-2 : tie.Need-same-length-2 Inv-loop μ-loop
-same-length-2 c = search needs
 
 returns-2 : tie.Need-returns-2 Inv-loop μ-loop
 returns-2 c = search mapping-end
@@ -61,16 +37,16 @@ gather-origins-spec =
     Inv-loop
     μ-loop
     loop-holds
-    text-at-requires
-    counts-at-requires
+    (λ c κs. search needs)
+    (λ c κs. search needs)
     after-words-requires
     witness-origins-requires
-    enum-known-end
-    enum-told
-    same-length
+    (λ c. search needs)
+    (λ c. search needs)
+    (λ c. search needs)
     returns
-    add-w
-    loop-less
+    (λ c. search needs)
+    (λ c. search needs)
     loop-again
-    same-length-2
+    (λ c. search needs)
     returns-2)

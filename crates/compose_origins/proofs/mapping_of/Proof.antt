@@ -9,14 +9,8 @@ returns c = search maps-none
 piece-requires : tie.Need-piece-requires
 piece-requires c κs = search name-within
 
-by-name-requires : tie.Need-by-name-requires
-by-name-requires c κs = search needs
-
 returns-2 : tie.Need-returns-2
 returns-2 c = search maps-name
-
-by-position-requires : tie.Need-by-position-requires
-by-position-requires c κs = search needs
 
 returns-3 : tie.Need-returns-3
 returns-3 c = search maps-position
@@ -24,4 +18,4 @@ returns-3 c = search maps-position
 pub mapping-of-spec : {M : Type 1} → statement M
 mapping-of-spec =
     tie.close
-    (tie.spec returns piece-requires by-name-requires returns-2 by-position-requires returns-3)
+    (tie.spec returns piece-requires (λ c κs. search needs) returns-2 (λ c κs. search needs) returns-3)

@@ -4,14 +4,8 @@ use borrow.Author.Needs.{needs}
 use Rattle.compose_origins.proofs.names_at.Statement.{statement}
 use Rattle.compose_origins.proofs.names_at.Tie as tie
 
-names-before-requires : tie.Need-names-before-requires
-names-before-requires c κs = search needs
-
 add-result : tie.Need-add-result
 add-result c = omega (arith, c .names-before .ensures, leaves-within (c .before .args .leaves) (c .before .args .n))
 
-returns : tie.Need-returns
-returns c = search needs
-
 pub names-at-spec : {M : Type 1} → statement M
-names-at-spec = tie.close (tie.spec names-before-requires add-result returns)
+names-at-spec = tie.close (tie.spec (λ c κs. search needs) add-result (λ c. search needs))

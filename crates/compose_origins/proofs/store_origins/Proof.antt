@@ -13,47 +13,14 @@ abbrev μ-loop : tie.MeasureT-loop
 loop-holds : tie.Need-loop-holds Inv-loop μ-loop
 loop-holds c = search (needs, storing-none)
 
-mul-mapping-at : tie.Need-mul-mapping-at Inv-loop μ-loop
-mul-mapping-at c = search needs
-
-add-mapping-at : tie.Need-add-mapping-at Inv-loop μ-loop
-add-mapping-at c = search needs
-
 mapping-at-requires : tie.Need-mapping-at-requires Inv-loop μ-loop
 mapping-at-requires c κs = search storing-says
-
-is-right-requires : tie.Need-is-right-requires Inv-loop μ-loop
-is-right-requires c κs = search needs
-
-origin-word-requires : tie.Need-origin-word-requires Inv-loop μ-loop
-origin-word-requires c κs = search needs
-
-add-work : tie.Need-add-work Inv-loop μ-loop
-add-work c = search needs
-
-mul-work : tie.Need-mul-work Inv-loop μ-loop
-mul-work c = search needs
-
-slice-write-work : tie.Need-slice-write-work Inv-loop μ-loop
-slice-write-work c = search needs
-
-add-k : tie.Need-add-k Inv-loop μ-loop
-add-k c = search needs
-
-loop-less : tie.Need-loop-less Inv-loop μ-loop
-loop-less c = search needs
 
 loop-again : tie.Need-loop-again Inv-loop μ-loop
 loop-again c = search storing-more
 
-same-length : tie.Need-same-length Inv-loop μ-loop
-same-length c = search needs
-
 returns : tie.Need-returns Inv-loop μ-loop
 returns c = search storing-wrong
-
-same-length-2 : tie.Need-same-length-2 Inv-loop μ-loop
-same-length-2 c = search needs
 
 returns-2 : tie.Need-returns-2 Inv-loop μ-loop
 returns-2 c = search storing-end
@@ -65,18 +32,18 @@ store-origins-spec =
     Inv-loop
     μ-loop
     loop-holds
-    mul-mapping-at
-    add-mapping-at
+    (λ c. search needs)
+    (λ c. search needs)
     mapping-at-requires
-    is-right-requires
-    origin-word-requires
-    add-work
-    mul-work
-    slice-write-work
-    add-k
-    loop-less
+    (λ c κs. search needs)
+    (λ c κs. search needs)
+    (λ c. search needs)
+    (λ c. search needs)
+    (λ c. search needs)
+    (λ c. search needs)
+    (λ c. search needs)
     loop-again
-    same-length
+    (λ c. search needs)
     returns
-    same-length-2
+    (λ c. search needs)
     returns-2)

@@ -3,9 +3,6 @@ use Rattle.compose_origins.proofs.stored.Statement.{statement}
 use Rattle.compose_origins.proofs.stored.Tie as tie
 use Rattle.compose_origins.proofs.WitnessLaws.{stored-true, stored-false}
 
-add-t6 : tie.Need-add-t6
-add-t6 c = search needs
-
 returns : tie.Need-returns
 returns c = search stored-true
 
@@ -13,4 +10,4 @@ returns-2 : tie.Need-returns-2
 returns-2 c = search stored-false
 
 pub stored-spec : {M : Type 1} → statement M
-stored-spec = tie.close (tie.spec add-t6 returns returns-2)
+stored-spec = tie.close (tie.spec (λ c. search needs) returns returns-2)

@@ -6,15 +6,6 @@ use native.Mathlib.Omega.{arith}
 use Rattle.text_print.proofs.PrintsLaws.{Word}
 use lib.ListN.{length}
 
-mul-print-set : tie.Need-mul-print-set
-mul-print-set c = search needs
-
-sub-print-set : tie.Need-sub-print-set
-sub-print-set c = search needs
-
-part-print-set-start : tie.Need-part-print-set-start
-part-print-set-start c = search needs
-
 part-print-set-end : tie.Need-part-print-set-end
 part-print-set-end c = omega (arith, bads-end _ _ _ _ _ _ (c .before .before .before .before .before .before .pre .0))
 
@@ -24,9 +15,6 @@ print-set-requires c κs = search bads-small
 print-constraints-requires : tie.Need-print-constraints-requires
 print-constraints-requires c κs = (search needs, search needs)
 
-same-length : tie.Need-same-length
-same-length c = search needs
-
 returns : tie.Need-returns
 returns c = let small : Word (length (c .before .before .before .before .before .before .before .before .before .before .before .before .before .before .args .out .now)) = omega arith in search bads-printed
 
@@ -34,11 +22,11 @@ pub print-bads-spec : {M : Type 1} → statement M
 print-bads-spec =
     tie.close
     (tie.spec
-    mul-print-set
-    sub-print-set
-    part-print-set-start
+    (λ c. search needs)
+    (λ c. search needs)
+    (λ c. search needs)
     part-print-set-end
     print-set-requires
     print-constraints-requires
-    same-length
+    (λ c. search needs)
     returns)

@@ -6,15 +6,6 @@ use native.Mathlib.Omega.{arith}
 use Rattle.text_print.proofs.PrintsLaws.{Word}
 use lib.ListN.{length}
 
-add-first : tie.Need-add-first
-add-first c = search needs
-
-add-first-2 : tie.Need-add-first-2
-add-first-2 c = search needs
-
-mul-print-gates : tie.Need-mul-print-gates
-mul-print-gates c = search needs
-
 sub-print-gates : tie.Need-sub-print-gates
 sub-print-gates c = omega (arith, gates-end _ _ _ _ _ _ (c .before .before .before .before .before .before .before .pre .0))
 
@@ -33,9 +24,6 @@ print-gates-requires c κs = search gates-can
 print-input-names-requires : tie.Need-print-input-names-requires
 print-input-names-requires c κs = (search needs, search needs)
 
-same-length : tie.Need-same-length
-same-length c = search needs
-
 returns : tie.Need-returns
 returns c = let small : Word (length (c .before .before .before .before .before .before .before .before .before .before .before .before .before .before .before .before .args .out .now)) = omega arith in search gates-printed
 
@@ -43,14 +31,14 @@ pub print-gates-spec : {M : Type 1} → statement M
 print-gates-spec =
     tie.close
     (tie.spec
-    add-first
-    add-first-2
-    mul-print-gates
+    (λ c. search needs)
+    (λ c. search needs)
+    (λ c. search needs)
     sub-print-gates
     part-print-gates-start
     part-print-gates-end
     add-print-gates
     print-gates-requires
     print-input-names-requires
-    same-length
+    (λ c. search needs)
     returns)

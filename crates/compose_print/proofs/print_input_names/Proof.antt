@@ -6,17 +6,11 @@ use native.Mathlib.Omega.{arith}
 use Rattle.text_print.proofs.PrintsLaws.{Word}
 use lib.ListN.{length}
 
-add-print-symbols : tie.Need-add-print-symbols
-add-print-symbols c = search needs
-
 print-symbols-requires : tie.Need-print-symbols-requires
 print-symbols-requires c κs = (search input-symbols, search needs)
 
 print-latch-names-requires : tie.Need-print-latch-names-requires
 print-latch-names-requires c κs = (search needs, search needs)
-
-same-length : tie.Need-same-length
-same-length c = search needs
 
 returns : tie.Need-returns
 returns c = let small : Word (length (c .before .before .before .before .before .before .before .before .before .before .before .before .before .before .args .out .now)) = omega arith in search input-names-printed
@@ -25,8 +19,8 @@ pub print-input-names-spec : {M : Type 1} → statement M
 print-input-names-spec =
     tie.close
     (tie.spec
-    add-print-symbols
+    (λ c. search needs)
     print-symbols-requires
     print-latch-names-requires
-    same-length
+    (λ c. search needs)
     returns)

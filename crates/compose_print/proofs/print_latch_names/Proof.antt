@@ -6,23 +6,8 @@ use native.Mathlib.Omega.{arith}
 use Rattle.text_print.proofs.PrintsLaws.{Word}
 use lib.ListN.{length}
 
-add-numbers : tie.Need-add-numbers
-add-numbers c = search needs
-
-add-numbers-2 : tie.Need-add-numbers-2
-add-numbers-2 c = search needs
-
-add-first : tie.Need-add-first
-add-first c = search needs
-
 print-symbols-requires : tie.Need-print-symbols-requires
 print-symbols-requires c κs = (search latch-symbols, search needs)
-
-print-closing-requires : tie.Need-print-closing-requires
-print-closing-requires c κs = search needs
-
-same-length : tie.Need-same-length
-same-length c = search needs
 
 returns : tie.Need-returns
 returns c = let small : Word (length (c .before .before .before .before .before .before .before .before .before .before .before .before .before .before .before .before .args .out .now)) = omega arith in search latch-names-printed
@@ -31,10 +16,10 @@ pub print-latch-names-spec : {M : Type 1} → statement M
 print-latch-names-spec =
     tie.close
     (tie.spec
-    add-numbers
-    add-numbers-2
-    add-first
+    (λ c. search needs)
+    (λ c. search needs)
+    (λ c. search needs)
     print-symbols-requires
-    print-closing-requires
-    same-length
+    (λ c κs. search needs)
+    (λ c. search needs)
     returns)

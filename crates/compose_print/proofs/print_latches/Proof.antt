@@ -6,24 +6,6 @@ use native.Mathlib.Omega.{arith}
 use Rattle.text_print.proofs.PrintsLaws.{Word}
 use lib.ListN.{length}
 
-add-first : tie.Need-add-first
-add-first c = search needs
-
-mul-end : tie.Need-mul-end
-mul-end c = search needs
-
-add-end : tie.Need-add-end
-add-end c = search needs
-
-mul-print-pairs : tie.Need-mul-print-pairs
-mul-print-pairs c = search needs
-
-sub-print-pairs : tie.Need-sub-print-pairs
-sub-print-pairs c = search needs
-
-part-print-pairs-start : tie.Need-part-print-pairs-start
-part-print-pairs-start c = search needs
-
 part-print-pairs-end : tie.Need-part-print-pairs-end
 part-print-pairs-end c = omega (arith, definitions-end _ _ _ _ _ _ (c .before .before .before .before .before .before .before .before .pre .0))
 
@@ -33,9 +15,6 @@ print-pairs-requires c κs = search latches-small
 print-bads-requires : tie.Need-print-bads-requires
 print-bads-requires c κs = (search needs, search needs)
 
-same-length : tie.Need-same-length
-same-length c = search needs
-
 returns : tie.Need-returns
 returns c = let small : Word (length (c .before .before .before .before .before .before .before .before .before .before .before .before .before .before .before .before .args .out .now)) = omega arith in search latches-printed
 
@@ -43,14 +22,14 @@ pub print-latches-spec : {M : Type 1} → statement M
 print-latches-spec =
     tie.close
     (tie.spec
-    add-first
-    mul-end
-    add-end
-    mul-print-pairs
-    sub-print-pairs
-    part-print-pairs-start
+    (λ c. search needs)
+    (λ c. search needs)
+    (λ c. search needs)
+    (λ c. search needs)
+    (λ c. search needs)
+    (λ c. search needs)
     part-print-pairs-end
     print-pairs-requires
     print-bads-requires
-    same-length
+    (λ c. search needs)
     returns)

@@ -5,44 +5,11 @@ use Rattle.key_table.proofs.AddLaws.{node-stored}
 use Rattle.key_table.proofs.add.Statement.{statement}
 use Rattle.key_table.proofs.add.Tie as tie
 
-add-table : tie.Need-add-table
-add-table c = search needs
-
-mul-table : tie.Need-mul-table
-mul-table c = search needs
-
-slice-write-table : tie.Need-slice-write-table
-slice-write-table c = search needs
-
-add-table-2 : tie.Need-add-table-2
-add-table-2 c = search needs
-
-mul-table-2 : tie.Need-mul-table-2
-mul-table-2 c = search needs
-
 slice-write-table-2 : tie.Need-slice-write-table-2
 slice-write-table-2 c = simp length-set (omega arith)
 
-add-table-3 : tie.Need-add-table-3
-add-table-3 c = search needs
-
-mul-table-3 : tie.Need-mul-table-3
-mul-table-3 c = search needs
-
 slice-write-table-3 : tie.Need-slice-write-table-3
 slice-write-table-3 c = simp length-set (omega arith)
-
-add-table-4 : tie.Need-add-table-4
-add-table-4 c = search needs
-
-mul-table-4 : tie.Need-mul-table-4
-mul-table-4 c = search needs
-
-slice-write-table-4 : tie.Need-slice-write-table-4
-slice-write-table-4 c = search needs
-
-same-length : tie.Need-same-length
-same-length c = search needs
 
 returns : tie.Need-returns
 returns c = search node-stored
@@ -51,17 +18,17 @@ pub add-spec : {M : Type 1} → statement M
 add-spec =
     tie.close
     (tie.spec
-    add-table
-    mul-table
-    slice-write-table
-    add-table-2
-    mul-table-2
+    (λ c. search needs)
+    (λ c. search needs)
+    (λ c. search needs)
+    (λ c. search needs)
+    (λ c. search needs)
     slice-write-table-2
-    add-table-3
-    mul-table-3
+    (λ c. search needs)
+    (λ c. search needs)
     slice-write-table-3
-    add-table-4
-    mul-table-4
-    slice-write-table-4
-    same-length
+    (λ c. search needs)
+    (λ c. search needs)
+    (λ c. search needs)
+    (λ c. search needs)
     returns)

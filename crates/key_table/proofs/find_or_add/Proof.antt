@@ -6,8 +6,6 @@ use Rattle.key_table.proofs.AddLaws.{finds-known, finds-new}
 use borrow.Author.Needs.{needs}
 use Rattle.key_table.proofs.find_or_add.Statement.{statement}
 use Rattle.key_table.proofs.find_or_add.Tie as tie
-use Rattle.key_table.proofs.find_or_add.Reads as reads
-use Rattle.key_table.proofs.find_or_add.Lts as lts
 use Rattle.lists.proofs.index.Reads as index-reads
 use Rattle.key_table.proofs.add.Reads as add-reads
 use Rattle.key_table.proofs.walk.Reads as walk-reads
@@ -19,42 +17,21 @@ within c =
     let end = c .walk .ensures in
     comes-within (start .args .heads) (start .args .key) (start .args .table .now) (start .pre .base) (c .walk .result) (end .code) (end .comes)
 
-walk-requires : tie.Need-walk-requires
-walk-requires c κs = search needs
-
 mul-index : tie.Need-mul-index
 mul-index c = omega (arith, within c)
 
 slice-read-index : tie.Need-slice-read-index
 slice-read-index c = within (c .before)
 
-index-requires : tie.Need-index-requires
-index-requires c κs = search needs
-
-mul-add : tie.Need-mul-add
-mul-add c = search needs
-
-add-add : tie.Need-add-add
-add-add c = search needs
-
 add-requires : tie.Need-add-requires
 add-requires c κs =
     let p = c .before .before .before .before .before .before .before .pre in
     (omega (arith, p .room), within (c .before .before .before .before), p .base .word, omega (arith, p .room))
 
-same-length : tie.Need-same-length
-same-length c = search needs
-
 returns : tie.Need-returns
 returns c =
     let p = c .before .before .before .before .before .before .before .before .before .before .pre in
     finds-new _ _ _ _ _ _ _ (p .base .some) (p .room) (c .before .before .before .before .before .before .before .walk .ensures) (c .before .before .before .before .before .index .ensures) (c .before .before .before .before .if1 .taken) (c .before .before .add .ensures)
-
-sub-result : tie.Need-sub-result
-sub-result c = search needs
-
-same-length-2 : tie.Need-same-length-2
-same-length-2 c = search needs
 
 returns-2 : tie.Need-returns-2
 returns-2 c = finds-known _ _ _ _ _ _ (c .before .before .before .before .before .before .pre .base .some) (c .before .before .before .walk .ensures) (c .before .index .ensures) (c .if1 .left)
@@ -63,15 +40,15 @@ pub find-or-add-spec : {M : Type 1} → statement M
 find-or-add-spec =
     tie.close
     (tie.spec
-    walk-requires
+    (λ c κs. search needs)
     mul-index
     slice-read-index
-    index-requires
-    mul-add
-    add-add
+    (λ c κs. search needs)
+    (λ c. search needs)
+    (λ c. search needs)
     add-requires
-    same-length
+    (λ c. search needs)
     returns
-    sub-result
-    same-length-2
+    (λ c. search needs)
+    (λ c. search needs)
     returns-2)

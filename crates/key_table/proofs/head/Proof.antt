@@ -6,18 +6,7 @@ use Rattle.key_table.proofs.HashLaws.{product-fits}
 use borrow.Author.Needs.{needs}
 use Rattle.key_table.proofs.head.Statement.{statement}
 use Rattle.key_table.proofs.head.Tie as tie
-use Rattle.key_table.proofs.head.Reads as reads
-use Rattle.key_table.proofs.head.Lts as lts
 use Rattle.lists.proofs.index.Reads as index-reads
-
-add-folded : tie.Need-add-folded
-add-folded c = search needs
-
-mul-scattered : tie.Need-mul-scattered
-mul-scattered c = search needs
-
-index-requires : tie.Need-index-requires
-index-requires c κs = search needs
 
 mul-result : tie.Need-mul-result
 mul-result c = record { fits = product-fits (c .index .result) (c .before .args .heads) (omega (arith, c .index .ensures)) (c .before .pre) }
@@ -27,4 +16,4 @@ unfolding headOf
 returns c = ap (λ (i : ℕ). i * c .before .args .heads / 4294967296) (c .index .ensures)
 
 pub head-spec : {M : Type 1} → statement M
-head-spec = tie.close (tie.spec add-folded mul-scattered index-requires mul-result returns)
+head-spec = tie.close (tie.spec (λ c. search needs) (λ c. search needs) (λ c κs. search needs) mul-result returns)

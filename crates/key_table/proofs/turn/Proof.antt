@@ -4,11 +4,6 @@ use Rattle.key_table.proofs.HashLaws.{turned-fits}
 use borrow.Author.Needs.{needs}
 use Rattle.key_table.proofs.turn.Statement.{statement}
 use Rattle.key_table.proofs.turn.Tie as tie
-use Rattle.key_table.proofs.turn.Reads as reads
-use Rattle.key_table.proofs.turn.Lts as lts
-
-mul-result : tie.Need-mul-result
-mul-result c = search needs
 
 add-result : tie.Need-add-result
 add-result c = record { fits = turned-fits (c .args .mixed) (omega arith) }
@@ -18,4 +13,4 @@ unfolding codeOf
 returns c = search needs
 
 pub turn-spec : {M : Type 1} → statement M
-turn-spec = tie.close (tie.spec mul-result add-result returns)
+turn-spec = tie.close (tie.spec (λ c. search needs) add-result returns)

@@ -6,8 +6,6 @@ use Rattle.key_table.proofs.HeldLaws.{Ahead, comes-none, comes-within, 
 use borrow.Author.Needs.{needs}
 use Rattle.key_table.proofs.walk.Statement.{statement}
 use Rattle.key_table.proofs.walk.Tie as tie
-use Rattle.key_table.proofs.walk.Reads as reads
-use Rattle.key_table.proofs.walk.Lts as lts
 use Rattle.lists.proofs.index.Reads as index-reads
 use Rattle.key_table.proofs.head.Reads as head-reads
 use Rattle.key_table.proofs.mix.Reads as mix-reads
@@ -32,15 +30,6 @@ ahead c =
     let turn = c .before .before .before .loop in
     comes-ahead (start .args .heads) (start .args .key) (start .args .table .now) (start .pre) (turn .at) (turn .code) (turn .inv) (c .before .index .result) (c .before .index .ensures) (c .if1 .left)
 
-mix-requires : tie.Need-mix-requires Inv-loop μ-loop
-mix-requires c κs = search needs
-
-head-requires : tie.Need-head-requires Inv-loop μ-loop
-head-requires c κs = search needs
-
-turn-requires : tie.Need-turn-requires Inv-loop μ-loop
-turn-requires c κs = search needs
-
 loop-holds : tie.Need-loop-holds Inv-loop μ-loop
 loop-holds c = search comes-none
 
@@ -50,14 +39,8 @@ mul-index c = omega (arith, within c)
 shared-slice-read-index : tie.Need-shared-slice-read-index Inv-loop μ-loop
 shared-slice-read-index c = within (c .before)
 
-index-requires : tie.Need-index-requires Inv-loop μ-loop
-index-requires c κs = search needs
-
 returns : tie.Need-returns Inv-loop μ-loop
 returns c = walked-none _ _ _ _ _ (c .before .before .before .loop .inv) _ (c .before .index .ensures) (c .if1 .taken)
-
-sub-node : tie.Need-sub-node Inv-loop μ-loop
-sub-node c = search needs
 
 mul-node : tie.Need-mul-node Inv-loop μ-loop
 mul-node c = omega (arith, ahead c)
@@ -71,17 +54,11 @@ mul-if2 c = omega (arith, ahead c)
 shared-slice-read-if2 : tie.Need-shared-slice-read-if2 Inv-loop μ-loop
 shared-slice-read-if2 c = omega (arith, ahead (c .before))
 
-add-if2 : tie.Need-add-if2 Inv-loop μ-loop
-add-if2 c = search needs
-
 returns-2 : tie.Need-returns-2 Inv-loop μ-loop
 returns-2 c = walked-found _ _ _ _ _ (c .before .before .before .before .before .loop .inv) _ (c .before .before .before .index .ensures) (c .if2 .taken)
 
 add-at : tie.Need-add-at Inv-loop μ-loop
 add-at c = omega (arith, ahead (c .before .before))
-
-index-requires-2 : tie.Need-index-requires-2 Inv-loop μ-loop
-index-requires-2 c κs = search needs
 
 add-at-2 : tie.Need-add-at-2 Inv-loop μ-loop
 add-at-2 c = omega (arith, ahead (c .before .before .before))
@@ -99,23 +76,23 @@ walk-spec =
     (tie.spec
     Inv-loop
     μ-loop
-    mix-requires
-    head-requires
-    turn-requires
+    (λ c κs. search needs)
+    (λ c κs. search needs)
+    (λ c κs. search needs)
     loop-holds
     mul-index
     shared-slice-read-index
-    index-requires
+    (λ c κs. search needs)
     returns
-    sub-node
+    (λ c. search needs)
     mul-node
     add-node
     mul-if2
     shared-slice-read-if2
-    add-if2
+    (λ c. search needs)
     returns-2
     add-at
-    index-requires-2
+    (λ c κs. search needs)
     add-at-2
     loop-less
     loop-again)

@@ -7,27 +7,6 @@ use Rattle.lists.proofs.add.Tie as tie
 returns : tie.Need-returns
 returns c = (search free-outside, search mark-outside)
 
-mul-was : tie.Need-mul-was
-mul-was c = search needs
-
-slice-read-was : tie.Need-slice-read-was
-slice-read-was c = search needs
-
-shl-words : tie.Need-shl-words
-shl-words c = search needs
-
-mul-words : tie.Need-mul-words
-mul-words c = search needs
-
-slice-write-words : tie.Need-slice-write-words
-slice-write-words c = search needs
-
-shr-result : tie.Need-shr-result
-shr-result c = search needs
-
-same-length : tie.Need-same-length
-same-length c = search needs
-
 returns-2 : tie.Need-returns-2
 unfolding withBit
 returns-2 c = (search free-bit, simp shifted-one)
@@ -37,11 +16,11 @@ add-spec =
     tie.close
     (tie.spec
     returns
-    mul-was
-    slice-read-was
-    shl-words
-    mul-words
-    slice-write-words
-    shr-result
-    same-length
+    (λ c. search needs)
+    (λ c. search needs)
+    (λ c. search needs)
+    (λ c. search needs)
+    (λ c. search needs)
+    (λ c. search needs)
+    (λ c. search needs)
     returns-2)

@@ -8,8 +8,6 @@ use Rattle.lists.proofs.TestLaws.{all-stop, all-more, all-end}
 use borrow.Author.Needs.{needs}
 use Rattle.lists.proofs.below.Statement.{statement}
 use Rattle.lists.proofs.below.Tie as tie
-use Rattle.lists.proofs.below.Reads as reads
-use Rattle.lists.proofs.below.Lts as lts
 
 abbrev Inv-loop : tie.InvT-loop
 Inv-loop words n i₀ i = all (λ x. ltb x n) words ≡ all (λ x. ltb x n) (drop i words)
@@ -17,23 +15,8 @@ Inv-loop words n i₀ i = all (λ x. ltb x n) words ≡ all (λ x. ltb x n) (dro
 abbrev μ-loop : tie.MeasureT-loop
 μ-loop words n i₀ i = length words - i
 
-loop-holds : tie.Need-loop-holds Inv-loop μ-loop
-loop-holds c = search needs
-
-mul-if1 : tie.Need-mul-if1 Inv-loop μ-loop
-mul-if1 c = search needs
-
-shared-slice-read-if1 : tie.Need-shared-slice-read-if1 Inv-loop μ-loop
-shared-slice-read-if1 c = search needs
-
 returns : tie.Need-returns Inv-loop μ-loop
 returns c = search (all-stop, le-ltb)
-
-add-i : tie.Need-add-i Inv-loop μ-loop
-add-i c = search needs
-
-loop-less : tie.Need-loop-less Inv-loop μ-loop
-loop-less c = search needs
 
 loop-again : tie.Need-loop-again Inv-loop μ-loop
 loop-again c = search (all-more, lt-ltb)
@@ -47,11 +30,11 @@ below-spec =
     (tie.spec
     Inv-loop
     μ-loop
-    loop-holds
-    mul-if1
-    shared-slice-read-if1
+    (λ c. search needs)
+    (λ c. search needs)
+    (λ c. search needs)
     returns
-    add-i
-    loop-less
+    (λ c. search needs)
+    (λ c. search needs)
     loop-again
     returns-2)

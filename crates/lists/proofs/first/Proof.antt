@@ -8,11 +8,8 @@ use Rattle.lists.proofs.first.Tie as tie
 slice-aggregate-result : tie.Need-slice-aggregate-result
 slice-aggregate-result c = sym (length-take-le (c .before .before .args .n) (c .before .before .args .words .now) (omega arith))
 
-returns : tie.Need-returns
-returns c = search needs
-
 returns-2 : tie.Need-returns-2
 returns-2 c = sym (take-all (c .before .args .n) (c .before .args .words .now) (omega arith))
 
 pub first-spec : {M : Type 1} → statement M
-first-spec = tie.close (tie.spec slice-aggregate-result returns returns-2)
+first-spec = tie.close (tie.spec slice-aggregate-result (λ c. search needs) returns-2)

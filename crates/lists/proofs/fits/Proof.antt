@@ -10,11 +10,8 @@ use Rattle.lists.proofs.fits.Tie as tie
 returns : tie.Need-returns
 returns c = sym (lt-ltb (c .before .args .x) (2 ^ c .before .args .n) (rw (c .if1 .taken) (omega arith)))
 
-shr-rest : tie.Need-shr-rest
-shr-rest c = search needs
-
 returns-2 : tie.Need-returns-2
 returns-2 c = search fits-test
 
 pub fits-spec : {M : Type 1} → statement M
-fits-spec = tie.close (tie.spec returns shr-rest returns-2)
+fits-spec = tie.close (tie.spec returns (λ c. search needs) returns-2)

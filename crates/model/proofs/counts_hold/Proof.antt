@@ -26,12 +26,6 @@ returns-6 c = sym (counted-fails _ (λ k. omega (arith, k .most)))
 returns-7 : tie.Need-returns-7
 returns-7 c = sym (counted-fails _ (λ k. omega (arith, k .sum)))
 
-add-result : tie.Need-add-result
-add-result c = search needs
-
-add-result-2 : tie.Need-add-result-2
-add-result-2 c = search needs
-
 returns-8 : tie.Need-returns-8
 returns-8 c = counted-sum _ (omega arith) (omega arith) (omega arith) (omega arith) (omega arith) (omega arith)
 
@@ -46,6 +40,6 @@ counts-hold-spec =
     returns-5
     returns-6
     returns-7
-    add-result
-    add-result-2
+    (λ c. search needs)
+    (λ c. search needs)
     returns-8)

@@ -10,17 +10,8 @@ returns c = defining-zero _ _ _ (c .if1 .taken)
 returns-2 : tie.Need-returns-2
 returns-2 c = defining-odd _ _ _ (c .if2 .taken)
 
-index-requires : tie.Need-index-requires
-index-requires c κs = search needs
-
 returns-3 : tie.Need-returns-3
 returns-3 c = defining-high _ _ _ _ (c .before .index .ensures) (c .if3 .taken)
-
-add-requires : tie.Need-add-requires
-add-requires c κs = search needs
-
-same-length : tie.Need-same-length
-same-length c = search needs
 
 returns-4 : tie.Need-returns-4
 returns-4 c = let x = c .before .before .before .before .before .index in
@@ -30,4 +21,4 @@ returns-4 c = let x = c .before .before .before .before .before .index in
 pub define-spec : {M : Type 1} → statement M
 define-spec =
     tie.close
-    (tie.spec returns returns-2 index-requires returns-3 add-requires same-length returns-4)
+    (tie.spec returns returns-2 (λ c κs. search needs) returns-3 (λ c κs. search needs) (λ c. search needs) returns-4)

@@ -17,32 +17,11 @@ abbrev μ-loop : tie.MeasureT-loop
 loop-holds : tie.Need-loop-holds Inv-loop μ-loop
 loop-holds c = (refl, adds-start _ _)
 
-mul-define : tie.Need-mul-define Inv-loop μ-loop
-mul-define c = search needs
-
-shared-slice-read-define : tie.Need-shared-slice-read-define Inv-loop μ-loop
-shared-slice-read-define c = search needs
-
-define-requires : tie.Need-define-requires Inv-loop μ-loop
-define-requires c κs = search needs
-
-add-i : tie.Need-add-i Inv-loop μ-loop
-add-i c = search needs
-
-loop-less : tie.Need-loop-less Inv-loop μ-loop
-loop-less c = search needs
-
 loop-again : tie.Need-loop-again Inv-loop μ-loop
 loop-again c = (search needs, search adds-more)
 
-same-length : tie.Need-same-length Inv-loop μ-loop
-same-length c = search needs
-
 returns : tie.Need-returns Inv-loop μ-loop
 returns c = search adds-stop
-
-same-length-2 : tie.Need-same-length-2 Inv-loop μ-loop
-same-length-2 c = search needs
 
 returns-2 : tie.Need-returns-2 Inv-loop μ-loop
 returns-2 c = search adds-end
@@ -54,13 +33,13 @@ define-all-spec =
     Inv-loop
     μ-loop
     loop-holds
-    mul-define
-    shared-slice-read-define
-    define-requires
-    add-i
-    loop-less
+    (λ c. search needs)
+    (λ c. search needs)
+    (λ c κs. search needs)
+    (λ c. search needs)
+    (λ c. search needs)
     loop-again
-    same-length
+    (λ c. search needs)
     returns
-    same-length-2
+    (λ c. search needs)
     returns-2)

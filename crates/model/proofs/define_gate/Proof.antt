@@ -10,14 +10,8 @@ returns c = search (adds-disordered, left-not-smaller)
 returns-2 : tie.Need-returns-2
 returns-2 c = search (adds-disordered, right-not-smaller)
 
-define-requires : tie.Need-define-requires
-define-requires c κs = search needs
-
-same-length : tie.Need-same-length
-same-length c = search needs
-
 returns-3 : tie.Need-returns-3
 returns-3 c = search (adds-ordered, both-smaller)
 
 pub define-gate-spec : {M : Type 1} → statement M
-define-gate-spec = tie.close (tie.spec returns returns-2 define-requires same-length returns-3)
+define-gate-spec = tie.close (tie.spec returns returns-2 (λ c κs. search needs) (λ c. search needs) returns-3)

@@ -6,22 +6,10 @@ use Rattle.lists.proofs.ZeroLaws.{zeros-kept}
 use Rattle.model.proofs.definitions_hold.Statement.{statement}
 use Rattle.model.proofs.definitions_hold.Tie as tie
 
-define-leaves-requires : tie.Need-define-leaves-requires
-define-leaves-requires c κs = search needs
-
-define-gates-requires : tie.Need-define-gates-requires
-define-gates-requires c κs = search needs
-
-clear-requires : tie.Need-clear-requires
-clear-requires c κs = search needs
-
-same-length : tie.Need-same-length
-same-length c = search needs
-
 returns : tie.Need-returns
 returns c = (search definitions-say, zeros-kept _ (length (c .before .before .before .before .before .before .define-gates .last .0)) (length (c .before .before .before .before .before .before .before .before .before .before .before .before .before .before .before .args .marks .now)) (c .before .before .clear .ensures) (omega (arith, c .before .before .before .before .before .before .define-gates .kept .0, c .before .before .before .before .before .before .before .before .before .before .define-leaves .kept .1 .1 .1 .0)))
 
 pub definitions-hold-spec : {M : Type 1} → statement M
 definitions-hold-spec =
     tie.close
-    (tie.spec define-leaves-requires define-gates-requires clear-requires same-length returns)
+    (tie.spec (λ c κs. search needs) (λ c κs. search needs) (λ c κs. search needs) (λ c. search needs) returns)

@@ -6,9 +6,6 @@ use Rattle.model.proofs.limits_hold.Tie as tie
 returns : tie.Need-returns
 returns c = search too-little-work
 
-counts-hold-requires : tie.Need-counts-hold-requires
-counts-hold-requires c κs = search needs
-
 returns-2 : tie.Need-returns-2
 returns-2 c = search counts-fail
 
@@ -21,9 +18,6 @@ returns-4 c = search too-few-outputs
 returns-5 : tie.Need-returns-5
 returns-5 c = search too-few-gates
 
-literals-hold-requires : tie.Need-literals-hold-requires
-literals-hold-requires c κs = search needs
-
 returns-6 : tie.Need-returns-6
 returns-6 c = search limits-hold
 
@@ -35,11 +29,11 @@ limits-hold-spec =
     tie.close
     (tie.spec
     returns
-    counts-hold-requires
+    (λ c κs. search needs)
     returns-2
     returns-3
     returns-4
     returns-5
-    literals-hold-requires
+    (λ c κs. search needs)
     returns-6
     returns-7)

@@ -13,26 +13,11 @@ use Rattle.model.proofs.validate_parts.Tie as tie
 abbrev model : tie.Start → AigerTransition
 model s = recordFrom (s .args .n) (s .args .inputs .now) (s .args .latches) (s .args .outputs .now)
 
-clear-requires : tie.Need-clear-requires
-clear-requires c κs = search needs
-
-limits-hold-requires : tie.Need-limits-hold-requires
-limits-hold-requires c κs = search needs
-
-enum-known-verdict : tie.Need-enum-known-verdict
-enum-known-verdict c = search needs
-
-same-length : tie.Need-same-length
-same-length c = search needs
-
 returns : tie.Need-returns
 returns c =
     let l = c .before .before .before in
     let s = l .before .before .before .before .before .before .before .before .before in
     record { judges = limits-refuse (model s) (s .args .gates .now) _ (length (s .args .work .now)) refl _ (l .limits-hold .ensures) _ (c .before .verdict .given .1); clears = search needs }
-
-enum-told : tie.Need-enum-told
-enum-told c = search needs
 
 definitions-hold-requires : tie.Need-definitions-hold-requires
 definitions-hold-requires c κs =
@@ -41,12 +26,6 @@ definitions-hold-requires c κs =
     let s = k .before .before .before .before .before .before in
     checkable (model s) (s .args .gates .now) _ (length (s .args .work .now)) (k .clear .ensures)
     (limits-passed (model s) (s .args .gates .now) _ (length (s .args .work .now)) refl _ (l .limits-hold .ensures) (c .before .enum-told .given .1))
-
-same-length-2 : tie.Need-same-length-2
-same-length-2 c = search needs
-
-same-length-3 : tie.Need-same-length-3
-same-length-3 c = search needs
 
 returns-2 : tie.Need-returns-2
 returns-2 c =
@@ -76,14 +55,14 @@ pub validate-parts-spec : {M : Type 1} → statement M
 validate-parts-spec =
     tie.close
     (tie.spec
-    clear-requires
-    limits-hold-requires
-    enum-known-verdict
-    same-length
+    (λ c κs. search needs)
+    (λ c κs. search needs)
+    (λ c. search needs)
+    (λ c. search needs)
     returns
-    enum-told
+    (λ c. search needs)
     definitions-hold-requires
-    same-length-2
+    (λ c. search needs)
     returns-2
-    same-length-3
+    (λ c. search needs)
     returns-3)

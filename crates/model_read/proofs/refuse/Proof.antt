@@ -3,11 +3,8 @@ use Rattle.model_read.proofs.ReadLaws.{refused-with}
 use Rattle.model_read.proofs.refuse.Statement.{statement}
 use Rattle.model_read.proofs.refuse.Tie as tie
 
-no-model-requires : tie.Need-no-model-requires
-no-model-requires c κs = search needs
-
 returns : tie.Need-returns
 returns c = search refused-with
 
 pub refuse-spec : {M : Type 1} → statement M
-refuse-spec = tie.close (tie.spec no-model-requires returns)
+refuse-spec = tie.close (tie.spec (λ c κs. search needs) returns)

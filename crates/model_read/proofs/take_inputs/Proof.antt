@@ -3,14 +3,8 @@ use Rattle.model_read.proofs.StartLaws.{lent-length, taken-literals}
 use Rattle.model_read.proofs.take_inputs.Statement.{statement}
 use Rattle.model_read.proofs.take_inputs.Tie as tie
 
-array-borrow-prefix-inputs : tie.Need-array-borrow-prefix-inputs
-array-borrow-prefix-inputs c = search needs
-
 slice-aggregate-take-literals : tie.Need-slice-aggregate-take-literals
 slice-aggregate-take-literals c = lent-length 64 _ (c .before .before .pre)
-
-take-literals-requires : tie.Need-take-literals-requires
-take-literals-requires c κs = search needs
 
 returns : tie.Need-returns
 returns c = taken-literals 64 _ _ _ _ _ (c .before .before .before .before .pre) (c .before .take-literals .kept .1 .1 .1 .0) (c .before .take-literals .ensures)
@@ -19,7 +13,7 @@ pub take-inputs-spec : {M : Type 1} → statement M
 take-inputs-spec =
     tie.close
     (tie.spec
-    array-borrow-prefix-inputs
+    (λ c. search needs)
     slice-aggregate-take-literals
-    take-literals-requires
+    (λ c κs. search needs)
     returns)

@@ -3,14 +3,8 @@ use Rattle.model_read.proofs.StartLaws.{lent-length, taken-literals}
 use Rattle.model_read.proofs.take_outputs.Statement.{statement}
 use Rattle.model_read.proofs.take_outputs.Tie as tie
 
-array-borrow-prefix-outputs : tie.Need-array-borrow-prefix-outputs
-array-borrow-prefix-outputs c = search needs
-
 slice-aggregate-take-literals : tie.Need-slice-aggregate-take-literals
 slice-aggregate-take-literals c = lent-length 128 _ (c .before .before .pre)
-
-take-literals-requires : tie.Need-take-literals-requires
-take-literals-requires c κs = search needs
 
 returns : tie.Need-returns
 returns c = taken-literals 128 _ _ _ _ _ (c .before .before .before .before .pre) (c .before .take-literals .kept .1 .1 .1 .0) (c .before .take-literals .ensures)
@@ -19,7 +13,7 @@ pub take-outputs-spec : {M : Type 1} → statement M
 take-outputs-spec =
     tie.close
     (tie.spec
-    array-borrow-prefix-outputs
+    (λ c. search needs)
     slice-aggregate-take-literals
-    take-literals-requires
+    (λ c κs. search needs)
     returns)

@@ -27,29 +27,14 @@ valid c =
     let s = v .before .before .before .before .before .before in
     is-model (model s) (s .args .gates .now) (length (s .args .work .now)) _ (v .validate-parts .ensures .judges) (c .enum-told .given .1)
 
-validate-parts-requires : tie.Need-validate-parts-requires
-validate-parts-requires c κs = search needs
-
-enum-known-verdict : tie.Need-enum-known-verdict
-enum-known-verdict c = search needs
-
-same-length : tie.Need-same-length
-same-length c = search needs
-
 returns : tie.Need-returns
 returns c =
     let v = c .before .before .before .before .before in
     let s = v .before .before .before .before .before .before in
     (step-invalid (model s) (s .args .gates .now) (length (s .args .work .now)) (s .args .state) (s .args .input) _ (v .validate-parts .ensures .judges) _ (c .before .verdict .given .1), v .validate-parts .ensures .clears)
 
-enum-told : tie.Need-enum-told
-enum-told c = search needs
-
 fits-requires : tie.Need-fits-requires
 fits-requires c κs = omega (arith, runnable (valid c) .fewLatches)
-
-same-length-2 : tie.Need-same-length-2
-same-length-2 c = search needs
 
 returns-2 : tie.Need-returns-2
 returns-2 c =
@@ -58,14 +43,8 @@ returns-2 c =
     let s = v .before .before .before .before .before .before in
     (step-state (valid t) (eight s) (s .args .state) (s .args .input) _ (c .before .fits2 .ensures) (c .if1 .taken), v .validate-parts .ensures .clears)
 
-first-requires : tie.Need-first-requires
-first-requires c κs = search needs
-
 fits-requires-2 : tie.Need-fits-requires-2
 fits-requires-2 c κs = inputs-few (valid (c .before .before .before)) _ (c .first .ensures)
-
-same-length-3 : tie.Need-same-length-3
-same-length-3 c = search needs
 
 returns-3 : tie.Need-returns-3
 returns-3 c =
@@ -99,12 +78,6 @@ run-requires c κs =
     let v = t .before .before .before .before .validate-parts in
     step-words (valid t) (v .last .1 .1 .1 .1 .1 .0) (v .ensures .clears)
 
-clear-requires : tie.Need-clear-requires
-clear-requires c κs = search needs
-
-same-length-4 : tie.Need-same-length-4
-same-length-4 c = search needs
-
 returns-4 : tie.Need-returns-4
 returns-4 c =
     let r = c .before .before .before .before .before .before in
@@ -127,22 +100,22 @@ pub evaluate-parts-spec : {M : Type 1} → statement M
 evaluate-parts-spec =
     tie.close
     (tie.spec
-    validate-parts-requires
-    enum-known-verdict
-    same-length
+    (λ c κs. search needs)
+    (λ c. search needs)
+    (λ c. search needs)
     returns
-    enum-told
+    (λ c. search needs)
     fits-requires
-    same-length-2
+    (λ c. search needs)
     returns-2
-    first-requires
+    (λ c κs. search needs)
     fits-requires-2
-    same-length-3
+    (λ c. search needs)
     returns-3
     add-words
     slice-relend-prefix-run
     slice-aggregate-run
     run-requires
-    clear-requires
-    same-length-4
+    (λ c κs. search needs)
+    (λ c. search needs)
     returns-4)

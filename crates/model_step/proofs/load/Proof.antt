@@ -15,35 +15,14 @@ abbrev μ-loop : tie.MeasureT-loop
 loop-holds : tie.Need-loop-holds Inv-loop μ-loop
 loop-holds c = search loading-none
 
-mul-place : tie.Need-mul-place Inv-loop μ-loop
-mul-place c = search needs
-
-shared-slice-read-place : tie.Need-shared-slice-read-place Inv-loop μ-loop
-shared-slice-read-place c = search needs
-
-place-requires : tie.Need-place-requires Inv-loop μ-loop
-place-requires c κs = search needs
-
-shr-vals : tie.Need-shr-vals Inv-loop μ-loop
-shr-vals c = search needs
-
 mul-vals : tie.Need-mul-vals Inv-loop μ-loop
 mul-vals c = let h : c .place .result < length (c .before .before .before .loop .vals) = search loading-inside in omega arith
 
 slice-write-vals : tie.Need-slice-write-vals Inv-loop μ-loop
 slice-write-vals c = search loading-inside
 
-add-k : tie.Need-add-k Inv-loop μ-loop
-add-k c = search needs
-
-loop-less : tie.Need-loop-less Inv-loop μ-loop
-loop-less c = search needs
-
 loop-again : tie.Need-loop-again Inv-loop μ-loop
 loop-again c = search (loading-inside, loading-more)
-
-same-length : tie.Need-same-length Inv-loop μ-loop
-same-length c = search needs
 
 returns : tie.Need-returns Inv-loop μ-loop
 returns c = loading-done _ _ _ _ _ (c .before .loop .inv) (search needs)
@@ -55,14 +34,14 @@ load-spec =
     Inv-loop
     μ-loop
     loop-holds
-    mul-place
-    shared-slice-read-place
-    place-requires
-    shr-vals
+    (λ c. search needs)
+    (λ c. search needs)
+    (λ c κs. search needs)
+    (λ c. search needs)
     mul-vals
     slice-write-vals
-    add-k
-    loop-less
+    (λ c. search needs)
+    (λ c. search needs)
     loop-again
-    same-length
+    (λ c. search needs)
     returns)

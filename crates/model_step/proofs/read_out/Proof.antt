@@ -3,15 +3,6 @@ use Rattle.model_step.proofs.StepLaws.{read-low, read-all}
 use Rattle.model_step.proofs.read_out.Statement.{statement}
 use Rattle.model_step.proofs.read_out.Tie as tie
 
-word-requires : tie.Need-word-requires
-word-requires c κs = search needs
-
-word-requires-2 : tie.Need-word-requires-2
-word-requires-2 c κs = search needs
-
-first-requires : tie.Need-first-requires
-first-requires c κs = search needs
-
 word-requires-3 : tie.Need-word-requires-3
 word-requires-3 c κs = read-low _ _ _ _ (c .before .before .before .before .before .before .pre) (c .first .ensures)
 
@@ -20,4 +11,4 @@ returns c = search read-all
 
 pub read-out-spec : {M : Type 1} → statement M
 read-out-spec =
-    tie.close (tie.spec word-requires word-requires-2 first-requires word-requires-3 returns)
+    tie.close (tie.spec (λ c κs. search needs) (λ c κs. search needs) (λ c κs. search needs) word-requires-3 returns)

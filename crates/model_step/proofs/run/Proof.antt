@@ -15,26 +15,11 @@ loaded-2 c = c .load2 .kept .0 ∙ loaded (c .before .before .before .before .be
 computed : (c : tie.After-run-gates) → length (c .run-gates .last .0) ≡ length (c .before .before .before .before .before .before .before .before .before .before .before .before .before .before .before .before .before .before .before .args .vals .now)
 computed c = c .run-gates .kept .0 ∙ loaded-2 (c .before .before .before .before)
 
-currents-requires : tie.Need-currents-requires
-currents-requires c κs = search needs
-
-nexts-requires : tie.Need-nexts-requires
-nexts-requires c κs = search needs
-
-slice-aggregate-first : tie.Need-slice-aggregate-first
-slice-aggregate-first c = search needs
-
-first-requires : tie.Need-first-requires
-first-requires c κs = search needs
-
 load-requires : tie.Need-load-requires
 load-requires c κs =
     let k = c .before .before .before .before in
     let s = k .before .before .before .before .before in
     run-currents (s .pre .0) (s .args .vals .now) refl _ _ (k .currents .ensures) (c .first .ensures)
-
-first-requires-2 : tie.Need-first-requires-2
-first-requires-2 c κs = search needs
 
 load-requires-2 : tie.Need-load-requires-2
 load-requires-2 c κs =
@@ -48,24 +33,12 @@ run-gates-requires c κs =
     let s = l .before .before .before .before .before .before .before .before .before .before .before .before .before .before .before in
     run-words (s .pre .0) (l .load2 .last .0) (loaded-2 l)
 
-slice-aggregate-first-2 : tie.Need-slice-aggregate-first-2
-slice-aggregate-first-2 c = search needs
-
-first-requires-3 : tie.Need-first-requires-3
-first-requires-3 c κs = search needs
-
-first-requires-4 : tie.Need-first-requires-4
-first-requires-4 c κs = search needs
-
 read-out-requires : tie.Need-read-out-requires
 read-out-requires c κs =
     let g = c .before .before .before .before .before .before in
     let n = g .before .before .before .before .before .before .before .before .before .before .before .before .before in
     let s = n .before .before .before .before .before .before in
     run-reads (s .pre .0) (g .run-gates .last .0) (computed g) _ _ _ (n .nexts .ensures) (c .before .first3 .ensures) (c .first4 .ensures)
-
-same-length : tie.Need-same-length
-same-length c = search needs
 
 returns : tie.Need-returns
 returns c =
@@ -84,17 +57,17 @@ pub run-spec : {M : Type 1} → statement M
 run-spec =
     tie.close
     (tie.spec
-    currents-requires
-    nexts-requires
-    slice-aggregate-first
-    first-requires
+    (λ c κs. search needs)
+    (λ c κs. search needs)
+    (λ c. search needs)
+    (λ c κs. search needs)
     load-requires
-    first-requires-2
+    (λ c κs. search needs)
     load-requires-2
     run-gates-requires
-    slice-aggregate-first-2
-    first-requires-3
-    first-requires-4
+    (λ c. search needs)
+    (λ c κs. search needs)
+    (λ c κs. search needs)
     read-out-requires
-    same-length
+    (λ c. search needs)
     returns)

@@ -14,15 +14,6 @@ abbrev μ-loop : tie.MeasureT-loop
 loop-holds : tie.Need-loop-holds Inv-loop μ-loop
 loop-holds c = search packing-none
 
-sub-k : tie.Need-sub-k Inv-loop μ-loop
-sub-k c = search needs
-
-mul-value-of : tie.Need-mul-value-of Inv-loop μ-loop
-mul-value-of c = search needs
-
-shared-slice-read-value-of : tie.Need-shared-slice-read-value-of Inv-loop μ-loop
-shared-slice-read-value-of c = search needs
-
 value-of-requires : tie.Need-value-of-requires Inv-loop μ-loop
 value-of-requires c κs = search packing-inside
 
@@ -31,9 +22,6 @@ mul-r c = let h : c .value-of .result + 2 * c .before .before .before .loop .r <
 
 add-r : tie.Need-add-r Inv-loop μ-loop
 add-r c = let h : c .value-of .result + 2 * c .before .before .before .loop .r < 18446744073709551616 = search packing-room in omega arith
-
-loop-less : tie.Need-loop-less Inv-loop μ-loop
-loop-less c = search needs
 
 loop-again : tie.Need-loop-again Inv-loop μ-loop
 loop-again c = search packing-more
@@ -48,12 +36,12 @@ word-spec =
     Inv-loop
     μ-loop
     loop-holds
-    sub-k
-    mul-value-of
-    shared-slice-read-value-of
+    (λ c. search needs)
+    (λ c. search needs)
+    (λ c. search needs)
     value-of-requires
     mul-r
     add-r
-    loop-less
+    (λ c. search needs)
     loop-again
     returns)

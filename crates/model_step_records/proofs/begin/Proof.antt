@@ -5,33 +5,6 @@ use borrow.Author.Needs.{needs}
 use Rattle.model_step_records.proofs.begin.Statement.{statement}
 use Rattle.model_step_records.proofs.begin.Tie as tie
 
-counts-requires : tie.Need-counts-requires
-counts-requires c κs = search needs
-
-inputs-requires : tie.Need-inputs-requires
-inputs-requires c κs = search needs
-
-latches-requires : tie.Need-latches-requires
-latches-requires c κs = search needs
-
-clear-requires : tie.Need-clear-requires
-clear-requires c κs = search needs
-
-outputs-requires : tie.Need-outputs-requires
-outputs-requires c κs = search needs
-
-limits-hold-requires : tie.Need-limits-hold-requires
-limits-hold-requires c κs = search needs
-
-enum-known-verdict : tie.Need-enum-known-verdict
-enum-known-verdict c = search needs
-
-refuse-requires : tie.Need-refuse-requires
-refuse-requires c κs = search needs
-
-same-length : tie.Need-same-length
-same-length c = search needs
-
 returns : tie.Need-returns
 returns c =
     let e = c .before .before in
@@ -44,18 +17,6 @@ returns c =
     let s = n .before .before .before in
     λ gs same. begin-refused (s .args .model .now) _ (n .counts .ensures) _ (i .inputs .ensures) _ (l .latches .ensures) _ (o .outputs .ensures) (s .args .records)
     (length (s .args .work .now)) _ (v .limits-hold .ensures) gs same (s .args .state) (s .args .input) _ (e .verdict .given .1) _ (z .clear .ensures) _ (c .refuse .ensures)
-
-enum-told : tie.Need-enum-told
-enum-told c = search needs
-
-define-leaves-requires : tie.Need-define-leaves-requires
-define-leaves-requires c κs = search needs
-
-refuse-requires-2 : tie.Need-refuse-requires-2
-refuse-requires-2 c κs = search needs
-
-same-length-2 : tie.Need-same-length-2
-same-length-2 c = search needs
 
 returns-2 : tie.Need-returns-2
 returns-2 c =
@@ -90,9 +51,6 @@ compute-requires c κs =
     (length (s .args .work .now)) _ (v .limits-hold .ensures) (replicate (s .args .records) (gateFrom 0 0 0)) (length-replicate _ _) (s .args .state) (s .args .input)
     (t .enum-told .given .1) _ (z .clear .ensures) _ _ (d .define-leaves .ensures) (d .define-leaves .kept .1 .1 .1 .0) (p .if1 .left) (q .if2 .taken)
 
-same-length-3 : tie.Need-same-length-3
-same-length-3 c = search needs
-
 returns-3 : tie.Need-returns-3
 returns-3 c =
     let w = c .before .before in
@@ -110,9 +68,6 @@ returns-3 c =
     λ gs same. begin-computed (s .args .model .now) _ (n .counts .ensures) _ (i .inputs .ensures) _ (l .latches .ensures) _ (o .outputs .ensures) (s .args .records)
     (length (s .args .work .now)) _ (v .limits-hold .ensures) gs same (s .args .state) (s .args .input) (t .enum-told .given .1) _ (z .clear .ensures) _ _
     (d .define-leaves .ensures) (d .define-leaves .kept .1 .1 .1 .0) (p .if1 .left) (q .if2 .taken) _ _ (w .compute .ensures)
-
-same-length-4 : tie.Need-same-length-4
-same-length-4 c = search needs
 
 returns-4 : tie.Need-returns-4
 returns-4 c =
@@ -134,23 +89,23 @@ pub begin-spec : {M : Type 1} → statement M
 begin-spec =
     tie.close
     (tie.spec
-    counts-requires
-    inputs-requires
-    latches-requires
-    clear-requires
-    outputs-requires
-    limits-hold-requires
-    enum-known-verdict
-    refuse-requires
-    same-length
+    (λ c κs. search needs)
+    (λ c κs. search needs)
+    (λ c κs. search needs)
+    (λ c κs. search needs)
+    (λ c κs. search needs)
+    (λ c κs. search needs)
+    (λ c. search needs)
+    (λ c κs. search needs)
+    (λ c. search needs)
     returns
-    enum-told
-    define-leaves-requires
-    refuse-requires-2
-    same-length-2
+    (λ c. search needs)
+    (λ c κs. search needs)
+    (λ c κs. search needs)
+    (λ c. search needs)
     returns-2
     compute-requires
-    same-length-3
+    (λ c. search needs)
     returns-3
-    same-length-4
+    (λ c. search needs)
     returns-4)

@@ -3,23 +3,11 @@ use borrow.Author.Needs.{needs}
 use Rattle.model_step_records.proofs.compute.Statement.{statement}
 use Rattle.model_step_records.proofs.compute.Tie as tie
 
-counts-requires : tie.Need-counts-requires
-counts-requires c κs = search needs
-
-inputs-requires : tie.Need-inputs-requires
-inputs-requires c κs = search needs
-
-first-requires : tie.Need-first-requires
-first-requires c κs = search needs
-
 fits-requires : tie.Need-fits-requires
 fits-requires c κs =
     let n = c .before .before in
     let s = n .before .before .before in
     few-latches (s .args .model .now) (s .args .work .now) (s .pre) _ (n .counts .ensures)
-
-refuse-requires : tie.Need-refuse-requires
-refuse-requires c κs = search needs
 
 returns : tie.Need-returns
 returns c =
@@ -40,9 +28,6 @@ fits-requires-2 c κs =
     let s = n .before .before .before in
     few-inputs (s .args .model .now) (s .args .work .now) (s .pre) _ (n .counts .ensures) _ (i .inputs .ensures) _ (g .first .ensures)
 
-refuse-requires-2 : tie.Need-refuse-requires-2
-refuse-requires-2 c κs = search needs
-
 returns-2 : tie.Need-returns-2
 returns-2 c =
     let q = c .before in
@@ -55,21 +40,6 @@ returns-2 c =
     let s = n .before .before .before in
     λ given. input-unfit (s .args .model .now) (s .args .work .now) given _ (n .counts .ensures) _ (i .inputs .ensures) _ (g .first .ensures) (s .args .state)
     (s .args .input) _ (a .fits2 .ensures) (p .if1 .left) _ (b .fits3 .ensures) (q .if2 .taken) _ (c .refuse2 .ensures)
-
-latches-requires : tie.Need-latches-requires
-latches-requires c κs = search needs
-
-currents-requires : tie.Need-currents-requires
-currents-requires c κs = search needs
-
-clear-requires : tie.Need-clear-requires
-clear-requires c κs = search needs
-
-slice-aggregate-first : tie.Need-slice-aggregate-first
-slice-aggregate-first c = search needs
-
-first-requires-2 : tie.Need-first-requires-2
-first-requires-2 c κs = search needs
 
 load-requires : tie.Need-load-requires
 load-requires c κs =
@@ -106,9 +76,6 @@ load-requires-2 c κs =
     (a .fits2 .ensures) (p .if1 .left) _ (b .fits3 .ensures) (q .if2 .left) _ (l .latches .ensures) _ (k .currents .ensures) _ (z .clear .ensures) _ (h .first2 .ensures)
     (x .load .last .0) (x .load .kept .0)
 
-same-length : tie.Need-same-length
-same-length c = search needs
-
 returns-3 : tie.Need-returns-3
 returns-3 c =
     let y = c .before .before in
@@ -133,21 +100,21 @@ pub compute-spec : {M : Type 1} → statement M
 compute-spec =
     tie.close
     (tie.spec
-    counts-requires
-    inputs-requires
-    first-requires
+    (λ c κs. search needs)
+    (λ c κs. search needs)
+    (λ c κs. search needs)
     fits-requires
-    refuse-requires
+    (λ c κs. search needs)
     returns
     fits-requires-2
-    refuse-requires-2
+    (λ c κs. search needs)
     returns-2
-    latches-requires
-    currents-requires
-    clear-requires
-    slice-aggregate-first
-    first-requires-2
+    (λ c κs. search needs)
+    (λ c κs. search needs)
+    (λ c κs. search needs)
+    (λ c. search needs)
+    (λ c κs. search needs)
     load-requires
     load-requires-2
-    same-length
+    (λ c. search needs)
     returns-3)

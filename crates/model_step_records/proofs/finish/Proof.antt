@@ -3,39 +3,12 @@ use borrow.Author.Needs.{needs}
 use Rattle.model_step_records.proofs.finish.Statement.{statement}
 use Rattle.model_step_records.proofs.finish.Tie as tie
 
-clear-requires : tie.Need-clear-requires
-clear-requires c κs = search needs
-
-same-length : tie.Need-same-length
-same-length c = search needs
-
 returns : tie.Need-returns
 returns c =
     let z = c .before .before in
     let p = z .before .before in
     let s = p .before .before .before .before in
     λ ending. (finish-refused (s .args .model .now) _ _ ending (p .if1 .taken), z .clear .ensures)
-
-counts-requires : tie.Need-counts-requires
-counts-requires c κs = search needs
-
-latches-requires : tie.Need-latches-requires
-latches-requires c κs = search needs
-
-nexts-requires : tie.Need-nexts-requires
-nexts-requires c κs = search needs
-
-slice-aggregate-first : tie.Need-slice-aggregate-first
-slice-aggregate-first c = search needs
-
-first-requires : tie.Need-first-requires
-first-requires c κs = search needs
-
-outputs-requires : tie.Need-outputs-requires
-outputs-requires c κs = search needs
-
-first-requires-2 : tie.Need-first-requires-2
-first-requires-2 c κs = search needs
 
 read-out-requires : tie.Need-read-out-requires
 read-out-requires c κs =
@@ -48,12 +21,6 @@ read-out-requires c κs =
     let s = p .before .before .before .before in
     finish-reads (s .args .model .now) _ (s .args .work .now) (s .pre) (p .if1 .left) _ (n .counts .ensures) _ (l .latches .ensures) _ (k .nexts .ensures) _
     (g .first .ensures) _ (o .outputs .ensures) _ (c .first2 .ensures)
-
-clear-requires-2 : tie.Need-clear-requires-2
-clear-requires-2 c κs = search needs
-
-same-length-2 : tie.Need-same-length-2
-same-length-2 c = search needs
 
 returns-2 : tie.Need-returns-2
 returns-2 c =
@@ -74,17 +41,17 @@ pub finish-spec : {M : Type 1} → statement M
 finish-spec =
     tie.close
     (tie.spec
-    clear-requires
-    same-length
+    (λ c κs. search needs)
+    (λ c. search needs)
     returns
-    counts-requires
-    latches-requires
-    nexts-requires
-    slice-aggregate-first
-    first-requires
-    outputs-requires
-    first-requires-2
+    (λ c κs. search needs)
+    (λ c κs. search needs)
+    (λ c κs. search needs)
+    (λ c. search needs)
+    (λ c κs. search needs)
+    (λ c κs. search needs)
+    (λ c κs. search needs)
     read-out-requires
-    clear-requires-2
-    same-length-2
+    (λ c κs. search needs)
+    (λ c. search needs)
     returns-2)

@@ -15,23 +15,11 @@ next-requires c κs =
     let s = c .before .before .before .before .before .before .before in
     s .pre .more
 
-same-length : tie.Need-same-length
-same-length c = search needs
-
 returns : tie.Need-returns
 returns c =
     let x = c .before .before .before in
     let p = x .before .before in
     λ taking. take-computed taking (p .if1 .taken) _ (x .run-gate .kept .0) (x .run-gate .ensures) _ (c .next .ensures)
-
-define-gate-requires : tie.Need-define-gate-requires
-define-gate-requires c κs = search needs
-
-refuse-requires : tie.Need-refuse-requires
-refuse-requires c κs = search needs
-
-same-length-2 : tie.Need-same-length-2
-same-length-2 c = search needs
 
 returns-2 : tie.Need-returns-2
 returns-2 c =
@@ -50,9 +38,6 @@ next-requires-2 c κs =
     let s = c .before .before .before .before .before .before .before .before .before .before .before in
     s .pre .more
 
-same-length-3 : tie.Need-same-length-3
-same-length-3 c = search needs
-
 returns-3 : tie.Need-returns-3
 returns-3 c =
     let t = c .before in
@@ -70,9 +55,6 @@ compute-requires c κs =
     let s = p .before .before .before in
     take-valued (s .pre) (p .if1 .left) _ _ (d .define-gate .kept .0) (d .define-gate .ensures) (q .if2 .left) (t .if3 .left)
 
-same-length-4 : tie.Need-same-length-4
-same-length-4 c = search needs
-
 returns-4 : tie.Need-returns-4
 returns-4 c =
     let w = c .before .before in
@@ -88,16 +70,16 @@ take-gate-spec =
     (tie.spec
     run-gate-requires
     next-requires
-    same-length
+    (λ c. search needs)
     returns
-    define-gate-requires
-    refuse-requires
-    same-length-2
+    (λ c κs. search needs)
+    (λ c κs. search needs)
+    (λ c. search needs)
     returns-2
     add-if3
     next-requires-2
-    same-length-3
+    (λ c. search needs)
     returns-3
     compute-requires
-    same-length-4
+    (λ c. search needs)
     returns-4)

@@ -3,23 +3,8 @@ use Rattle.model_text.proofs.HeaderLaws.{header-bad, header-got, header
 use Rattle.model_text.proofs.take_header.Statement.{statement}
 use Rattle.model_text.proofs.take_header.Tie as tie
 
-slice-aggregate-take-header : tie.Need-slice-aggregate-take-header
-slice-aggregate-take-header c = search needs
-
-take-header-requires : tie.Need-take-header-requires
-take-header-requires c κs = search needs
-
-enum-known-count : tie.Need-enum-known-count
-enum-known-count c = search needs
-
-enum-told : tie.Need-enum-told
-enum-told c = search needs
-
 returns : tie.Need-returns
 returns c = search header-bad
-
-counts-of-requires : tie.Need-counts-of-requires
-counts-of-requires c κs = search needs
 
 returns-2 : tie.Need-returns-2
 returns-2 c = search header-got
@@ -31,11 +16,11 @@ pub take-header-spec : {M : Type 1} → statement M
 take-header-spec =
     tie.close
     (tie.spec
-    slice-aggregate-take-header
-    take-header-requires
-    enum-known-count
-    enum-told
+    (λ c. search needs)
+    (λ c κs. search needs)
+    (λ c. search needs)
+    (λ c. search needs)
     returns
-    counts-of-requires
+    (λ c κs. search needs)
     returns-2
     returns-3)

@@ -17,29 +17,8 @@ returns c = λ h. absurd (omega arith)
 loop-holds : tie.Need-loop-holds Inv-loop μ-loop
 loop-holds c = search latches-none
 
-take-latch-requires : tie.Need-take-latch-requires Inv-loop μ-loop
-take-latch-requires c κs = search needs
-
-enum-known-taken : tie.Need-enum-known-taken Inv-loop μ-loop
-enum-known-taken c = search needs
-
-mul-latches : tie.Need-mul-latches Inv-loop μ-loop
-mul-latches c = search needs
-
-array-set-from-latches : tie.Need-array-set-from-latches Inv-loop μ-loop
-array-set-from-latches c = search needs
-
-add-i : tie.Need-add-i Inv-loop μ-loop
-add-i c = search needs
-
-loop-less : tie.Need-loop-less Inv-loop μ-loop
-loop-less c = search needs
-
 loop-again : tie.Need-loop-again Inv-loop μ-loop
 loop-again c = search latches-more
-
-enum-told : tie.Need-enum-told Inv-loop μ-loop
-enum-told c = search needs
 
 returns-2 : tie.Need-returns-2 Inv-loop μ-loop
 returns-2 c = search latches-bad
@@ -55,13 +34,13 @@ take-latches-spec =
     μ-loop
     returns
     loop-holds
-    take-latch-requires
-    enum-known-taken
-    mul-latches
-    array-set-from-latches
-    add-i
-    loop-less
+    (λ c κs. search needs)
+    (λ c. search needs)
+    (λ c. search needs)
+    (λ c. search needs)
+    (λ c. search needs)
+    (λ c. search needs)
     loop-again
-    enum-told
+    (λ c. search needs)
     returns-2
     returns-3)

@@ -17,15 +17,6 @@ slice-aggregate-list-parts c = let s = c .before .before .before .before .before
 list-parts-requires : tie.Need-list-parts-requires
 list-parts-requires c κs = tt
 
-same-length : tie.Need-same-length
-same-length c = search needs
-
-same-length-2 : tie.Need-same-length-2
-same-length-2 c = search needs
-
-same-length-3 : tie.Need-same-length-3
-same-length-3 c = search needs
-
 returns : tie.Need-returns
 returns c = let p = c .before .before .before .before .before .before in
     let n = p .before .before .before .before .before .before .before .before .before .before in
@@ -39,7 +30,7 @@ terminal-completeness-cnf-spec =
     counts-of-requires
     slice-aggregate-list-parts
     list-parts-requires
-    same-length
-    same-length-2
-    same-length-3
+    (λ c. search needs)
+    (λ c. search needs)
+    (λ c. search needs)
     returns)

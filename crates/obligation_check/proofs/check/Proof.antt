@@ -5,8 +5,6 @@ use Rattle.model.specs.Circuit.{recordFrom}
 use borrow.Author.Needs.{needs}
 use Rattle.obligation_check.proofs.check.Statement.{statement}
 use Rattle.obligation_check.proofs.check.Tie as tie
-use Rattle.obligation_check.proofs.check.Reads as reads
-use Rattle.obligation_check.proofs.check.Lts as lts
 use Rattle.obligation_check.proofs.validate_boundary.Reads as validate-boundary-reads
 use Rattle.model.proofs.validate_parts.Reads as validate-parts-reads
 
@@ -14,37 +12,16 @@ use Rattle.model.proofs.validate_parts.Reads as validate-parts-reads
 abbrev question : tie.Start → Asked
 question s = askedOf (recordFrom (s .args .n) (s .args .inputs .now) (s .args .latches) (s .args .outputs .now)) (s .args .gates .now) (s .args .relevant .now) (s .args .predicate .now) (s .args .terms .now)
 
-validate-parts-requires : tie.Need-validate-parts-requires
-validate-parts-requires c κs = search needs
-
-enum-told : tie.Need-enum-told
-enum-told c = search needs
-
-enum-told-2 : tie.Need-enum-told-2
-enum-told-2 c = search needs
-
-same-length : tie.Need-same-length
-same-length c = search needs
-
 returns : tie.Need-returns
 returns c = let v = c .before .before .before .before in
     let s = v .before .before .before .before .before .before .before .before .before in
     check-refused (question s) _ _ _ (v .validate-parts .ensures) _ (c .enum-told2 .given .1)
-
-validate-boundary-requires : tie.Need-validate-boundary-requires
-validate-boundary-requires c κs = search needs
-
-same-length-2 : tie.Need-same-length-2
-same-length-2 c = search needs
 
 returns-2 : tie.Need-returns-2
 returns-2 c = let t = c .before .before in
     let v = t .before .before .before .before in
     let s = v .before .before .before .before .before .before .before .before .before in
     check-valid (question s) _ _ _ (v .validate-parts .ensures) (t .enum-told .given .1) _ (c .before .validate-boundary .ensures) (c .if1 .taken)
-
-same-length-3 : tie.Need-same-length-3
-same-length-3 c = search needs
 
 returns-3 : tie.Need-returns-3
 returns-3 c = let t = c .before .before in
@@ -56,13 +33,13 @@ pub check-spec : {M : Type 1} → statement M
 check-spec =
     tie.close
     (tie.spec
-    validate-parts-requires
-    enum-told
-    enum-told-2
-    same-length
+    (λ c κs. search needs)
+    (λ c. search needs)
+    (λ c. search needs)
+    (λ c. search needs)
     returns
-    validate-boundary-requires
-    same-length-2
+    (λ c κs. search needs)
+    (λ c. search needs)
     returns-2
-    same-length-3
+    (λ c. search needs)
     returns-3)

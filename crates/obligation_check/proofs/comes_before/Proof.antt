@@ -1,8 +1,6 @@
 use Rattle.obligation_check.proofs.OutcomeLaws.{before-target, before-high, before-low}
 use Rattle.obligation_check.proofs.comes_before.Statement.{statement}
 use Rattle.obligation_check.proofs.comes_before.Tie as tie
-use Rattle.obligation_check.proofs.comes_before.Reads as reads
-use Rattle.obligation_check.proofs.comes_before.Lts as lts
 
 returns : tie.Need-returns
 returns c = search before-target

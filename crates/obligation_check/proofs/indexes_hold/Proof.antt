@@ -9,8 +9,6 @@ use Rattle.obligation_check.specs.Boundary.{indexes}
 use borrow.Author.Needs.{needs}
 use Rattle.obligation_check.proofs.indexes_hold.Statement.{statement}
 use Rattle.obligation_check.proofs.indexes_hold.Tie as tie
-use Rattle.obligation_check.proofs.indexes_hold.Reads as reads
-use Rattle.obligation_check.proofs.indexes_hold.Lts as lts
 
 abbrev Inv-loop : tie.InvT-loop
 Inv-loop clause n i₀ i = indexes n clause ≡ all (λ w. ltb (w / 2) n) (drop i clause)
@@ -18,23 +16,8 @@ Inv-loop clause n i₀ i = indexes n clause ≡ all (λ w. ltb (w / 2) n) (drop 
 abbrev μ-loop : tie.MeasureT-loop
 μ-loop clause n i₀ i = length clause - i
 
-loop-holds : tie.Need-loop-holds Inv-loop μ-loop
-loop-holds c = search needs
-
-mul-if1 : tie.Need-mul-if1 Inv-loop μ-loop
-mul-if1 c = search needs
-
-shared-slice-read-if1 : tie.Need-shared-slice-read-if1 Inv-loop μ-loop
-shared-slice-read-if1 c = search needs
-
 returns : tie.Need-returns Inv-loop μ-loop
 returns c = search (all-stop, le-ltb)
-
-add-i : tie.Need-add-i Inv-loop μ-loop
-add-i c = search needs
-
-loop-less : tie.Need-loop-less Inv-loop μ-loop
-loop-less c = search needs
 
 loop-again : tie.Need-loop-again Inv-loop μ-loop
 loop-again c = search (all-more, lt-ltb)
@@ -48,11 +31,11 @@ indexes-hold-spec =
     (tie.spec
     Inv-loop
     μ-loop
-    loop-holds
-    mul-if1
-    shared-slice-read-if1
+    (λ c. search needs)
+    (λ c. search needs)
+    (λ c. search needs)
     returns
-    add-i
-    loop-less
+    (λ c. search needs)
+    (λ c. search needs)
     loop-again
     returns-2)

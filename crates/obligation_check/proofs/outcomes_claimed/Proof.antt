@@ -3,22 +3,14 @@ use Rattle.obligation_check.proofs.OutcomeLaws.{not-rising, not-outputs
 use borrow.Author.Needs.{needs}
 use Rattle.obligation_check.proofs.outcomes_claimed.Statement.{statement}
 use Rattle.obligation_check.proofs.outcomes_claimed.Tie as tie
-use Rattle.obligation_check.proofs.outcomes_claimed.Reads as reads
-use Rattle.obligation_check.proofs.outcomes_claimed.Lts as lts
 use Rattle.obligation_check.proofs.outcomes_fit.Reads as outcomes-fit-reads
 use Rattle.obligation_check.proofs.outcomes_rise.Reads as outcomes-rise-reads
 use Rattle.lists.proofs.below.Reads as below-reads
 use Rattle.lists.proofs.rises.Reads as rises-reads
 
-rises-requires : tie.Need-rises-requires
-rises-requires c κs = search needs
-
 returns : tie.Need-returns
 returns c = let s = c .before .before .before .before in
     not-rising _ _ _ (s .args .words .now) _ (c .before .rises .ensures) (c .if1 .taken)
-
-below-requires : tie.Need-below-requires
-below-requires c κs = search needs
 
 returns-2 : tie.Need-returns-2
 returns-2 c = let s = c .before .before .before .before .before .before in
@@ -26,9 +18,6 @@ returns-2 c = let s = c .before .before .before .before .before .before in
 
 returns-3 : tie.Need-returns-3
 returns-3 c = search too-many-outcomes
-
-outcomes-rise-requires : tie.Need-outcomes-rise-requires
-outcomes-rise-requires c κs = search needs
 
 returns-4 : tie.Need-returns-4
 returns-4 c = let s = c .before .before .before .before .before .before .before .before .before in
@@ -51,12 +40,12 @@ pub outcomes-claimed-spec : {M : Type 1} → statement M
 outcomes-claimed-spec =
     tie.close
     (tie.spec
-    rises-requires
+    (λ c κs. search needs)
     returns
-    below-requires
+    (λ c κs. search needs)
     returns-2
     returns-3
-    outcomes-rise-requires
+    (λ c κs. search needs)
     returns-4
     outcomes-fit-requires
     returns-5)

@@ -8,8 +8,6 @@ use Rattle.obligation_check.proofs.OutcomeLaws.{target-stop, bits-stop,
 use borrow.Author.Needs.{needs}
 use Rattle.obligation_check.proofs.outcomes_fit.Statement.{statement}
 use Rattle.obligation_check.proofs.outcomes_fit.Tie as tie
-use Rattle.obligation_check.proofs.outcomes_fit.Reads as reads
-use Rattle.obligation_check.proofs.outcomes_fit.Lts as lts
 use Rattle.obligation_check.proofs.bits_hold.Reads as bits-hold-reads
 use Rattle.obligation_check.proofs.outcome_at.Reads as outcome-at-reads
 use Rattle.obligation_check.proofs.states.Reads as states-reads
@@ -20,26 +18,8 @@ Inv-loop words latches n count top i₀ i = all (outcomeFits latches n) (outcome
 abbrev μ-loop : tie.MeasureT-loop
 μ-loop words latches n count top i₀ i = count - i
 
-states-requires : tie.Need-states-requires Inv-loop μ-loop
-states-requires c κs = search needs
-
-loop-holds : tie.Need-loop-holds Inv-loop μ-loop
-loop-holds c = search needs
-
-outcome-at-requires : tie.Need-outcome-at-requires Inv-loop μ-loop
-outcome-at-requires c κs = search needs
-
 returns : tie.Need-returns Inv-loop μ-loop
 returns c = search target-stop
-
-bits-hold-requires : tie.Need-bits-hold-requires Inv-loop μ-loop
-bits-hold-requires c κs = search needs
-
-add-i : tie.Need-add-i Inv-loop μ-loop
-add-i c = search needs
-
-loop-less : tie.Need-loop-less Inv-loop μ-loop
-loop-less c = search needs
 
 loop-again : tie.Need-loop-again Inv-loop μ-loop
 loop-again c = search fit-more
@@ -56,13 +36,13 @@ outcomes-fit-spec =
     (tie.spec
     Inv-loop
     μ-loop
-    states-requires
-    loop-holds
-    outcome-at-requires
+    (λ c κs. search needs)
+    (λ c. search needs)
+    (λ c κs. search needs)
     returns
-    bits-hold-requires
-    add-i
-    loop-less
+    (λ c κs. search needs)
+    (λ c. search needs)
+    (λ c. search needs)
     loop-again
     returns-2
     returns-3)

@@ -8,8 +8,6 @@ use Rattle.obligation_check.proofs.OutcomeLaws.{outcomes-fall, outcomes
 use borrow.Author.Needs.{needs}
 use Rattle.obligation_check.proofs.outcomes_rise.Statement.{statement}
 use Rattle.obligation_check.proofs.outcomes_rise.Tie as tie
-use Rattle.obligation_check.proofs.outcomes_rise.Reads as reads
-use Rattle.obligation_check.proofs.outcomes_rise.Lts as lts
 use Rattle.obligation_check.proofs.comes_before.Reads as comes-before-reads
 use Rattle.obligation_check.proofs.outcome_at.Reads as outcome-at-reads
 
@@ -18,27 +16,6 @@ Inv-loop words count i₀ i = (risingOutcomes (outcomesOf words) ≡ risingOutco
 
 abbrev μ-loop : tie.MeasureT-loop
 μ-loop words count i₀ i = count - i
-
-loop-holds : tie.Need-loop-holds Inv-loop μ-loop
-loop-holds c = search needs
-
-sub-outcome-at : tie.Need-sub-outcome-at Inv-loop μ-loop
-sub-outcome-at c = search needs
-
-outcome-at-requires : tie.Need-outcome-at-requires Inv-loop μ-loop
-outcome-at-requires c κs = search needs
-
-outcome-at-requires-2 : tie.Need-outcome-at-requires-2 Inv-loop μ-loop
-outcome-at-requires-2 c κs = search needs
-
-comes-before-requires : tie.Need-comes-before-requires Inv-loop μ-loop
-comes-before-requires c κs = search needs
-
-add-i : tie.Need-add-i Inv-loop μ-loop
-add-i c = search needs
-
-loop-less : tie.Need-loop-less Inv-loop μ-loop
-loop-less c = search needs
 
 loop-again : tie.Need-loop-again Inv-loop μ-loop
 loop-again c = (search outcomes-more, omega arith)
@@ -55,13 +32,13 @@ outcomes-rise-spec =
     (tie.spec
     Inv-loop
     μ-loop
-    loop-holds
-    sub-outcome-at
-    outcome-at-requires
-    outcome-at-requires-2
-    comes-before-requires
-    add-i
-    loop-less
+    (λ c. search needs)
+    (λ c. search needs)
+    (λ c κs. search needs)
+    (λ c κs. search needs)
+    (λ c κs. search needs)
+    (λ c. search needs)
+    (λ c. search needs)
     loop-again
     returns
     returns-2)

@@ -3,14 +3,9 @@ use Rattle.lists.proofs.BitLaws.{power-word}
 use borrow.Author.Needs.{needs}
 use Rattle.obligation_check.proofs.states.Statement.{statement}
 use Rattle.obligation_check.proofs.states.Tie as tie
-use Rattle.obligation_check.proofs.states.Reads as reads
-use Rattle.obligation_check.proofs.states.Lts as lts
-
-shl-result : tie.Need-shl-result
-shl-result c = search needs
 
 returns : tie.Need-returns
 returns c = power-word _ (omega arith)
 
 pub states-spec : {M : Type 1} → statement M
-states-spec = tie.close (tie.spec shl-result returns)
+states-spec = tie.close (tie.spec (λ c. search needs) returns)

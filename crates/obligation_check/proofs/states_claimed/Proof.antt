@@ -2,20 +2,9 @@ use Rattle.obligation_check.proofs.BoundaryLaws.{states-fall, states-ri
 use borrow.Author.Needs.{needs}
 use Rattle.obligation_check.proofs.states_claimed.Statement.{statement}
 use Rattle.obligation_check.proofs.states_claimed.Tie as tie
-use Rattle.obligation_check.proofs.states_claimed.Reads as reads
-use Rattle.obligation_check.proofs.states_claimed.Lts as lts
 use Rattle.obligation_check.proofs.states.Reads as states-reads
 use Rattle.lists.proofs.below.Reads as below-reads
 use Rattle.lists.proofs.rises.Reads as rises-reads
-
-rises-requires : tie.Need-rises-requires
-rises-requires c κs = search needs
-
-states-requires : tie.Need-states-requires
-states-requires c κs = search needs
-
-below-requires : tie.Need-below-requires
-below-requires c κs = search needs
 
 returns : tie.Need-returns
 returns c = search states-rise
@@ -25,4 +14,4 @@ returns-2 c = search states-fall
 
 pub states-claimed-spec : {M : Type 1} → statement M
 states-claimed-spec =
-    tie.close (tie.spec rises-requires states-requires below-requires returns returns-2)
+    tie.close (tie.spec (λ c κs. search needs) (λ c κs. search needs) (λ c κs. search needs) returns returns-2)

@@ -3,8 +3,6 @@ use Rattle.obligation_check.proofs.BoundaryLaws.{too-many-relevant, not
 use borrow.Author.Needs.{needs}
 use Rattle.obligation_check.proofs.validate_boundary.Statement.{statement}
 use Rattle.obligation_check.proofs.validate_boundary.Tie as tie
-use Rattle.obligation_check.proofs.validate_boundary.Reads as reads
-use Rattle.obligation_check.proofs.validate_boundary.Lts as lts
 use Rattle.obligation_check.proofs.predicate_holds.Reads as predicate-holds-reads
 use Rattle.lists.proofs.below.Reads as below-reads
 use Rattle.lists.proofs.lengths_within.Reads as lengths-within-reads
@@ -13,14 +11,8 @@ use Rattle.lists.proofs.rises.Reads as rises-reads
 returns : tie.Need-returns
 returns c = search too-many-relevant
 
-rises-requires : tie.Need-rises-requires
-rises-requires c κs = search needs
-
 returns-2 : tie.Need-returns-2
 returns-2 c = not-rising _ _ _ _ _ (c .before .rises .ensures) (c .if2 .taken)
-
-below-requires : tie.Need-below-requires
-below-requires c κs = search needs
 
 returns-3 : tie.Need-returns-3
 returns-3 c = not-inputs _ _ _ _ _ (c .before .below .ensures) (c .if3 .taken)
@@ -28,17 +20,8 @@ returns-3 c = not-inputs _ _ _ _ _ (c .before .below .ensures) (c .if3 .taken)
 returns-4 : tie.Need-returns-4
 returns-4 c = search too-many-clauses
 
-lengths-within-requires : tie.Need-lengths-within-requires
-lengths-within-requires c κs = search needs
-
 returns-5 : tie.Need-returns-5
 returns-5 c = too-many-literals _ _ _ _ _ (c .before .lengths-within .ensures) (c .if5 .taken)
-
-cast-predicate-holds : tie.Need-cast-predicate-holds
-cast-predicate-holds c = search needs
-
-predicate-holds-requires : tie.Need-predicate-holds-requires
-predicate-holds-requires c κs = search needs
 
 returns-6 : tie.Need-returns-6
 returns-6 c = let l = c .before .before in
@@ -51,13 +34,13 @@ validate-boundary-spec =
     tie.close
     (tie.spec
     returns
-    rises-requires
+    (λ c κs. search needs)
     returns-2
-    below-requires
+    (λ c κs. search needs)
     returns-3
     returns-4
-    lengths-within-requires
+    (λ c κs. search needs)
     returns-5
-    cast-predicate-holds
-    predicate-holds-requires
+    (λ c. search needs)
+    (λ c κs. search needs)
     returns-6)

@@ -5,8 +5,6 @@ use Rattle.obligation_claims.proofs.FillLaws.{Filling, filling-none, cl
 use borrow.Author.Needs.{needs}
 use Rattle.obligation_claims.proofs.fill_claim.Statement.{statement}
 use Rattle.obligation_claims.proofs.fill_claim.Tie as tie
-use Rattle.obligation_claims.proofs.fill_claim.Reads as reads
-use Rattle.obligation_claims.proofs.fill_claim.Lts as lts
 use Rattle.obligation_claims.proofs.claim_literal.Reads as claim-literal-reads
 use Rattle.cnf.proofs.word.Reads as word-reads
 
@@ -19,53 +17,17 @@ abbrev μ-loop : tie.MeasureT-loop
 loop-holds : tie.Need-loop-holds Inv-loop μ-loop
 loop-holds c = search filling-none
 
-mul-claim-literal : tie.Need-mul-claim-literal Inv-loop μ-loop
-mul-claim-literal c = search needs
-
-shared-slice-read-claim-literal : tie.Need-shared-slice-read-claim-literal Inv-loop μ-loop
-shared-slice-read-claim-literal c = search needs
-
 claim-literal-requires : tie.Need-claim-literal-requires Inv-loop μ-loop
 claim-literal-requires c κs = key-low (c .before .before .before .before .before .before .args .keys .now) (c .before .before .before .before .before .before .pre .1) (c .before .before .loop .i) (c .before .loop-test .taken)
-
-same-length : tie.Need-same-length Inv-loop μ-loop
-same-length c = search needs
 
 returns : tie.Need-returns Inv-loop μ-loop
 returns c = claiming-true (c .before .before .before .before .before .before .before .before .before .args .keys .now) (c .before .before .before .before .before .before .before .before .before .args .claim .now) _ _ _ _ (c .before .before .before .before .before .loop .inv) (c .before .before .before .before .loop-test .taken) _ (c .before .before .claim-literal .ensures) (c .if2 .taken)
 
-add-i : tie.Need-add-i Inv-loop μ-loop
-add-i c = search needs
-
-loop-less : tie.Need-loop-less Inv-loop μ-loop
-loop-less c = search needs
-
 loop-again : tie.Need-loop-again Inv-loop μ-loop
 loop-again c = claiming-false (c .before .before .before .before .before .before .before .before .before .args .keys .now) (c .before .before .before .before .before .before .before .before .before .args .claim .now) _ _ _ _ (c .before .before .before .before .before .loop .inv) (c .before .before .before .before .loop-test .taken) _ (c .before .before .claim-literal .ensures) (c .before .if1 .taken) (c .if2 .left)
 
-word-requires : tie.Need-word-requires Inv-loop μ-loop
-word-requires c κs = search needs
-
-mul-list : tie.Need-mul-list Inv-loop μ-loop
-mul-list c = search needs
-
-slice-write-list : tie.Need-slice-write-list Inv-loop μ-loop
-slice-write-list c = search needs
-
-add-n : tie.Need-add-n Inv-loop μ-loop
-add-n c = search needs
-
-add-i-2 : tie.Need-add-i-2 Inv-loop μ-loop
-add-i-2 c = search needs
-
-loop-less-2 : tie.Need-loop-less-2 Inv-loop μ-loop
-loop-less-2 c = search needs
-
 loop-again-2 : tie.Need-loop-again-2 Inv-loop μ-loop
 loop-again-2 c = claiming-word (c .before .before .before .before .before .before .before .before .before .args .keys .now) (c .before .before .before .before .before .before .before .before .before .args .claim .now) _ _ _ _ (c .before .before .before .before .before .loop .inv) (c .before .before .before .before .loop-test .taken) _ (c .before .before .claim-literal .ensures) _ (c .before .if1 .left) (c .word .ensures) (c .before .before .before .before .before .before .before .before .before .pre .0)
-
-same-length-2 : tie.Need-same-length-2 Inv-loop μ-loop
-same-length-2 c = search needs
 
 returns-2 : tie.Need-returns-2 Inv-loop μ-loop
 returns-2 c = claiming-done (c .before .before .before .before .before .args .keys .now) (c .before .before .before .before .before .args .claim .now) _ _ _ _ (c .before .loop .inv) (c .loop-test .left)
@@ -77,20 +39,20 @@ fill-claim-spec =
     Inv-loop
     μ-loop
     loop-holds
-    mul-claim-literal
-    shared-slice-read-claim-literal
+    (λ c. search needs)
+    (λ c. search needs)
     claim-literal-requires
-    same-length
+    (λ c. search needs)
     returns
-    add-i
-    loop-less
+    (λ c. search needs)
+    (λ c. search needs)
     loop-again
-    word-requires
-    mul-list
-    slice-write-list
-    add-n
-    add-i-2
-    loop-less-2
+    (λ c κs. search needs)
+    (λ c. search needs)
+    (λ c. search needs)
+    (λ c. search needs)
+    (λ c. search needs)
+    (λ c. search needs)
     loop-again-2
-    same-length-2
+    (λ c. search needs)
     returns-2)

@@ -3,33 +3,19 @@ use Rattle.obligation_claims.proofs.KeyLaws.{halves-few, halves-length,
 use borrow.Author.Needs.{needs}
 use Rattle.obligation_claims.proofs.observed_keys.Statement.{statement}
 use Rattle.obligation_claims.proofs.observed_keys.Tie as tie
-use Rattle.obligation_claims.proofs.observed_keys.Reads as reads
-use Rattle.obligation_claims.proofs.observed_keys.Lts as lts
 use Rattle.obligation_claims.proofs.add_keys.Reads as add-keys-reads
 use Rattle.lists.proofs.cut.Reads as cut-reads
 use Rattle.lists.proofs.first.Reads as first-reads
-
-first-requires : tie.Need-first-requires
-first-requires c κs = search needs
-
-cut-requires : tie.Need-cut-requires
-cut-requires c κs = search needs
 
 add-keys-requires : tie.Need-add-keys-requires
 add-keys-requires c κs = let few = halves-few (c .before .before .before .before .before .args .literals .now) (c .before .before .first .result .now) (c .before .cut .result .now) (c .before .before .first .ensures) (c .before .cut .ensures) in
     let all = halves-length (c .before .before .before .before .before .args .literals .now) (c .before .before .first .result .now) (c .before .cut .result .now) (c .before .before .first .ensures) (c .before .cut .ensures) in
     (omega (arith, few, all, c .before .before .before .before .before .pre .0), omega (arith, few), halves-low (c .before .before .before .before .before .args .literals .now) (c .before .before .first .result .now) (c .before .cut .result .now) (c .before .before .first .ensures) (c .before .cut .ensures) (c .before .before .before .before .before .pre .2))
 
-add-add-keys : tie.Need-add-add-keys
-add-add-keys c = search needs
-
 add-keys-requires-2 : tie.Need-add-keys-requires-2
 add-keys-requires-2 c κs = let few = halves-few (c .before .before .before .before .before .before .before .before .before .args .literals .now) (c .before .before .before .before .before .before .first .result .now) (c .before .before .before .before .before .cut .result .now) (c .before .before .before .before .before .before .first .ensures) (c .before .before .before .before .before .cut .ensures) in
     let all = halves-length (c .before .before .before .before .before .before .before .before .before .args .literals .now) (c .before .before .before .before .before .before .first .result .now) (c .before .before .before .before .before .cut .result .now) (c .before .before .before .before .before .before .first .ensures) (c .before .before .before .before .before .cut .ensures) in
     (omega (arith, few, all, c .before .before .before .before .before .before .before .before .before .pre .0, c .before .before .before .add-keys .kept .1 .1 .0), omega (arith, few, all, c .before .before .before .before .before .before .before .before .before .pre .1), halves-high (c .before .before .before .before .before .before .before .before .before .args .literals .now) (c .before .before .before .before .before .before .first .result .now) (c .before .before .before .before .before .cut .result .now) (c .before .before .before .before .before .before .first .ensures) (c .before .before .before .before .before .cut .ensures) (c .before .before .before .before .before .before .before .before .before .pre .2))
-
-same-length : tie.Need-same-length
-same-length c = search needs
 
 returns : tie.Need-returns
 returns c = halves-put (c .before .before .before .before .before .before .before .before .before .before .before .before .args .keys .now) (c .before .before .before .before .before .before .before .before .before .before .before .before .args .at) (c .before .before .before .before .before .before .before .before .before .before .before .before .args .literals .now) _ _ _ _ (c .before .before .before .before .before .before .before .before .before .first .ensures) (c .before .before .before .before .before .before .before .before .cut .ensures) (omega (arith, c .before .before .before .before .before .before .before .before .before .before .before .before .pre .0)) (c .before .before .before .before .before .before .add-keys .ensures) (c .before .before .add-keys2 .ensures)
@@ -38,10 +24,10 @@ pub observed-keys-spec : {M : Type 1} → statement M
 observed-keys-spec =
     tie.close
     (tie.spec
-    first-requires
-    cut-requires
+    (λ c κs. search needs)
+    (λ c κs. search needs)
     add-keys-requires
-    add-add-keys
+    (λ c. search needs)
     add-keys-requires-2
-    same-length
+    (λ c. search needs)
     returns)

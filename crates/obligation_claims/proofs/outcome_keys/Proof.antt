@@ -3,38 +3,15 @@ use Rattle.obligation_claims.proofs.KeyLaws.{picked, picked-back, picke
 use borrow.Author.Needs.{needs}
 use Rattle.obligation_claims.proofs.outcome_keys.Statement.{statement}
 use Rattle.obligation_claims.proofs.outcome_keys.Tie as tie
-use Rattle.obligation_claims.proofs.outcome_keys.Reads as reads
-use Rattle.obligation_claims.proofs.outcome_keys.Lts as lts
 use Rattle.obligation_claims.proofs.add_outcome_keys.Reads as add-outcome-keys-reads
 use Rattle.obligation_claims.proofs.observed_literals.Reads as observed-literals-reads
 use Rattle.obligation_claims.proofs.sort_first.Reads as sort-first-reads
 use Rattle.lists.proofs.first.Reads as first-reads
 
-add-n : tie.Need-add-n
-add-n c = search needs
-
-slice-aggregate-observed-literals : tie.Need-slice-aggregate-observed-literals
-slice-aggregate-observed-literals c = search needs
-
-observed-literals-requires : tie.Need-observed-literals-requires
-observed-literals-requires c κs = search needs
-
-slice-aggregate-first : tie.Need-slice-aggregate-first
-slice-aggregate-first c = search needs
-
-first-requires : tie.Need-first-requires
-first-requires c κs = search needs
-
 add-outcome-keys-requires : tie.Need-add-outcome-keys-requires
 add-outcome-keys-requires c κs = let e : c .before .first .result .now ≡ picked (c .before .before .before .before .before .before .before .before .before .before .args .outputs .now) (c .before .before .before .before .before .before .before .before .before .before .args .observed .now) =
     picked-back (c .before .before .before .before .before .before .before .before .before .before .args .outputs .now) (c .before .before .before .before .before .before .before .before .before .before .args .observed .now) (c .before .first .result .now) _ _ _ refl (c .before .before .before .before .observed-literals .ensures) (c .before .first .ensures) in
     (c .before .before .before .before .before .before .before .before .before .before .pre .0, picked-few (c .before .before .before .before .before .before .before .before .before .before .args .outputs .now) (c .before .before .before .before .before .before .before .before .before .before .args .observed .now) _ e (c .before .before .before .before .before .before .before .before .before .before .pre .1), c .before .before .before .before .before .before .before .before .before .before .pre .2, c .before .before .before .before .before .before .before .before .before .before .pre .3, picked-lows (c .before .before .before .before .before .before .before .before .before .before .args .outputs .now) (c .before .before .before .before .before .before .before .before .before .before .args .observed .now) _ e (c .before .before .before .before .before .before .before .before .before .before .pre .4))
-
-sort-first-requires : tie.Need-sort-first-requires
-sort-first-requires c κs = search needs
-
-same-length : tie.Need-same-length
-same-length c = search needs
 
 returns : tie.Need-returns
 returns c = let e : c .before .before .before .before .before .before .before .before .first .result .now ≡ picked (c .before .before .before .before .before .before .before .before .before .before .before .before .before .before .before .before .before .args .outputs .now) (c .before .before .before .before .before .before .before .before .before .before .before .before .before .before .before .before .before .args .observed .now) =
@@ -45,12 +22,12 @@ pub outcome-keys-spec : {M : Type 1} → statement M
 outcome-keys-spec =
     tie.close
     (tie.spec
-    add-n
-    slice-aggregate-observed-literals
-    observed-literals-requires
-    slice-aggregate-first
-    first-requires
+    (λ c. search needs)
+    (λ c. search needs)
+    (λ c κs. search needs)
+    (λ c. search needs)
+    (λ c κs. search needs)
     add-outcome-keys-requires
-    sort-first-requires
-    same-length
+    (λ c κs. search needs)
+    (λ c. search needs)
     returns)

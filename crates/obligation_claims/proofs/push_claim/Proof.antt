@@ -5,8 +5,6 @@ use Rattle.obligation_claims.proofs.PushLaws.{claim-dropped, claim-word
 use borrow.Author.Needs.{needs}
 use Rattle.obligation_claims.proofs.push_claim.Statement.{statement}
 use Rattle.obligation_claims.proofs.push_claim.Tie as tie
-use Rattle.obligation_claims.proofs.push_claim.Reads as reads
-use Rattle.obligation_claims.proofs.push_claim.Lts as lts
 use Rattle.obligation_claims.proofs.fill_claim.Reads as fill-claim-reads
 use Rattle.obligation_claims.proofs.push_few.Reads as push-few-reads
 use Rattle.cnf.proofs.push_simplified.Reads as push-simplified-reads
@@ -14,26 +12,11 @@ use Rattle.cnf.proofs.push_simplified.Reads as push-simplified-reads
 push-few-requires : tie.Need-push-few-requires
 push-few-requires c κs = (c .before .before .before .before .before .before .before .before .before .pre .0, c .before .before .if1 .taken, c .before .before .before .before .before .before .before .before .before .pre .1 .low)
 
-same-length : tie.Need-same-length
-same-length c = search needs
-
-same-length-2 : tie.Need-same-length-2
-same-length-2 c = search needs
-
 returns : tie.Need-returns
 returns c = c .before .before .before .before .push-few .ensures
 
 fill-claim-requires : tie.Need-fill-claim-requires
 fill-claim-requires c κs = (c .before .before .before .before .before .before .before .before .pre .1 .listFits (c .before .if1 .left), c .before .before .before .before .before .before .before .before .pre .1 .low)
-
-enum-known-n : tie.Need-enum-known-n
-enum-known-n c = search needs
-
-enum-told : tie.Need-enum-told
-enum-told c = search needs
-
-same-length-3 : tie.Need-same-length-3
-same-length-3 c = search needs
 
 returns-2 : tie.Need-returns-2
 returns-2 c = claim-dropped _ _ _ (c .before .before .before .before .fill-claim .ensures) (c .enum-told .given .1) _ _ _
@@ -43,18 +26,6 @@ push-simplified-requires c κs = let f : Filled (claimList (c .before .before .b
     let w = claim-words (c .before .before .before .before .before .before .before .before .before .before .before .before .before .before .before .before .before .before .args .keys .now) (c .before .before .before .before .before .before .before .before .before .before .before .before .before .before .before .before .before .before .args .claim .now) _ _ f in
     (omega (arith, w, c .before .before .before .before .before .before .before .before .before .before .before .before .before .before .before .before .before .before .pre .1 .listFits (c .before .before .before .before .before .before .before .before .before .before .before .if1 .left), c .before .before .before .before .before .before .before .before .before .fill-claim .kept .1 .1 .0), omega (arith, w, c .before .before .before .before .before .before .before .before .before .before .before .before .before .before .before .before .before .before .pre .1 .workFits (c .before .before .before .before .before .before .before .before .before .before .before .if1 .left)), omega (arith, w, c .before .before .before .before .before .before .before .before .before .before .before .before .before .before .before .before .before .before .pre .1 .short), c .before .before .before .before .before .before .before .before .before .before .before .before .before .before .before .before .before .before .pre .0, words-narrow (c .before .before .before .before .before .before .before .before .before .before .before .before .before .before .before .before .before .before .args .keys .now) (c .before .before .before .before .before .before .before .before .before .before .before .before .before .before .before .before .before .before .args .claim .now) _ _ f (c .before .before .before .before .before .before .before .before .before .before .before .before .before .before .before .before .before .before .pre .1 .low))
 
-same-length-4 : tie.Need-same-length-4
-same-length-4 c = search needs
-
-same-length-5 : tie.Need-same-length-5
-same-length-5 c = search needs
-
-same-length-6 : tie.Need-same-length-6
-same-length-6 c = search needs
-
-same-length-7 : tie.Need-same-length-7
-same-length-7 c = search needs
-
 returns-3 : tie.Need-returns-3
 returns-3 c = c .before .before .before .before .before .before .before .before .push-simplified .ensures (claimList (c .before .before .before .before .before .before .before .before .before .before .before .before .before .before .before .before .before .before .before .before .before .before .before .before .before .before .before .args .keys .now) (c .before .before .before .before .before .before .before .before .before .before .before .before .before .before .before .before .before .before .before .before .before .before .before .before .before .before .before .args .claim .now)) (c .before .before .before .before .before .before .before .before .before .before .before .before .before .before .before .before .before .before .fill-claim .ensures .whenWords (c .before .before .before .before .before .before .before .before .before .before .before .before .before .before .n .given .0 .0) (c .before .before .before .before .before .before .before .before .before .before .before .before .before .before .n .given .1))
 
@@ -63,17 +34,17 @@ push-claim-spec =
     tie.close
     (tie.spec
     push-few-requires
-    same-length
-    same-length-2
+    (λ c. search needs)
+    (λ c. search needs)
     returns
     fill-claim-requires
-    enum-known-n
-    enum-told
-    same-length-3
+    (λ c. search needs)
+    (λ c. search needs)
+    (λ c. search needs)
     returns-2
     push-simplified-requires
-    same-length-4
-    same-length-5
-    same-length-6
-    same-length-7
+    (λ c. search needs)
+    (λ c. search needs)
+    (λ c. search needs)
+    (λ c. search needs)
     returns-3)

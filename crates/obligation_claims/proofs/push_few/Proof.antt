@@ -7,8 +7,6 @@ use Rattle.obligation_claims.proofs.PushLaws.{three, few-none, few-more
 use borrow.Author.Needs.{needs}
 use Rattle.obligation_claims.proofs.push_few.Statement.{statement}
 use Rattle.obligation_claims.proofs.push_few.Tie as tie
-use Rattle.obligation_claims.proofs.push_few.Reads as reads
-use Rattle.obligation_claims.proofs.push_few.Lts as lts
 use Rattle.obligation_claims.proofs.claim_literal.Reads as claim-literal-reads
 use Rattle.cnf.proofs.push_short.Reads as push-short-reads
 
@@ -21,38 +19,14 @@ abbrev μ-loop : tie.MeasureT-loop
 loop-holds : tie.Need-loop-holds Inv-loop μ-loop
 loop-holds c = few-none (c .before .before .before .before .args .keys .now) (c .before .before .before .before .args .claim .now) (c .before .before .before .before .pre .1)
 
-mul-claim-literal : tie.Need-mul-claim-literal Inv-loop μ-loop
-mul-claim-literal c = search needs
-
-shared-slice-read-claim-literal : tie.Need-shared-slice-read-claim-literal Inv-loop μ-loop
-shared-slice-read-claim-literal c = search needs
-
 claim-literal-requires : tie.Need-claim-literal-requires Inv-loop μ-loop
 claim-literal-requires c κs = key-low (c .before .before .before .before .before .before .before .args .keys .now) (c .before .before .before .before .before .before .before .pre .2) (c .before .before .loop .i) (c .before .loop-test .taken)
-
-mul-clause : tie.Need-mul-clause Inv-loop μ-loop
-mul-clause c = search needs
-
-array-write-clause : tie.Need-array-write-clause Inv-loop μ-loop
-array-write-clause c = search needs
-
-add-i : tie.Need-add-i Inv-loop μ-loop
-add-i c = search needs
-
-loop-less : tie.Need-loop-less Inv-loop μ-loop
-loop-less c = search needs
 
 loop-again : tie.Need-loop-again Inv-loop μ-loop
 loop-again c = few-more (c .before .before .before .before .before .before .before .before .args .keys .now) (c .before .before .before .before .before .before .before .before .args .claim .now) _ _ (c .before .before .before .loop .inv) (c .before .before .loop-test .taken) _ (c .claim-literal .ensures)
 
 push-short-requires : tie.Need-push-short-requires Inv-loop μ-loop
 push-short-requires c κs = (c .before .before .before .before .before .before .before .before .pre .0, few-narrow (c .before .before .before .before .before .before .before .before .args .keys .now) (c .before .before .before .before .before .before .before .before .args .claim .now) _ (few-done (c .before .before .before .before .before .before .before .before .args .keys .now) (c .before .before .before .before .before .before .before .before .args .claim .now) _ _ (c .before .before .before .loop .inv) (c .before .before .loop-test .left)) (c .before .before .before .before .before .before .before .before .pre .2))
-
-same-length : tie.Need-same-length Inv-loop μ-loop
-same-length c = search needs
-
-same-length-2 : tie.Need-same-length-2 Inv-loop μ-loop
-same-length-2 c = search needs
 
 returns : tie.Need-returns Inv-loop μ-loop
 returns c = few-appends (c .before .before .before .before .before .before .before .before .before .before .before .before .before .args .keys .now) (c .before .before .before .before .before .before .before .before .before .before .before .before .before .args .claim .now) _ (few-done (c .before .before .before .before .before .before .before .before .before .before .before .before .before .args .keys .now) (c .before .before .before .before .before .before .before .before .before .before .before .before .before .args .claim .now) _ _ (c .before .before .before .before .before .before .before .before .loop .inv) (c .before .before .before .before .before .before .before .loop-test .left)) _ _ _ _ _ _ (c .before .before .before .before .push-short .ensures)
@@ -64,15 +38,15 @@ push-few-spec =
     Inv-loop
     μ-loop
     loop-holds
-    mul-claim-literal
-    shared-slice-read-claim-literal
+    (λ c. search needs)
+    (λ c. search needs)
     claim-literal-requires
-    mul-clause
-    array-write-clause
-    add-i
-    loop-less
+    (λ c. search needs)
+    (λ c. search needs)
+    (λ c. search needs)
+    (λ c. search needs)
     loop-again
     push-short-requires
-    same-length
-    same-length-2
+    (λ c. search needs)
+    (λ c. search needs)
     returns)

@@ -4,8 +4,6 @@ use Rattle.obligation_claims.proofs.PushLaws.{Pushing, pushing-none, pu
 use borrow.Author.Needs.{needs}
 use Rattle.obligation_claims.proofs.push_outcomes.Statement.{statement}
 use Rattle.obligation_claims.proofs.push_outcomes.Tie as tie
-use Rattle.obligation_claims.proofs.push_outcomes.Reads as reads
-use Rattle.obligation_claims.proofs.push_outcomes.Lts as lts
 use Rattle.obligation_claims.proofs.push_claim.Reads as push-claim-reads
 
 abbrev Inv-loop : tie.InvT-loop
@@ -17,50 +15,11 @@ abbrev μ-loop : tie.MeasureT-loop
 loop-holds : tie.Need-loop-holds Inv-loop μ-loop
 loop-holds c = pushing-none _ _ _ _ _ _ _
 
-mul-push-claim : tie.Need-mul-push-claim Inv-loop μ-loop
-mul-push-claim c = search needs
-
-mul-push-claim-2 : tie.Need-mul-push-claim-2 Inv-loop μ-loop
-mul-push-claim-2 c = search needs
-
-add-push-claim : tie.Need-add-push-claim Inv-loop μ-loop
-add-push-claim c = search needs
-
-mul-push-claim-3 : tie.Need-mul-push-claim-3 Inv-loop μ-loop
-mul-push-claim-3 c = search needs
-
-sub-push-claim : tie.Need-sub-push-claim Inv-loop μ-loop
-sub-push-claim c = search needs
-
-part-push-claim-start : tie.Need-part-push-claim-start Inv-loop μ-loop
-part-push-claim-start c = search needs
-
-part-push-claim-end : tie.Need-part-push-claim-end Inv-loop μ-loop
-part-push-claim-end c = search needs
-
 push-claim-requires : tie.Need-push-claim-requires Inv-loop μ-loop
 push-claim-requires c κs = (pushing-space (outcomeClaims (c .before .before .before .before .before .before .before .before .before .before .before .before .before .args .keys .now) (c .before .before .before .before .before .before .before .before .before .before .before .before .before .args .words .now)) (c .before .before .before .before .before .before .before .before .before .before .before .before .before .args .keys .now) _ _ _ _ _ _ _ _ _ _ _ (c .before .before .before .before .before .before .loop .inv) _ (outcomes-count (c .before .before .before .before .before .before .before .before .before .before .before .before .before .args .keys .now) (c .before .before .before .before .before .before .before .before .before .before .before .before .before .args .words .now)) (c .before .before .before .before .before .loop-test .taken) (c .before .before .before .before .before .before .before .before .before .before .before .before .before .pre .0), pushing-fits (outcomeClaims (c .before .before .before .before .before .before .before .before .before .before .before .before .before .args .keys .now) (c .before .before .before .before .before .before .before .before .before .before .before .before .before .args .words .now)) (c .before .before .before .before .before .before .before .before .before .before .before .before .before .args .keys .now) _ _ _ _ _ _ _ _ _ _ _ (c .before .before .before .before .before .before .loop .inv) (c .before .before .before .before .before .before .before .before .before .before .before .before .before .pre .1))
 
-add-i : tie.Need-add-i Inv-loop μ-loop
-add-i c = search needs
-
-loop-less : tie.Need-loop-less Inv-loop μ-loop
-loop-less c = search needs
-
 loop-again : tie.Need-loop-again Inv-loop μ-loop
 loop-again c = pushing-more (outcomeClaims (c .before .before .before .before .before .before .before .before .before .before .before .before .before .before .before .before .before .before .before .before .before .before .args .keys .now) (c .before .before .before .before .before .before .before .before .before .before .before .before .before .before .before .before .before .before .before .before .before .before .args .words .now)) (c .before .before .before .before .before .before .before .before .before .before .before .before .before .before .before .before .before .before .before .before .before .before .args .keys .now) _ _ _ _ _ _ _ _ _ _ _ (c .before .before .before .before .before .before .before .before .before .before .before .before .before .before .before .loop .inv) _ (outcomes-count (c .before .before .before .before .before .before .before .before .before .before .before .before .before .before .before .before .before .before .before .before .before .before .args .keys .now) (c .before .before .before .before .before .before .before .before .before .before .before .before .before .before .before .before .before .before .before .before .before .before .args .words .now)) (c .before .before .before .before .before .before .before .before .before .before .before .before .before .before .loop-test .taken) _ (outcomes-at (c .before .before .before .before .before .before .before .before .before .before .before .before .before .before .before .before .before .before .before .before .before .before .args .keys .now) (c .before .before .before .before .before .before .before .before .before .before .before .before .before .before .before .before .before .before .before .before .before .before .args .words .now) _ (c .before .before .before .before .before .before .before .before .before .before .before .before .before .before .loop-test .taken)) _ _ _ _ _ (c .before .before .before .before .before .before .before .before .push-claim .ensures) (c .before .before .before .before .before .before .before .before .push-claim .kept .1 .1 .0) (c .before .before .before .before .before .before .before .before .push-claim .kept .1 .1 .1 .0) (c .before .before .before .before .before .before .before .before .push-claim .kept .1 .1 .1 .1 .0) (c .before .before .before .before .before .before .before .before .push-claim .kept .1 .1 .1 .1 .1 .0)
-
-same-length : tie.Need-same-length Inv-loop μ-loop
-same-length c = search needs
-
-same-length-2 : tie.Need-same-length-2 Inv-loop μ-loop
-same-length-2 c = search needs
-
-same-length-3 : tie.Need-same-length-3 Inv-loop μ-loop
-same-length-3 c = search needs
-
-same-length-4 : tie.Need-same-length-4 Inv-loop μ-loop
-same-length-4 c = search needs
 
 returns : tie.Need-returns Inv-loop μ-loop
 returns c = pushing-done (outcomeClaims (c .before .before .before .before .before .before .before .before .args .keys .now) (c .before .before .before .before .before .before .before .before .args .words .now)) (c .before .before .before .before .before .before .before .before .args .keys .now) _ _ _ _ _ _ _ _ _ _ _ (c .before .loop .inv) _ (outcomes-count (c .before .before .before .before .before .before .before .before .args .keys .now) (c .before .before .before .before .before .before .before .before .args .words .now)) (c .loop-test .left)
@@ -72,19 +31,19 @@ push-outcomes-spec =
     Inv-loop
     μ-loop
     loop-holds
-    mul-push-claim
-    mul-push-claim-2
-    add-push-claim
-    mul-push-claim-3
-    sub-push-claim
-    part-push-claim-start
-    part-push-claim-end
+    (λ c. search needs)
+    (λ c. search needs)
+    (λ c. search needs)
+    (λ c. search needs)
+    (λ c. search needs)
+    (λ c. search needs)
+    (λ c. search needs)
     push-claim-requires
-    add-i
-    loop-less
+    (λ c. search needs)
+    (λ c. search needs)
     loop-again
-    same-length
-    same-length-2
-    same-length-3
-    same-length-4
+    (λ c. search needs)
+    (λ c. search needs)
+    (λ c. search needs)
+    (λ c. search needs)
     returns)

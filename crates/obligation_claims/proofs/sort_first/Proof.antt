@@ -4,27 +4,16 @@ use Rattle.obligation_claims.proofs.KeyLaws.{sorted-front, few-in-order
 use borrow.Author.Needs.{needs}
 use Rattle.obligation_claims.proofs.sort_first.Statement.{statement}
 use Rattle.obligation_claims.proofs.sort_first.Tie as tie
-use Rattle.obligation_claims.proofs.sort_first.Reads as reads
-use Rattle.obligation_claims.proofs.sort_first.Lts as lts
 use Rattle.word_sort.proofs.sort.Reads as sort-reads
 
 returns : tie.Need-returns
 returns c = few-in-order _ _ (c .if1 .taken)
 
-slice-relend-prefix-sort : tie.Need-slice-relend-prefix-sort
-slice-relend-prefix-sort c = search needs
-
 slice-aggregate-sort : tie.Need-slice-aggregate-sort
 slice-aggregate-sort c = simp length-take (omega arith)
 
-slice-aggregate-sort-2 : tie.Need-slice-aggregate-sort-2
-slice-aggregate-sort-2 c = search needs
-
 sort-requires : tie.Need-sort-requires
 sort-requires c κs = simp length-take (omega arith)
-
-same-length : tie.Need-same-length
-same-length c = search needs
 
 returns-2 : tie.Need-returns-2
 returns-2 c = let s = c .before .before .before .before .before .before .before .before in
@@ -35,9 +24,9 @@ sort-first-spec =
     tie.close
     (tie.spec
     returns
-    slice-relend-prefix-sort
+    (λ c. search needs)
     slice-aggregate-sort
-    slice-aggregate-sort-2
+    (λ c. search needs)
     sort-requires
-    same-length
+    (λ c. search needs)
     returns-2)

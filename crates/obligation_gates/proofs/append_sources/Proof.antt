@@ -9,8 +9,6 @@ use Rattle.obligation_gates.proofs.SourceLaws.{sources, source-narrow, 
 use borrow.Author.Needs.{needs}
 use Rattle.obligation_gates.proofs.append_sources.Statement.{statement}
 use Rattle.obligation_gates.proofs.append_sources.Tie as tie
-use Rattle.obligation_gates.proofs.append_sources.Reads as reads
-use Rattle.obligation_gates.proofs.append_sources.Lts as lts
 use Rattle.obligation_gates.proofs.push_literal.Reads as push-literal-reads
 use Rattle.obligation_gates.proofs.source_literal.Reads as source-literal-reads
 
@@ -23,12 +21,6 @@ abbrev μ-loop : tie.MeasureT-loop
 loop-holds : tie.Need-loop-holds Inv-loop μ-loop
 loop-holds c = (search needs, search needs, appends-none _ _ _)
 
-mul-source-literal : tie.Need-mul-source-literal Inv-loop μ-loop
-mul-source-literal c = search needs
-
-shared-slice-read-source-literal : tie.Need-shared-slice-read-source-literal Inv-loop μ-loop
-shared-slice-read-source-literal c = search needs
-
 source-literal-requires : tie.Need-source-literal-requires Inv-loop μ-loop
 source-literal-requires c κs = let s = c .before .before .before .before .before .before in
     (low-at (s .args .currents .now) (c .before .before .loop .i) (s .pre .0), search needs)
@@ -39,22 +31,10 @@ push-literal-requires c κs = let l = c .before .before .before .before .before 
     let e = c .before .before .source-literal .ensures in
     (source-narrow (s .args .currents .now) (s .args .source) (l .i) _ (omega arith) e (s .pre .0), source-space (s .args .currents .now) (s .args .source) (l .i) _ (omega arith) e _ _ _ _ _ _ (l .inv .2) (s .pre .2))
 
-add-i : tie.Need-add-i Inv-loop μ-loop
-add-i c = search needs
-
-loop-less : tie.Need-loop-less Inv-loop μ-loop
-loop-less c = search needs
-
 loop-again : tie.Need-loop-again Inv-loop μ-loop
 loop-again c = let l = c .before .before .before .before .before .before .before .before .before .before .loop in
     let s = c .before .before .before .before .before .before .before .before .before .before .before .before .before .before in
     (search needs, search needs, source-next (s .args .currents .now) (s .args .source) (l .i) _ (omega arith) (c .before .before .before .before .before .before .before .source-literal .ensures) _ _ _ _ _ _ (l .inv .2) _ _ _ (c .before .before .before .before .push-literal .ensures))
-
-same-length : tie.Need-same-length Inv-loop μ-loop
-same-length c = search needs
-
-same-length-2 : tie.Need-same-length-2 Inv-loop μ-loop
-same-length-2 c = search needs
 
 returns : tie.Need-returns Inv-loop μ-loop
 returns c = let l = c .before .loop in
@@ -68,13 +48,13 @@ append-sources-spec =
     Inv-loop
     μ-loop
     loop-holds
-    mul-source-literal
-    shared-slice-read-source-literal
+    (λ c. search needs)
+    (λ c. search needs)
     source-literal-requires
     push-literal-requires
-    add-i
-    loop-less
+    (λ c. search needs)
+    (λ c. search needs)
     loop-again
-    same-length
-    same-length-2
+    (λ c. search needs)
+    (λ c. search needs)
     returns)

@@ -2,22 +2,11 @@ use Rattle.obligation_gates.proofs.GateLaws.{arrays-are}
 use borrow.Author.Needs.{needs}
 use Rattle.obligation_gates.proofs.gate_clauses.Statement.{statement}
 use Rattle.obligation_gates.proofs.gate_clauses.Tie as tie
-use Rattle.obligation_gates.proofs.gate_clauses.Reads as reads
-use Rattle.obligation_gates.proofs.gate_clauses.Lts as lts
 use Rattle.cnf.proofs.opposite_of.Reads as opposite-of-reads
-
-opposite-of-requires : tie.Need-opposite-of-requires
-opposite-of-requires c κs = search needs
-
-opposite-of-requires-2 : tie.Need-opposite-of-requires-2
-opposite-of-requires-2 c κs = search needs
-
-opposite-of-requires-3 : tie.Need-opposite-of-requires-3
-opposite-of-requires-3 c κs = search needs
 
 returns : tie.Need-returns
 returns c = arrays-are (c .before .before .before .args .gate) _ _ _ (c .before .before .opposite-of .ensures) (c .before .opposite-of2 .ensures) (c .opposite-of3 .ensures)
 
 pub gate-clauses-spec : {M : Type 1} → statement M
 gate-clauses-spec =
-    tie.close (tie.spec opposite-of-requires opposite-of-requires-2 opposite-of-requires-3 returns)
+    tie.close (tie.spec (λ c κs. search needs) (λ c κs. search needs) (λ c κs. search needs) returns)

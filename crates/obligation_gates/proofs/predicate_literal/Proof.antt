@@ -2,23 +2,9 @@ use Rattle.obligation_gates.proofs.PredicateLaws.{low-literal, indexed,
 use borrow.Author.Needs.{needs}
 use Rattle.obligation_gates.proofs.predicate_literal.Statement.{statement}
 use Rattle.obligation_gates.proofs.predicate_literal.Tie as tie
-use Rattle.obligation_gates.proofs.predicate_literal.Reads as reads
-use Rattle.obligation_gates.proofs.predicate_literal.Lts as lts
 use Rattle.cnf.proofs.opposite_of.Reads as opposite-of-reads
 use Rattle.lists.proofs.index.Reads as index-reads
 use Rattle.lists.proofs.word.Reads as word-reads
-
-cast-index : tie.Need-cast-index
-cast-index c = search needs
-
-word-requires : tie.Need-word-requires
-word-requires c κs = search needs
-
-index-requires : tie.Need-index-requires
-index-requires c κs = search needs
-
-word-requires-2 : tie.Need-word-requires-2
-word-requires-2 c κs = search needs
 
 returns : tie.Need-returns
 returns c = let l = c .before in
@@ -38,10 +24,10 @@ pub predicate-literal-spec : {M : Type 1} → statement M
 predicate-literal-spec =
     tie.close
     (tie.spec
-    cast-index
-    word-requires
-    index-requires
-    word-requires-2
+    (λ c. search needs)
+    (λ c κs. search needs)
+    (λ c κs. search needs)
+    (λ c κs. search needs)
     returns
     opposite-of-requires
     returns-2)

@@ -8,8 +8,6 @@ use Rattle.obligation_gates.proofs.ClauseLaws.{clauseLists, clause-insi
 use borrow.Author.Needs.{needs}
 use Rattle.obligation_gates.proofs.push_clauses.Statement.{statement}
 use Rattle.obligation_gates.proofs.push_clauses.Tie as tie
-use Rattle.obligation_gates.proofs.push_clauses.Reads as reads
-use Rattle.obligation_gates.proofs.push_clauses.Lts as lts
 use Rattle.obligation_gates.proofs.push_clause.Reads as push-clause-reads
 use Rattle.lists.proofs.index.Reads as index-reads
 
@@ -22,33 +20,6 @@ abbrev μ-loop : tie.MeasureT-loop
 
 loop-holds : tie.Need-loop-holds Inv-loop μ-loop
 loop-holds c = (search needs, search needs, search needs, search needs, appends-none _ _ _)
-
-mul-index : tie.Need-mul-index Inv-loop μ-loop
-mul-index c = search needs
-
-mul-index-2 : tie.Need-mul-index-2 Inv-loop μ-loop
-mul-index-2 c = search needs
-
-shared-slice-read-index : tie.Need-shared-slice-read-index Inv-loop μ-loop
-shared-slice-read-index c = search needs
-
-index-requires : tie.Need-index-requires Inv-loop μ-loop
-index-requires c κs = search needs
-
-mul-index-3 : tie.Need-mul-index-3 Inv-loop μ-loop
-mul-index-3 c = search needs
-
-add-index : tie.Need-add-index Inv-loop μ-loop
-add-index c = search needs
-
-mul-index-4 : tie.Need-mul-index-4 Inv-loop μ-loop
-mul-index-4 c = search needs
-
-shared-slice-read-index-2 : tie.Need-shared-slice-read-index-2 Inv-loop μ-loop
-shared-slice-read-index-2 c = search needs
-
-index-requires-2 : tie.Need-index-requires-2 Inv-loop μ-loop
-index-requires-2 c κs = search needs
 
 add-end : tie.Need-add-end Inv-loop μ-loop
 add-end c = let n = c in
@@ -65,12 +36,6 @@ mul-clause c = let n = c in
     let s = p .before .before .before .before .before .before .before .before .before in
     let k = clause-inside (s .args .inputs .now) (s .args .relevant .now) (s .args .predicate-pairs .now) (s .args .predicate-words .now) (p .loop .i) _ _ (omega arith) (m .index .ensures) (n .index2 .ensures) (s .pre .0) in
     search needs
-
-sub-clause : tie.Need-sub-clause Inv-loop μ-loop
-sub-clause c = search needs
-
-part-clause-start : tie.Need-part-clause-start Inv-loop μ-loop
-part-clause-start c = search needs
 
 part-clause-end : tie.Need-part-clause-end Inv-loop μ-loop
 part-clause-end c = let n = c in
@@ -92,12 +57,6 @@ push-clause-requires c κs = let n = c .before .before .before .before .before i
       clause-space (s .args .inputs .now) (s .args .relevant .now) (s .args .predicate-pairs .now) (s .args .predicate-words .now) (p .loop .i) _ _ (omega arith) (m .index .ensures) (n .index2 .ensures) _ _ _ _ _ _ (p .loop .inv .4) (s .pre .3),
     )
 
-add-i : tie.Need-add-i Inv-loop μ-loop
-add-i c = search needs
-
-loop-less : tie.Need-loop-less Inv-loop μ-loop
-loop-less c = search needs
-
 loop-again : tie.Need-loop-again Inv-loop μ-loop
 loop-again c = (
   search needs,
@@ -112,18 +71,6 @@ loop-again c = (
       clause-next (s .args .inputs .now) (s .args .relevant .now) (s .args .predicate-pairs .now) (s .args .predicate-words .now) (p .loop .i) _ _ (m .before .before .loop-test .taken) (m .index .ensures) (n .index2 .ensures) _ _ _ _ _ _ (p .loop .inv .4) _ _ _ (q .push-clause .ensures),
 )
 
-same-length : tie.Need-same-length Inv-loop μ-loop
-same-length c = search needs
-
-same-length-2 : tie.Need-same-length-2 Inv-loop μ-loop
-same-length-2 c = search needs
-
-same-length-3 : tie.Need-same-length-3 Inv-loop μ-loop
-same-length-3 c = search needs
-
-same-length-4 : tie.Need-same-length-4 Inv-loop μ-loop
-same-length-4 c = search needs
-
 returns : tie.Need-returns Inv-loop μ-loop
 returns c = let l = c .before .loop in
     let s = c .before .before .before .before .before .before .before .before .before .before in
@@ -136,26 +83,26 @@ push-clauses-spec =
     Inv-loop
     μ-loop
     loop-holds
-    mul-index
-    mul-index-2
-    shared-slice-read-index
-    index-requires
-    mul-index-3
-    add-index
-    mul-index-4
-    shared-slice-read-index-2
-    index-requires-2
+    (λ c. search needs)
+    (λ c. search needs)
+    (λ c. search needs)
+    (λ c κs. search needs)
+    (λ c. search needs)
+    (λ c. search needs)
+    (λ c. search needs)
+    (λ c. search needs)
+    (λ c κs. search needs)
     add-end
     mul-clause
-    sub-clause
-    part-clause-start
+    (λ c. search needs)
+    (λ c. search needs)
     part-clause-end
     push-clause-requires
-    add-i
-    loop-less
+    (λ c. search needs)
+    (λ c. search needs)
     loop-again
-    same-length
-    same-length-2
-    same-length-3
-    same-length-4
+    (λ c. search needs)
+    (λ c. search needs)
+    (λ c. search needs)
+    (λ c. search needs)
     returns)

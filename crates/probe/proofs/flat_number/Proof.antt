@@ -2,12 +2,6 @@ use borrow.Author.Needs.{needs}
 use Rattle.probe.proofs.flat_number.Statement.{statement}
 use Rattle.probe.proofs.flat_number.Tie as tie
 
-enum-known-n : tie.Need-enum-known-n
-enum-known-n c = search needs
-
-enum-told : tie.Need-enum-told
-enum-told c = search needs
-
 returns : tie.Need-returns
 returns c = rw (c .before .n .given .1)
 
@@ -15,4 +9,4 @@ returns-2 : tie.Need-returns-2
 returns-2 c = rw (c .enum-told .given .1)
 
 pub flat-number-spec : {M : Type 1} → statement M
-flat-number-spec = tie.close (tie.spec enum-known-n enum-told returns returns-2)
+flat-number-spec = tie.close (tie.spec (λ c. search needs) (λ c. search needs) returns returns-2)

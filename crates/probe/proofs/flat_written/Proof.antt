@@ -2,12 +2,6 @@ use borrow.Author.Needs.{needs}
 use Rattle.probe.proofs.flat_written.Statement.{statement}
 use Rattle.probe.proofs.flat_written.Tie as tie
 
-enum-known-w : tie.Need-enum-known-w
-enum-known-w c = search needs
-
-enum-told : tie.Need-enum-told
-enum-told c = search needs
-
 returns : tie.Need-returns
 returns c = rw (c .before .w .given .1)
 
@@ -15,4 +9,4 @@ returns-2 : tie.Need-returns-2
 returns-2 c = rw (c .enum-told .given .1)
 
 pub flat-written-spec : {M : Type 1} → statement M
-flat-written-spec = tie.close (tie.spec enum-known-w enum-told returns returns-2)
+flat-written-spec = tie.close (tie.spec (λ c. search needs) (λ c. search needs) returns returns-2)

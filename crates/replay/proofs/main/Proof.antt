@@ -9,11 +9,5 @@ slice-aggregate-answers c = repeated 1000000 0
 slice-aggregate-answers-2 : tie.Need-slice-aggregate-answers-2
 slice-aggregate-answers-2 c = repeated 1000000 0
 
-answers-requires : tie.Need-answers-requires
-answers-requires c κs = search needs
-
-returns : tie.Need-returns
-returns c = search needs
-
 pub main-spec : {M : Type 1} → statement M
-main-spec = tie.close (tie.spec slice-aggregate-answers slice-aggregate-answers-2 answers-requires returns)
+main-spec = tie.close (tie.spec slice-aggregate-answers slice-aggregate-answers-2 (λ c κs. search needs) (λ c. search needs))

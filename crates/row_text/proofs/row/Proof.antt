@@ -2,21 +2,13 @@ use Rattle.row_text.proofs.RowLaws.{row-none, row-some}
 use borrow.Author.Needs.{needs}
 use Rattle.row_text.proofs.row.Statement.{statement}
 use Rattle.row_text.proofs.row.Tie as tie
-use Rattle.row_text.proofs.row.Reads as reads
-use Rattle.row_text.proofs.row.Lts as lts
 use Rattle.row_text.proofs.print_text.Reads as print-text-reads
 
 returns : tie.Need-returns
 returns c = search row-none
 
-print-text-requires : tie.Need-print-text-requires
-print-text-requires c κs = search needs
-
-same-length : tie.Need-same-length
-same-length c = search needs
-
 returns-2 : tie.Need-returns-2
 returns-2 c = search row-some
 
 pub row-spec : {M : Type 1} → statement M
-row-spec = tie.close (tie.spec returns print-text-requires same-length returns-2)
+row-spec = tie.close (tie.spec returns (λ c κs. search needs) (λ c. search needs) returns-2)

@@ -2,22 +2,8 @@ use Rattle.row_text.proofs.PrintLaws.{refused-printed}
 use borrow.Author.Needs.{needs}
 use Rattle.row_text.proofs.write_refused.Statement.{statement}
 use Rattle.row_text.proofs.write_refused.Tie as tie
-use Rattle.row_text.proofs.write_refused.Reads as reads
-use Rattle.row_text.proofs.write_refused.Lts as lts
 use Rattle.row_text.proofs.write_end.Reads as write-end-reads
 use Rattle.row_text.proofs.write_number.Reads as write-number-reads
-
-slice-aggregate-write-number : tie.Need-slice-aggregate-write-number
-slice-aggregate-write-number c = search needs
-
-write-number-requires : tie.Need-write-number-requires
-write-number-requires c κs = search needs
-
-write-end-requires : tie.Need-write-end-requires
-write-end-requires c κs = search needs
-
-same-length : tie.Need-same-length
-same-length c = search needs
 
 returns : tie.Need-returns
 returns c = search refused-printed
@@ -26,8 +12,8 @@ pub write-refused-spec : {M : Type 1} → statement M
 write-refused-spec =
     tie.close
     (tie.spec
-    slice-aggregate-write-number
-    write-number-requires
-    write-end-requires
-    same-length
+    (λ c. search needs)
+    (λ c κs. search needs)
+    (λ c κs. search needs)
+    (λ c. search needs)
     returns)

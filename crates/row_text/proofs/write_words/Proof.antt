@@ -4,8 +4,6 @@ use Rattle.row_text.proofs.PrintLaws.{Spacing, spacing-none, spacing-ro
 use borrow.Author.Needs.{needs}
 use Rattle.row_text.proofs.write_words.Statement.{statement}
 use Rattle.row_text.proofs.write_words.Tie as tie
-use Rattle.row_text.proofs.write_words.Reads as reads
-use Rattle.row_text.proofs.write_words.Lts as lts
 use Rattle.row_text.proofs.wide.Reads as wide-reads
 use Rattle.row_text.proofs.write_number.Reads as write-number-reads
 
@@ -18,32 +16,11 @@ abbrev μ-loop : tie.MeasureT-loop
 loop-holds : tie.Need-loop-holds Inv-loop μ-loop
 loop-holds c = search spacing-none
 
-slice-aggregate-write-number : tie.Need-slice-aggregate-write-number Inv-loop μ-loop
-slice-aggregate-write-number c = search needs
-
-mul-wide : tie.Need-mul-wide Inv-loop μ-loop
-mul-wide c = search needs
-
-shared-slice-read-wide : tie.Need-shared-slice-read-wide Inv-loop μ-loop
-shared-slice-read-wide c = search needs
-
-wide-requires : tie.Need-wide-requires Inv-loop μ-loop
-wide-requires c κs = search needs
-
 write-number-requires : tie.Need-write-number-requires Inv-loop μ-loop
 write-number-requires c κs = search spacing-room
 
-add-i : tie.Need-add-i Inv-loop μ-loop
-add-i c = search needs
-
-loop-less : tie.Need-loop-less Inv-loop μ-loop
-loop-less c = search needs
-
 loop-again : tie.Need-loop-again Inv-loop μ-loop
 loop-again c = search spacing-more
-
-same-length : tie.Need-same-length Inv-loop μ-loop
-same-length c = search needs
 
 returns : tie.Need-returns Inv-loop μ-loop
 returns c = search spacing-done
@@ -55,13 +32,13 @@ write-words-spec =
     Inv-loop
     μ-loop
     loop-holds
-    slice-aggregate-write-number
-    mul-wide
-    shared-slice-read-wide
-    wide-requires
+    (λ c. search needs)
+    (λ c. search needs)
+    (λ c. search needs)
+    (λ c κs. search needs)
     write-number-requires
-    add-i
-    loop-less
+    (λ c. search needs)
+    (λ c. search needs)
     loop-again
-    same-length
+    (λ c. search needs)
     returns)

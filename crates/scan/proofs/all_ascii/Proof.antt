@@ -16,27 +16,6 @@ Inv-loop s at₀ at = all isAscii s ≡ all isAscii (drop at s)
 abbrev μ-loop : tie.MeasureT-loop
 μ-loop s at₀ at = length s - at
 
-loop-holds : tie.Need-loop-holds Inv-loop μ-loop
-loop-holds c = search needs
-
-block-end-requires : tie.Need-block-end-requires Inv-loop μ-loop
-block-end-requires c κs = search needs
-
-sub-block-ascii : tie.Need-sub-block-ascii Inv-loop μ-loop
-sub-block-ascii c = search needs
-
-part-block-ascii-start : tie.Need-part-block-ascii-start Inv-loop μ-loop
-part-block-ascii-start c = search needs
-
-part-block-ascii-end : tie.Need-part-block-ascii-end Inv-loop μ-loop
-part-block-ascii-end c = search needs
-
-block-ascii-requires : tie.Need-block-ascii-requires Inv-loop μ-loop
-block-ascii-requires c κs = search needs
-
-loop-less : tie.Need-loop-less Inv-loop μ-loop
-loop-less c = search needs
-
 loop-again : tie.Need-loop-again Inv-loop μ-loop
 loop-again c = block-more isAscii _ (c .before .before .before .before .before .loop .at) (c .before .before .before .block-end .result) (omega arith) _ (c .before .block-ascii .ensures) _ (c .before .before .before .before .before .loop .inv) (c .if1 .taken)
 
@@ -52,13 +31,13 @@ all-ascii-spec =
     (tie.spec
     Inv-loop
     μ-loop
-    loop-holds
-    block-end-requires
-    sub-block-ascii
-    part-block-ascii-start
-    part-block-ascii-end
-    block-ascii-requires
-    loop-less
+    (λ c. search needs)
+    (λ c κs. search needs)
+    (λ c. search needs)
+    (λ c. search needs)
+    (λ c. search needs)
+    (λ c κs. search needs)
+    (λ c. search needs)
     loop-again
     returns
     returns-2)

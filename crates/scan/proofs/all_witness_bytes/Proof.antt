@@ -16,27 +16,6 @@ Inv-loop s at₀ at = all isWitnessByte s ≡ all isWitnessByte (drop at s)
 abbrev μ-loop : tie.MeasureT-loop
 μ-loop s at₀ at = length s - at
 
-loop-holds : tie.Need-loop-holds Inv-loop μ-loop
-loop-holds c = search needs
-
-block-end-requires : tie.Need-block-end-requires Inv-loop μ-loop
-block-end-requires c κs = search needs
-
-sub-block-witness : tie.Need-sub-block-witness Inv-loop μ-loop
-sub-block-witness c = search needs
-
-part-block-witness-start : tie.Need-part-block-witness-start Inv-loop μ-loop
-part-block-witness-start c = search needs
-
-part-block-witness-end : tie.Need-part-block-witness-end Inv-loop μ-loop
-part-block-witness-end c = search needs
-
-block-witness-requires : tie.Need-block-witness-requires Inv-loop μ-loop
-block-witness-requires c κs = search needs
-
-loop-less : tie.Need-loop-less Inv-loop μ-loop
-loop-less c = search needs
-
 loop-again : tie.Need-loop-again Inv-loop μ-loop
 loop-again c = block-more isWitnessByte _ (c .before .before .before .before .before .loop .at) (c .before .before .before .block-end .result) (omega arith) _ (c .before .block-witness .ensures) _ (c .before .before .before .before .before .loop .inv) (c .if1 .taken)
 
@@ -52,13 +31,13 @@ all-witness-bytes-spec =
     (tie.spec
     Inv-loop
     μ-loop
-    loop-holds
-    block-end-requires
-    sub-block-witness
-    part-block-witness-start
-    part-block-witness-end
-    block-witness-requires
-    loop-less
+    (λ c. search needs)
+    (λ c κs. search needs)
+    (λ c. search needs)
+    (λ c. search needs)
+    (λ c. search needs)
+    (λ c κs. search needs)
+    (λ c. search needs)
     loop-again
     returns
     returns-2)

@@ -18,21 +18,6 @@ abbrev μ-loop : tie.MeasureT-loop
 loop-holds : tie.Need-loop-holds Inv-loop μ-loop
 loop-holds c = highest-none inLine (λ b. cond (eqb b 10) 1 0) 0 in-line-rank _
 
-shared-slice-read-line-feed : tie.Need-shared-slice-read-line-feed Inv-loop μ-loop
-shared-slice-read-line-feed c = search needs
-
-line-feed-requires : tie.Need-line-feed-requires Inv-loop μ-loop
-line-feed-requires c κs = search needs
-
-larger-requires : tie.Need-larger-requires Inv-loop μ-loop
-larger-requires c κs = search needs
-
-add-i : tie.Need-add-i Inv-loop μ-loop
-add-i c = search needs
-
-loop-less : tie.Need-loop-less Inv-loop μ-loop
-loop-less c = search needs
-
 loop-again : tie.Need-loop-again Inv-loop μ-loop
 loop-again c = highest-more inLine (λ b. cond (eqb b 10) 1 0) 0 in-line-rank _ _ _ (c .before .before .before .before .loop .inv) _ _ (search needs) (c .before .line-feed .ensures) (c .larger .ensures)
 
@@ -46,10 +31,10 @@ block-in-line-spec =
     Inv-loop
     μ-loop
     loop-holds
-    shared-slice-read-line-feed
-    line-feed-requires
-    larger-requires
-    add-i
-    loop-less
+    (λ c. search needs)
+    (λ c κs. search needs)
+    (λ c κs. search needs)
+    (λ c. search needs)
+    (λ c. search needs)
     loop-again
     returns)

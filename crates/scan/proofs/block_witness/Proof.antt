@@ -18,21 +18,6 @@ abbrev μ-loop : tie.MeasureT-loop
 loop-holds : tie.Need-loop-holds Inv-loop μ-loop
 loop-holds c = highest-none isWitnessByte (λ b. cond (eqb b 13) 255 b) 127 witness-rank _
 
-shared-slice-read-witness-rank : tie.Need-shared-slice-read-witness-rank Inv-loop μ-loop
-shared-slice-read-witness-rank c = search needs
-
-witness-rank-requires : tie.Need-witness-rank-requires Inv-loop μ-loop
-witness-rank-requires c κs = search needs
-
-larger-requires : tie.Need-larger-requires Inv-loop μ-loop
-larger-requires c κs = search needs
-
-add-i : tie.Need-add-i Inv-loop μ-loop
-add-i c = search needs
-
-loop-less : tie.Need-loop-less Inv-loop μ-loop
-loop-less c = search needs
-
 loop-again : tie.Need-loop-again Inv-loop μ-loop
 loop-again c = highest-more isWitnessByte (λ b. cond (eqb b 13) 255 b) 127 witness-rank _ _ _ (c .before .before .before .before .loop .inv) _ _ (search needs) (c .before .witness-rank .ensures) (c .larger .ensures)
 
@@ -46,10 +31,10 @@ block-witness-spec =
     Inv-loop
     μ-loop
     loop-holds
-    shared-slice-read-witness-rank
-    witness-rank-requires
-    larger-requires
-    add-i
-    loop-less
+    (λ c. search needs)
+    (λ c κs. search needs)
+    (λ c κs. search needs)
+    (λ c. search needs)
+    (λ c. search needs)
     loop-again
     returns)

@@ -6,14 +6,8 @@ use Rattle.scan.proofs.ends_in_10.Tie as tie
 returns : tie.Need-returns
 returns c = search ends-empty
 
-sub-last : tie.Need-sub-last
-sub-last c = search needs
-
-shared-slice-read-result : tie.Need-shared-slice-read-result
-shared-slice-read-result c = search needs
-
 returns-2 : tie.Need-returns-2
 returns-2 c = search ends-last
 
 pub ends-in-10-spec : {M : Type 1} → statement M
-ends-in-10-spec = tie.close (tie.spec returns sub-last shared-slice-read-result returns-2)
+ends-in-10-spec = tie.close (tie.spec returns (λ c. search needs) (λ c. search needs) returns-2)

@@ -11,23 +11,11 @@ use Rattle.scan.proofs.line_end.Tie as tie
 returns : tie.Need-returns
 returns c = sym (span-end inLine _ _ (c .if1 .taken))
 
-block-end-requires : tie.Need-block-end-requires
-block-end-requires c κs = search needs
-
 slice-aggregate-first-line-feed : tie.Need-slice-aggregate-first-line-feed
 slice-aggregate-first-line-feed c = sym (length-take-le (c .before .block-end .result) _ (omega arith))
 
-first-line-feed-requires : tie.Need-first-line-feed-requires
-first-line-feed-requires c κs = search needs
-
 returns-2 : tie.Need-returns-2
 returns-2 c = span-near inLine _ _ (c .before .before .before .block-end .result) _ (c .before .first-line-feed .ensures) (omega arith) (omega arith) (c .if2 .taken)
-
-blocks-in-line-requires : tie.Need-blocks-in-line-requires
-blocks-in-line-requires c κs = search needs
-
-first-line-feed-requires-2 : tie.Need-first-line-feed-requires-2
-first-line-feed-requires-2 c κs = search needs
 
 returns-3 : tie.Need-returns-3
 returns-3 c = c .first-line-feed2 .ensures ∙ c .before .blocks-in-line .ensures ∙ span-far inLine _ _ (c .before .before .before .before .before .block-end .result) _ (c .before .before .before .first-line-feed .ensures) (omega arith) (omega arith) (c .before .before .if2 .left)
@@ -37,10 +25,10 @@ line-end-spec =
     tie.close
     (tie.spec
     returns
-    block-end-requires
+    (λ c κs. search needs)
     slice-aggregate-first-line-feed
-    first-line-feed-requires
+    (λ c κs. search needs)
     returns-2
-    blocks-in-line-requires
-    first-line-feed-requires-2
+    (λ c κs. search needs)
+    (λ c κs. search needs)
     returns-3)

@@ -10,9 +10,6 @@ Inv-loop l at last v₀ i₀ v i = Running l at last i v
 abbrev μ-loop : tie.MeasureT-loop
 μ-loop l at last v₀ i₀ v i = last - i
 
-block-end-requires : tie.Need-block-end-requires Inv-loop μ-loop
-block-end-requires c κs = search needs
-
 loop-holds : tie.Need-loop-holds Inv-loop μ-loop
 loop-holds c = search running-none
 
@@ -28,20 +25,11 @@ returns-2 c = search running-run
 mul-v : tie.Need-mul-v Inv-loop μ-loop
 mul-v c = search running-mul
 
-wide-requires : tie.Need-wide-requires Inv-loop μ-loop
-wide-requires c κs = search needs
-
-sub-v : tie.Need-sub-v Inv-loop μ-loop
-sub-v c = search needs
-
 add-v : tie.Need-add-v Inv-loop μ-loop
 add-v c = search running-add
 
 add-i : tie.Need-add-i Inv-loop μ-loop
 add-i c = search (needs, running-inside)
-
-loop-less : tie.Need-loop-less Inv-loop μ-loop
-loop-less c = search needs
 
 loop-again : tie.Need-loop-again Inv-loop μ-loop
 loop-again c = search running-more
@@ -55,16 +43,16 @@ digits-run-spec =
     (tie.spec
     Inv-loop
     μ-loop
-    block-end-requires
+    (λ c κs. search needs)
     loop-holds
     shared-slice-read-b
     returns
     returns-2
     mul-v
-    wide-requires
-    sub-v
+    (λ c κs. search needs)
+    (λ c. search needs)
     add-v
     add-i
-    loop-less
+    (λ c. search needs)
     loop-again
     returns-3)

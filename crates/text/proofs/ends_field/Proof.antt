@@ -3,12 +3,6 @@ use Rattle.text.proofs.PlainLaws.{ends-blank, ends-line}
 use Rattle.text.proofs.ends_field.Statement.{statement}
 use Rattle.text.proofs.ends_field.Tie as tie
 
-shared-slice-read-is-blank : tie.Need-shared-slice-read-is-blank
-shared-slice-read-is-blank c = search needs
-
-is-blank-requires : tie.Need-is-blank-requires
-is-blank-requires c κs = search needs
-
 returns : tie.Need-returns
 returns c = search ends-blank
 
@@ -17,4 +11,4 @@ returns-2 c = search ends-line
 
 pub ends-field-spec : {M : Type 1} → statement M
 ends-field-spec =
-    tie.close (tie.spec shared-slice-read-is-blank is-blank-requires returns returns-2)
+    tie.close (tie.spec (λ c. search needs) (λ c κs. search needs) returns returns-2)

@@ -6,12 +6,6 @@ use Rattle.text.proofs.good_text.Tie as tie
 returns : tie.Need-returns
 returns c = search text-long
 
-good-bytes-requires : tie.Need-good-bytes-requires
-good-bytes-requires c κs = search needs
-
-good-end-requires : tie.Need-good-end-requires
-good-end-requires c κs = search needs
-
 returns-2 : tie.Need-returns-2
 returns-2 c = search text-end
 
@@ -20,4 +14,4 @@ returns-3 c = search text-bytes
 
 pub good-text-spec : {M : Type 1} → statement M
 good-text-spec =
-    tie.close (tie.spec returns good-bytes-requires good-end-requires returns-2 returns-3)
+    tie.close (tie.spec returns (λ c κs. search needs) (λ c κs. search needs) returns-2 returns-3)

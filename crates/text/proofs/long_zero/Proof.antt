@@ -6,12 +6,6 @@ use Rattle.text.proofs.long_zero.Tie as tie
 returns : tie.Need-returns
 returns c = search zero-past
 
-shared-slice-read-if2 : tie.Need-shared-slice-read-if2
-shared-slice-read-if2 c = search needs
-
-add-result : tie.Need-add-result
-add-result c = search needs
-
 returns-2 : tie.Need-returns-2
 returns-2 c = search zero-alone
 
@@ -19,4 +13,4 @@ returns-3 : tie.Need-returns-3
 returns-3 c = search zero-other
 
 pub long-zero-spec : {M : Type 1} → statement M
-long-zero-spec = tie.close (tie.spec returns shared-slice-read-if2 add-result returns-2 returns-3)
+long-zero-spec = tie.close (tie.spec returns (λ c. search needs) (λ c. search needs) returns-2 returns-3)

@@ -6,12 +6,6 @@ use Rattle.text.proofs.next_line.Tie as tie
 returns : tie.Need-returns
 returns c = search line-none
 
-line-end-requires : tie.Need-line-end-requires
-line-end-requires c κs = search needs
-
-add-t8 : tie.Need-add-t8
-add-t8 c = search needs
-
 returns-2 : tie.Need-returns-2
 returns-2 c = search line-more
 
@@ -19,4 +13,4 @@ returns-3 : tie.Need-returns-3
 returns-3 c = search line-last
 
 pub next-line-spec : {M : Type 1} → statement M
-next-line-spec = tie.close (tie.spec returns line-end-requires add-t8 returns-2 returns-3)
+next-line-spec = tie.close (tie.spec returns (λ c κs. search needs) (λ c. search needs) returns-2 returns-3)

@@ -17,9 +17,6 @@ loop-holds c = counting-none _ (omega arith)
 add-count : tie.Need-add-count Inv-loop μ-loop
 add-count c = omega (arith, counting-few _ _ _ (c .before .loop .inv))
 
-loop-less : tie.Need-loop-less Inv-loop μ-loop
-loop-less c = search needs
-
 loop-again : tie.Need-loop-again Inv-loop μ-loop
 loop-again c = counting-more _ _ _ (c .before .loop .inv) (omega arith)
 
@@ -28,4 +25,4 @@ returns c = counting-done _ _ _ (c .before .loop .inv) (omega arith)
 
 pub decimal-length-spec : {M : Type 1} → statement M
 decimal-length-spec =
-    tie.close (tie.spec Inv-loop μ-loop loop-holds add-count loop-less loop-again returns)
+    tie.close (tie.spec Inv-loop μ-loop loop-holds add-count (λ c. search needs) loop-again returns)

@@ -8,17 +8,8 @@ use Rattle.text_decimal.proofs.write_byte.Tie as tie
 returns : tie.Need-returns
 returns c = no-room _ _ _ (omega arith)
 
-slice-write-out : tie.Need-slice-write-out
-slice-write-out c = search needs
-
-add-t4 : tie.Need-add-t4
-add-t4 c = search needs
-
-same-length : tie.Need-same-length
-same-length c = search needs
-
 returns-2 : tie.Need-returns-2
 returns-2 c = room-for-byte _ _ _ (omega arith)
 
 pub write-byte-spec : {M : Type 1} → statement M
-write-byte-spec = tie.close (tie.spec returns slice-write-out add-t4 same-length returns-2)
+write-byte-spec = tie.close (tie.spec returns (λ c. search needs) (λ c. search needs) (λ c. search needs) returns-2)

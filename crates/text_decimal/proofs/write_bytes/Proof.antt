@@ -18,38 +18,14 @@ abbrev μ-loop : tie.MeasureT-loop
 returns : tie.Need-returns Inv-loop μ-loop
 returns c = no-room _ _ _ (omega arith)
 
-sub-if2 : tie.Need-sub-if2 Inv-loop μ-loop
-sub-if2 c = search needs
-
 returns-2 : tie.Need-returns-2 Inv-loop μ-loop
 returns-2 c = no-room _ _ _ (omega arith)
 
 loop-holds : tie.Need-loop-holds Inv-loop μ-loop
 loop-holds c = copied-none _ _ _ (omega arith)
 
-shared-slice-read-out : tie.Need-shared-slice-read-out Inv-loop μ-loop
-shared-slice-read-out c = search needs
-
-add-out : tie.Need-add-out Inv-loop μ-loop
-add-out c = search needs
-
-slice-write-out : tie.Need-slice-write-out Inv-loop μ-loop
-slice-write-out c = search needs
-
-add-i : tie.Need-add-i Inv-loop μ-loop
-add-i c = search needs
-
-loop-less : tie.Need-loop-less Inv-loop μ-loop
-loop-less c = search needs
-
 loop-again : tie.Need-loop-again Inv-loop μ-loop
 loop-again c = search copied-more
-
-add-t7 : tie.Need-add-t7 Inv-loop μ-loop
-add-t7 c = search needs
-
-same-length : tie.Need-same-length Inv-loop μ-loop
-same-length c = search needs
 
 returns-3 : tie.Need-returns-3 Inv-loop μ-loop
 returns-3 c = room _ _ _ _ _ refl (omega arith) (search copied-done)
@@ -61,15 +37,15 @@ write-bytes-spec =
     Inv-loop
     μ-loop
     returns
-    sub-if2
+    (λ c. search needs)
     returns-2
     loop-holds
-    shared-slice-read-out
-    add-out
-    slice-write-out
-    add-i
-    loop-less
+    (λ c. search needs)
+    (λ c. search needs)
+    (λ c. search needs)
+    (λ c. search needs)
+    (λ c. search needs)
     loop-again
-    add-t7
-    same-length
+    (λ c. search needs)
+    (λ c. search needs)
     returns-3)

@@ -34,9 +34,6 @@ returns-8 c = (digits-are _ 7 (omega arith) (omega arith), omega arith)
 returns-9 : tie.Need-returns-9
 returns-9 c = (digits-are _ 8 (omega arith) (omega arith), omega arith)
 
-decimal-length-requires : tie.Need-decimal-length-requires
-decimal-length-requires c κs = search needs
-
 returns-10 : tie.Need-returns-10
 returns-10 c = (search needs, omega (arith, decimal-length-word (c .before .before .before .before .args .n) (omega arith)))
 
@@ -53,5 +50,5 @@ digit-count-spec =
     returns-7
     returns-8
     returns-9
-    decimal-length-requires
+    (λ c κs. search needs)
     returns-10)

@@ -6,26 +6,8 @@ use borrow.Author.Needs.{needs}
 use Rattle.text_print.proofs.print_bytes.Statement.{statement}
 use Rattle.text_print.proofs.print_bytes.Tie as tie
 
-write-bytes-requires : tie.Need-write-bytes-requires
-write-bytes-requires c κs = search needs
-
-enum-known-end : tie.Need-enum-known-end
-enum-known-end c = search needs
-
-enum-told : tie.Need-enum-told
-enum-told c = search needs
-
-advance-requires : tie.Need-advance-requires
-advance-requires c κs = search needs
-
-same-length : tie.Need-same-length
-same-length c = search needs
-
 returns : tie.Need-returns
 returns c = search prints-kept
-
-same-length-2 : tie.Need-same-length-2
-same-length-2 c = search needs
 
 returns-2 : tie.Need-returns-2
 returns-2 c = let small : Word (length (c .before .before .before .before .before .before .before .before .before .args .out .now)) = omega arith in search prints-wrote
@@ -34,11 +16,11 @@ pub print-bytes-spec : {M : Type 1} → statement M
 print-bytes-spec =
     tie.close
     (tie.spec
-    write-bytes-requires
-    enum-known-end
-    enum-told
-    advance-requires
-    same-length
+    (λ c κs. search needs)
+    (λ c. search needs)
+    (λ c. search needs)
+    (λ c κs. search needs)
+    (λ c. search needs)
     returns
-    same-length-2
+    (λ c. search needs)
     returns-2)

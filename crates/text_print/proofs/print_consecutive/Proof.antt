@@ -20,29 +20,11 @@ abbrev μ-loop : tie.MeasureT-loop
 loop-holds : tie.Need-loop-holds Inv-loop μ-loop
 loop-holds c = (printing-none _ _ _ (omega arith), refl)
 
-mul-print-literal-line : tie.Need-mul-print-literal-line Inv-loop μ-loop
-mul-print-literal-line c = search needs
-
-print-literal-line-requires : tie.Need-print-literal-line-requires Inv-loop μ-loop
-print-literal-line-requires c κs = search needs
-
-add-x : tie.Need-add-x Inv-loop μ-loop
-add-x c = search needs
-
-sub-left : tie.Need-sub-left Inv-loop μ-loop
-sub-left c = search needs
-
-loop-less : tie.Need-loop-less Inv-loop μ-loop
-loop-less c = search needs
-
 loop-again : tie.Need-loop-again Inv-loop μ-loop
 loop-again c =
     let l = c .before .before .before .before .before .loop in
     let p = c .before .before .print-literal-line in
     (printing-more _ _ _ _ _ _ (l .inv .0) _ _ _ _ (omega arith) (literals-more (l .x) (l .left) (omega arith)) (omega (arith, p .kept .0)) (p .ensures), omega arith)
-
-same-length : tie.Need-same-length Inv-loop μ-loop
-same-length c = search needs
 
 returns : tie.Need-returns Inv-loop μ-loop
 returns c = search (printing-done, literals-end)
@@ -54,11 +36,11 @@ print-consecutive-spec =
     Inv-loop
     μ-loop
     loop-holds
-    mul-print-literal-line
-    print-literal-line-requires
-    add-x
-    sub-left
-    loop-less
+    (λ c. search needs)
+    (λ c κs. search needs)
+    (λ c. search needs)
+    (λ c. search needs)
+    (λ c. search needs)
     loop-again
-    same-length
+    (λ c. search needs)
     returns)

@@ -9,11 +9,5 @@ print-gates-with-requires : tie.Need-print-gates-with-requires
 unfolding digitPairs
 print-gates-with-requires c κs = (search needs, refl)
 
-same-length : tie.Need-same-length
-same-length c = search needs
-
-returns : tie.Need-returns
-returns c = search needs
-
 pub print-pairs-spec : {M : Type 1} → statement M
-print-pairs-spec = tie.close (tie.spec print-gates-with-requires same-length returns)
+print-pairs-spec = tie.close (tie.spec print-gates-with-requires (λ c. search needs) (λ c. search needs))

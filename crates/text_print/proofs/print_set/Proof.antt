@@ -18,23 +18,11 @@ abbrev μ-loop : tie.MeasureT-loop
 loop-holds : tie.Need-loop-holds Inv-loop μ-loop
 loop-holds c = set-none _ _ _ (omega arith)
 
-print-word-requires : tie.Need-print-word-requires Inv-loop μ-loop
-print-word-requires c κs = search needs
-
-add-j : tie.Need-add-j Inv-loop μ-loop
-add-j c = search needs
-
-loop-less : tie.Need-loop-less Inv-loop μ-loop
-loop-less c = search needs
-
 loop-again : tie.Need-loop-again Inv-loop μ-loop
 loop-again c =
     let l = c .before .before .before .before .before .loop in
     let p = c .before .before .print-word in
     printing-more _ _ _ _ _ _ (l .inv) _ _ _ _ (omega arith) (set-more _ (l .j) (omega arith)) (omega (arith, p .kept .0)) (p .ensures)
-
-same-length : tie.Need-same-length Inv-loop μ-loop
-same-length c = search needs
 
 returns : tie.Need-returns Inv-loop μ-loop
 returns c = search (printing-done, set-end)
@@ -46,9 +34,9 @@ print-set-spec =
     Inv-loop
     μ-loop
     loop-holds
-    print-word-requires
-    add-j
-    loop-less
+    (λ c κs. search needs)
+    (λ c. search needs)
+    (λ c. search needs)
     loop-again
-    same-length
+    (λ c. search needs)
     returns)

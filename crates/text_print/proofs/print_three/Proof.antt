@@ -5,19 +5,10 @@ use borrow.Author.Needs.{needs}
 use Rattle.text_print.proofs.print_three.Statement.{statement}
 use Rattle.text_print.proofs.print_three.Tie as tie
 
-slice-aggregate-print-three-with : tie.Need-slice-aggregate-print-three-with
-slice-aggregate-print-three-with c = search needs
-
 print-three-with-requires : tie.Need-print-three-with-requires
 unfolding digitPairs
 print-three-with-requires c κs = refl
 
-same-length : tie.Need-same-length
-same-length c = search needs
-
-returns : tie.Need-returns
-returns c = search needs
-
 pub print-three-spec : {M : Type 1} → statement M
 print-three-spec =
-    tie.close (tie.spec slice-aggregate-print-three-with print-three-with-requires same-length returns)
+    tie.close (tie.spec (λ c. search needs) print-three-with-requires (λ c. search needs) (λ c. search needs))

@@ -13,23 +13,11 @@ Inv-loop out₀ at words j to₀ rest₀ k₀ out to rest k = InWord words (64 *
 abbrev μ-loop : tie.MeasureT-loop
 μ-loop out₀ at words j to₀ rest₀ k₀ out to rest k = rest
 
-mul-rest : tie.Need-mul-rest Inv-loop μ-loop
-mul-rest c = search needs
-
-shared-slice-read-rest : tie.Need-shared-slice-read-rest Inv-loop μ-loop
-shared-slice-read-rest c = search needs
-
-mul-k : tie.Need-mul-k Inv-loop μ-loop
-mul-k c = search needs
-
 loop-holds : tie.Need-loop-holds Inv-loop μ-loop
 loop-holds c = word-none _ _ _ _ (omega (arith, c .shared-slice-known2 .given (c .before .before .before .args .j))) (omega arith)
 
 add-k : tie.Need-add-k Inv-loop μ-loop
 add-k c = omega (arith, word-room-eight _ _ _ _ _ _ _ _ _ (c .before .before .loop .inv) (omega arith) (omega arith))
-
-loop-less : tie.Need-loop-less Inv-loop μ-loop
-loop-less c = search needs
 
 loop-again : tie.Need-loop-again Inv-loop μ-loop
 loop-again c = word-eight _ _ _ _ _ _ _ _ _ (c .before .before .loop .inv) (omega arith) (omega arith)
@@ -37,26 +25,14 @@ loop-again c = word-eight _ _ _ _ _ _ _ _ _ (c .before .before .loop .inv) (omeg
 add-k-2 : tie.Need-add-k-2 Inv-loop μ-loop
 add-k-2 c = omega (arith, word-room _ _ _ _ _ _ _ _ _ (c .before .before .before .loop .inv) (omega arith))
 
-loop-less-2 : tie.Need-loop-less-2 Inv-loop μ-loop
-loop-less-2 c = search needs
-
 loop-again-2 : tie.Need-loop-again-2 Inv-loop μ-loop
 loop-again-2 c = word-one _ _ _ _ _ _ _ _ _ (c .before .before .before .loop .inv) (omega arith) (omega arith)
-
-print-literal-line-requires : tie.Need-print-literal-line-requires Inv-loop μ-loop
-print-literal-line-requires c κs = search needs
 
 add-k-3 : tie.Need-add-k-3 Inv-loop μ-loop
 add-k-3 c = omega (arith, word-room _ _ _ _ _ _ _ _ _ (c .before .before .before .before .before .before .before .loop .inv) (omega arith))
 
-loop-less-3 : tie.Need-loop-less-3 Inv-loop μ-loop
-loop-less-3 c = search needs
-
 loop-again-3 : tie.Need-loop-again-3 Inv-loop μ-loop
 loop-again-3 c = let p = c .before .before .print-literal-line in word-print _ _ _ _ _ _ _ _ _ (c .before .before .before .before .before .before .before .loop .inv) _ _ (c .before .before .before .before .if2 .left) (omega arith) (omega (arith, p .kept .0)) (p .ensures)
-
-same-length : tie.Need-same-length Inv-loop μ-loop
-same-length c = search needs
 
 returns : tie.Need-returns Inv-loop μ-loop
 returns c = word-done _ _ _ _ _ _ _ _ _ (c .before .loop .inv) (omega arith)
@@ -67,19 +43,19 @@ print-word-spec =
     (tie.spec
     Inv-loop
     μ-loop
-    mul-rest
-    shared-slice-read-rest
-    mul-k
+    (λ c. search needs)
+    (λ c. search needs)
+    (λ c. search needs)
     loop-holds
     add-k
-    loop-less
+    (λ c. search needs)
     loop-again
     add-k-2
-    loop-less-2
+    (λ c. search needs)
     loop-again-2
-    print-literal-line-requires
+    (λ c κs. search needs)
     add-k-3
-    loop-less-3
+    (λ c. search needs)
     loop-again-3
-    same-length
+    (λ c. search needs)
     returns)

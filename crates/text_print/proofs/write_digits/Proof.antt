@@ -17,41 +17,14 @@ abbrev μ-loop : tie.MeasureT-loop
 loop-holds : tie.Need-loop-holds Inv-loop μ-loop
 loop-holds c = writing-none _ _ _ _ (search needs) (omega arith)
 
-index-requires : tie.Need-index-requires Inv-loop μ-loop
-index-requires c κs = search needs
-
-mul-high : tie.Need-mul-high Inv-loop μ-loop
-mul-high c = search needs
-
 shared-slice-read-high : tie.Need-shared-slice-read-high Inv-loop μ-loop
 shared-slice-read-high c = omega (arith, pairs-length (c .before .before .before .before .before .before .args .pairs .now) (search needs))
-
-mul-low : tie.Need-mul-low Inv-loop μ-loop
-mul-low c = search needs
-
-add-low : tie.Need-add-low Inv-loop μ-loop
-add-low c = search needs
 
 shared-slice-read-low : tie.Need-shared-slice-read-low Inv-loop μ-loop
 shared-slice-read-low c = omega (arith, pairs-length (c .before .before .before .before .before .before .before .args .pairs .now) (search needs))
 
-sub-out : tie.Need-sub-out Inv-loop μ-loop
-sub-out c = search needs
-
-add-out : tie.Need-add-out Inv-loop μ-loop
-add-out c = search needs
-
-slice-write-out : tie.Need-slice-write-out Inv-loop μ-loop
-slice-write-out c = search needs
-
-add-out-2 : tie.Need-add-out-2 Inv-loop μ-loop
-add-out-2 c = search needs
-
 slice-write-out-2 : tie.Need-slice-write-out-2 Inv-loop μ-loop
 slice-write-out-2 c = simp length-set (omega arith)
-
-loop-less : tie.Need-loop-less Inv-loop μ-loop
-loop-less c = search needs
 
 loop-again : tie.Need-loop-again Inv-loop μ-loop
 loop-again c =
@@ -74,23 +47,8 @@ loop-again c =
     (ones-in table (search needs) (two .result) (omega arith))
     (tens-in table (search needs) (two .result) (omega arith))
 
-cast-out : tie.Need-cast-out Inv-loop μ-loop
-cast-out c = search needs
-
-add-out-3 : tie.Need-add-out-3 Inv-loop μ-loop
-add-out-3 c = search needs
-
-slice-write-out-3 : tie.Need-slice-write-out-3 Inv-loop μ-loop
-slice-write-out-3 c = search needs
-
-same-length : tie.Need-same-length Inv-loop μ-loop
-same-length c = search needs
-
 returns : tie.Need-returns Inv-loop μ-loop
 returns c = search writing-first
-
-same-length-2 : tie.Need-same-length-2 Inv-loop μ-loop
-same-length-2 c = search needs
 
 returns-2 : tie.Need-returns-2 Inv-loop μ-loop
 returns-2 c = let l = c .before .before .loop in writing-done _ _ _ _ (l .left) (l .rest) (l .inv) (omega arith)
@@ -102,23 +60,23 @@ write-digits-spec =
     Inv-loop
     μ-loop
     loop-holds
-    index-requires
-    mul-high
+    (λ c κs. search needs)
+    (λ c. search needs)
     shared-slice-read-high
-    mul-low
-    add-low
+    (λ c. search needs)
+    (λ c. search needs)
     shared-slice-read-low
-    sub-out
-    add-out
-    slice-write-out
-    add-out-2
+    (λ c. search needs)
+    (λ c. search needs)
+    (λ c. search needs)
+    (λ c. search needs)
     slice-write-out-2
-    loop-less
+    (λ c. search needs)
     loop-again
-    cast-out
-    add-out-3
-    slice-write-out-3
-    same-length
+    (λ c. search needs)
+    (λ c. search needs)
+    (λ c. search needs)
+    (λ c. search needs)
     returns
-    same-length-2
+    (λ c. search needs)
     returns-2)

@@ -5,15 +5,6 @@ use Rattle.witness_load.proofs.TextLaws.{load-room, load-no-header, loa
 use Rattle.witness_load.proofs.load.Statement.{statement}
 use Rattle.witness_load.proofs.load.Tie as tie
 
-take-header-requires : tie.Need-take-header-requires
-take-header-requires c κs = search needs
-
-enum-known-counts : tie.Need-enum-known-counts
-enum-known-counts c = search needs
-
-enum-told : tie.Need-enum-told
-enum-told c = search needs
-
 returns : tie.Need-returns
 returns c = search load-no-header
 
@@ -35,9 +26,6 @@ slice-aggregate-load-names c = simp length-take (omega (arith, load-room _ _ _ (
 load-names-requires : tie.Need-load-names-requires
 load-names-requires c κs = (search load-past, simp length-take (omega (arith, load-room _ _ _ (c .before .before .before .before .before .before .before .before .before .before .before .before .pre))))
 
-same-length : tie.Need-same-length
-same-length c = search needs
-
 returns-2 : tie.Need-returns-2
 returns-2 c = search load-done
 
@@ -45,9 +33,9 @@ pub load-spec : {M : Type 1} → statement M
 load-spec =
     tie.close
     (tie.spec
-    take-header-requires
-    enum-known-counts
-    enum-told
+    (λ c κs. search needs)
+    (λ c. search needs)
+    (λ c. search needs)
     returns
     add-names
     mul-names
@@ -55,5 +43,5 @@ load-spec =
     slice-relend-prefix-load-names
     slice-aggregate-load-names
     load-names-requires
-    same-length
+    (λ c. search needs)
     returns-2)

@@ -15,41 +15,11 @@ abbrev μ-loop : tie.MeasureT-loop
 loop-holds : tie.Need-loop-holds Inv-loop μ-loop
 loop-holds c = (refl, search gates-none)
 
-take-gate-requires : tie.Need-take-gate-requires Inv-loop μ-loop
-take-gate-requires c κs = search needs
-
-enum-known-gate : tie.Need-enum-known-gate Inv-loop μ-loop
-enum-known-gate c = search needs
-
-enum-told : tie.Need-enum-told Inv-loop μ-loop
-enum-told c = search needs
-
-same-length : tie.Need-same-length Inv-loop μ-loop
-same-length c = search needs
-
 returns : tie.Need-returns Inv-loop μ-loop
 returns c = search gates-bad
 
-mul-store-pair : tie.Need-mul-store-pair Inv-loop μ-loop
-mul-store-pair c = search needs
-
-add-store-pair : tie.Need-add-store-pair Inv-loop μ-loop
-add-store-pair c = search needs
-
-store-pair-requires : tie.Need-store-pair-requires Inv-loop μ-loop
-store-pair-requires c κs = search needs
-
-add-i : tie.Need-add-i Inv-loop μ-loop
-add-i c = search needs
-
-loop-less : tie.Need-loop-less Inv-loop μ-loop
-loop-less c = search needs
-
 loop-again : tie.Need-loop-again Inv-loop μ-loop
 loop-again c = (search needs, search gates-more)
-
-same-length-2 : tie.Need-same-length-2 Inv-loop μ-loop
-same-length-2 c = search needs
 
 returns-2 : tie.Need-returns-2 Inv-loop μ-loop
 returns-2 c = search gates-done
@@ -61,16 +31,16 @@ load-gates-spec =
     Inv-loop
     μ-loop
     loop-holds
-    take-gate-requires
-    enum-known-gate
-    enum-told
-    same-length
+    (λ c κs. search needs)
+    (λ c. search needs)
+    (λ c. search needs)
+    (λ c. search needs)
     returns
-    mul-store-pair
-    add-store-pair
-    store-pair-requires
-    add-i
-    loop-less
+    (λ c. search needs)
+    (λ c. search needs)
+    (λ c κs. search needs)
+    (λ c. search needs)
+    (λ c. search needs)
     loop-again
-    same-length-2
+    (λ c. search needs)
     returns-2)

@@ -16,18 +16,6 @@ abbrev μ-loop : tie.MeasureT-loop
 loop-holds : tie.Need-loop-holds Inv-loop μ-loop
 loop-holds c = (refl, search names-none)
 
-next-line-requires : tie.Need-next-line-requires Inv-loop μ-loop
-next-line-requires c κs = search needs
-
-enum-known-start : tie.Need-enum-known-start Inv-loop μ-loop
-enum-known-start c = search needs
-
-enum-told : tie.Need-enum-told Inv-loop μ-loop
-enum-told c = search needs
-
-same-length : tie.Need-same-length Inv-loop μ-loop
-same-length c = search needs
-
 returns : tie.Need-returns Inv-loop μ-loop
 returns c = search names-end
 
@@ -39,12 +27,6 @@ part-ends-symbols-start c = search line-ordered
 
 part-ends-symbols-end : tie.Need-part-ends-symbols-end Inv-loop μ-loop
 part-ends-symbols-end c = search line-within
-
-ends-symbols-requires : tie.Need-ends-symbols-requires Inv-loop μ-loop
-ends-symbols-requires c κs = search needs
-
-same-length-2 : tie.Need-same-length-2 Inv-loop μ-loop
-same-length-2 c = search needs
 
 returns-2 : tie.Need-returns-2 Inv-loop μ-loop
 returns-2 c = search names-stop
@@ -58,9 +40,6 @@ loop-less c = search line-less
 loop-again : tie.Need-loop-again Inv-loop μ-loop
 loop-again c = (search needs, search names-more)
 
-same-length-3 : tie.Need-same-length-3 Inv-loop μ-loop
-same-length-3 c = search needs
-
 returns-3 : tie.Need-returns-3 Inv-loop μ-loop
 returns-3 c = search names-refused
 
@@ -71,19 +50,19 @@ name-leaves-spec =
     Inv-loop
     μ-loop
     loop-holds
-    next-line-requires
-    enum-known-start
-    enum-told
-    same-length
+    (λ c κs. search needs)
+    (λ c. search needs)
+    (λ c. search needs)
+    (λ c. search needs)
     returns
     sub-ends-symbols
     part-ends-symbols-start
     part-ends-symbols-end
-    ends-symbols-requires
-    same-length-2
+    (λ c κs. search needs)
+    (λ c. search needs)
     returns-2
     name-line-requires
     loop-less
     loop-again
-    same-length-3
+    (λ c. search needs)
     returns-3)

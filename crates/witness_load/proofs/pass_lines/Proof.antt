@@ -13,23 +13,8 @@ abbrev μ-loop : tie.MeasureT-loop
 loop-holds : tie.Need-loop-holds Inv-loop μ-loop
 loop-holds c = search passing-none
 
-next-line-requires : tie.Need-next-line-requires Inv-loop μ-loop
-next-line-requires c κs = search needs
-
-enum-known-start : tie.Need-enum-known-start Inv-loop μ-loop
-enum-known-start c = search needs
-
-enum-told : tie.Need-enum-told Inv-loop μ-loop
-enum-told c = search needs
-
 returns : tie.Need-returns Inv-loop μ-loop
 returns c = search passing-end
-
-add-i : tie.Need-add-i Inv-loop μ-loop
-add-i c = search needs
-
-loop-less : tie.Need-loop-less Inv-loop μ-loop
-loop-less c = search needs
 
 loop-again : tie.Need-loop-again Inv-loop μ-loop
 loop-again c = search passing-more
@@ -44,11 +29,11 @@ pass-lines-spec =
     Inv-loop
     μ-loop
     loop-holds
-    next-line-requires
-    enum-known-start
-    enum-told
+    (λ c κs. search needs)
+    (λ c. search needs)
+    (λ c. search needs)
     returns
-    add-i
-    loop-less
+    (λ c. search needs)
+    (λ c. search needs)
     loop-again
     returns-2)

@@ -6,17 +6,11 @@ use Rattle.witness_load.proofs.StoreLaws.{input-fits, latch-fits, input
 use Rattle.witness_load.proofs.store_leaf.Statement.{statement}
 use Rattle.witness_load.proofs.store_leaf.Tie as tie
 
-enum-told : tie.Need-enum-told
-enum-told c = search needs
-
 mul-store-pair : tie.Need-mul-store-pair
 mul-store-pair c = let f : 2 * c .before .before .before .before .args .index + 1 < length (c .before .before .before .before .args .out .now) = search input-fits in omega arith
 
 store-pair-requires : tie.Need-store-pair-requires
 store-pair-requires c κs = search input-fits
-
-enum-told-2 : tie.Need-enum-told-2
-enum-told-2 c = search needs
 
 add-store-pair : tie.Need-add-store-pair
 add-store-pair c = let f : 2 * (c .before .before .before .before .before .args .n .inputs + c .before .before .before .before .before .args .index) + 1 < length (c .before .before .before .before .before .args .out .now) = search latch-fits in omega arith
@@ -27,23 +21,8 @@ mul-store-pair-2 c = let f : 2 * (c .before .before .before .before .before .arg
 store-pair-requires-2 : tie.Need-store-pair-requires-2
 store-pair-requires-2 c κs = search latch-fits
 
-enum-told-3 : tie.Need-enum-told-3
-enum-told-3 c = search needs
-
-enum-told-4 : tie.Need-enum-told-4
-enum-told-4 c = search needs
-
-enum-told-5 : tie.Need-enum-told-5
-enum-told-5 c = search needs
-
-same-length : tie.Need-same-length
-same-length c = search needs
-
 returns : tie.Need-returns
 returns c = search input-stored
-
-same-length-2 : tie.Need-same-length-2
-same-length-2 c = search needs
 
 returns-2 : tie.Need-returns-2
 returns-2 c = search latch-stored
@@ -61,19 +40,19 @@ pub store-leaf-spec : {M : Type 1} → statement M
 store-leaf-spec =
     tie.close
     (tie.spec
-    enum-told
+    (λ c. search needs)
     mul-store-pair
     store-pair-requires
-    enum-told-2
+    (λ c. search needs)
     add-store-pair
     mul-store-pair-2
     store-pair-requires-2
-    enum-told-3
-    enum-told-4
-    enum-told-5
-    same-length
+    (λ c. search needs)
+    (λ c. search needs)
+    (λ c. search needs)
+    (λ c. search needs)
     returns
-    same-length-2
+    (λ c. search needs)
     returns-2
     returns-3
     returns-4

@@ -3,14 +3,8 @@ use Rattle.witness_read.proofs.ReadLaws.{counts-told, liveness-told, co
 use Rattle.witness_read.proofs.read_body.Statement.{statement}
 use Rattle.witness_read.proofs.read_body.Tie as tie
 
-counts-hold-requires : tie.Need-counts-hold-requires
-counts-hold-requires c κs = search needs
-
 returns : tie.Need-returns
 returns c = search counts-refused
-
-no-liveness-requires : tie.Need-no-liveness-requires
-no-liveness-requires c κs = search needs
 
 returns-2 : tie.Need-returns-2
 returns-2 c = search liveness-refused
@@ -25,9 +19,9 @@ pub read-body-spec : {M : Type 1} → statement M
 read-body-spec =
     tie.close
     (tie.spec
-    counts-hold-requires
+    (λ c κs. search needs)
     returns
-    no-liveness-requires
+    (λ c κs. search needs)
     returns-2
     read-sections-requires
     returns-3)

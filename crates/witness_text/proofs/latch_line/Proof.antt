@@ -3,32 +3,11 @@ use Rattle.witness_text.proofs.LatchLaws.{latch-refused, latch-short, l
 use Rattle.witness_text.proofs.latch_line.Statement.{statement}
 use Rattle.witness_text.proofs.latch_line.Tie as tie
 
-slice-aggregate-take-numbers : tie.Need-slice-aggregate-take-numbers
-slice-aggregate-take-numbers c = search needs
-
-take-numbers-requires : tie.Need-take-numbers-requires
-take-numbers-requires c κs = search needs
-
-enum-known-count : tie.Need-enum-known-count
-enum-known-count c = search needs
-
-enum-told : tie.Need-enum-told
-enum-told c = search needs
-
 returns : tie.Need-returns
 returns c = search latch-refused
 
 returns-2 : tie.Need-returns-2
 returns-2 c = search latch-short
-
-array-read-t11 : tie.Need-array-read-t11
-array-read-t11 c = search needs
-
-array-read-t14 : tie.Need-array-read-t14
-array-read-t14 c = search needs
-
-array-read-t17 : tie.Need-array-read-t17
-array-read-t17 c = search needs
 
 returns-3 : tie.Need-returns-3
 returns-3 c = search latch-some
@@ -37,13 +16,13 @@ pub latch-line-spec : {M : Type 1} → statement M
 latch-line-spec =
     tie.close
     (tie.spec
-    slice-aggregate-take-numbers
-    take-numbers-requires
-    enum-known-count
-    enum-told
+    (λ c. search needs)
+    (λ c κs. search needs)
+    (λ c. search needs)
+    (λ c. search needs)
     returns
     returns-2
-    array-read-t11
-    array-read-t14
-    array-read-t17
+    (λ c. search needs)
+    (λ c. search needs)
+    (λ c. search needs)
     returns-3)

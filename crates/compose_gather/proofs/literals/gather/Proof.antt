@@ -18,9 +18,6 @@ abbrev μ-loop : tie.MeasureT-loop
 loop-holds : tie.Need-loop-holds Inv-loop μ-loop
 loop-holds c = search (needs, gathering-none)
 
-counts-at-requires : tie.Need-counts-at-requires Inv-loop μ-loop
-counts-at-requires c κs = search needs
-
 after-words-requires : tie.Need-after-words-requires Inv-loop μ-loop
 after-words-requires c κs = search gather-behind
 
@@ -30,17 +27,8 @@ shift-list-requires c κs = (search gather-before, search gather-can)
 pass-requires : tie.Need-pass-requires Inv-loop μ-loop
 pass-requires c κs = search gather-before
 
-add-w : tie.Need-add-w Inv-loop μ-loop
-add-w c = search needs
-
-loop-less : tie.Need-loop-less Inv-loop μ-loop
-loop-less c = search needs
-
 loop-again : tie.Need-loop-again Inv-loop μ-loop
 loop-again c = (search gather-more, search needs, search needs)
-
-same-length : tie.Need-same-length Inv-loop μ-loop
-same-length c = search needs
 
 returns : tie.Need-returns Inv-loop μ-loop
 returns c = search gathering-end
@@ -52,12 +40,12 @@ gather-spec =
     Inv-loop
     μ-loop
     loop-holds
-    counts-at-requires
+    (λ c κs. search needs)
     after-words-requires
     shift-list-requires
     pass-requires
-    add-w
-    loop-less
+    (λ c. search needs)
+    (λ c. search needs)
     loop-again
-    same-length
+    (λ c. search needs)
     returns)

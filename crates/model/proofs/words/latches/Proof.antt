@@ -14,30 +14,6 @@ Inv-loop words r₀ i₀ r i = (length r ≡ 8) × (take i r ≡ take i (latches
 abbrev μ-loop : tie.MeasureT-loop
 μ-loop words r₀ i₀ r i = 8 - i
 
-loop-holds : tie.Need-loop-holds Inv-loop μ-loop
-loop-holds c = search needs
-
-mul-latch : tie.Need-mul-latch Inv-loop μ-loop
-mul-latch c = search needs
-
-add-latch : tie.Need-add-latch Inv-loop μ-loop
-add-latch c = search needs
-
-latch-requires : tie.Need-latch-requires Inv-loop μ-loop
-latch-requires c κs = search needs
-
-mul-r : tie.Need-mul-r Inv-loop μ-loop
-mul-r c = search needs
-
-array-set-from-r : tie.Need-array-set-from-r Inv-loop μ-loop
-array-set-from-r c = search needs
-
-add-i : tie.Need-add-i Inv-loop μ-loop
-add-i c = search needs
-
-loop-less : tie.Need-loop-less Inv-loop μ-loop
-loop-less c = search needs
-
 loop-again : tie.Need-loop-again Inv-loop μ-loop
 loop-again c = let l = c .before .before .loop in (simp length-set (l .inv .0), latches-more (c .before .before .before .before .args .words .now) (l .r) (l .i) (l .inv .1) (omega arith) (l .inv .0) (c .latch .result) (c .latch .ensures))
 
@@ -50,13 +26,13 @@ latches-spec =
     (tie.spec
     Inv-loop
     μ-loop
-    loop-holds
-    mul-latch
-    add-latch
-    latch-requires
-    mul-r
-    array-set-from-r
-    add-i
-    loop-less
+    (λ c. search needs)
+    (λ c. search needs)
+    (λ c. search needs)
+    (λ c κs. search needs)
+    (λ c. search needs)
+    (λ c. search needs)
+    (λ c. search needs)
+    (λ c. search needs)
     loop-again
     returns)

@@ -2,12 +2,6 @@ use borrow.Author.Needs.{needs}
 use Rattle.nitrasovy.proofs.compositions.flat_bytes.Statement.{statement}
 use Rattle.nitrasovy.proofs.compositions.flat_bytes.Tie as tie
 
-enum-known-composed : tie.Need-enum-known-composed
-enum-known-composed c = search needs
-
-enum-known-composed-2 : tie.Need-enum-known-composed-2
-enum-known-composed-2 c = search needs
-
 returns : tie.Need-returns
 returns c = rw (c .before .composed .given .1)
 
@@ -15,4 +9,4 @@ returns-2 : tie.Need-returns-2
 returns-2 c = rw (c .before .composed2 .given .1)
 
 pub flat-bytes-spec : {M : Type 1} → statement M
-flat-bytes-spec = tie.close (tie.spec enum-known-composed enum-known-composed-2 returns returns-2)
+flat-bytes-spec = tie.close (tie.spec (λ c. search needs) (λ c. search needs) returns returns-2)

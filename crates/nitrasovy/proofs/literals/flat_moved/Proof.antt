@@ -2,12 +2,6 @@ use borrow.Author.Needs.{needs}
 use Rattle.nitrasovy.proofs.literals.flat_moved.Statement.{statement}
 use Rattle.nitrasovy.proofs.literals.flat_moved.Tie as tie
 
-enum-known-literal : tie.Need-enum-known-literal
-enum-known-literal c = search needs
-
-enum-known-literal-2 : tie.Need-enum-known-literal-2
-enum-known-literal-2 c = search needs
-
 returns : tie.Need-returns
 returns c = rw (c .before .literal .given .1)
 
@@ -15,4 +9,4 @@ returns-2 : tie.Need-returns-2
 returns-2 c = rw (c .before .literal2 .given .1)
 
 pub flat-moved-spec : {M : Type 1} → statement M
-flat-moved-spec = tie.close (tie.spec enum-known-literal enum-known-literal-2 returns returns-2)
+flat-moved-spec = tie.close (tie.spec (λ c. search needs) (λ c. search needs) returns returns-2)

@@ -2,12 +2,6 @@ use borrow.Author.Needs.{needs}
 use Rattle.nitrasovy.proofs.obligations.flat_made.Statement.{statement}
 use Rattle.nitrasovy.proofs.obligations.flat_made.Tie as tie
 
-enum-known-made : tie.Need-enum-known-made
-enum-known-made c = search needs
-
-enum-known-made-2 : tie.Need-enum-known-made-2
-enum-known-made-2 c = search needs
-
 returns : tie.Need-returns
 returns c = rw (c .before .made .given .1)
 
@@ -15,4 +9,4 @@ returns-2 : tie.Need-returns-2
 returns-2 c = rw (c .before .made2 .given .1)
 
 pub flat-made-spec : {M : Type 1} → statement M
-flat-made-spec = tie.close (tie.spec enum-known-made enum-known-made-2 returns returns-2)
+flat-made-spec = tie.close (tie.spec (λ c. search needs) (λ c. search needs) returns returns-2)

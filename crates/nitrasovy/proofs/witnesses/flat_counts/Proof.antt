@@ -2,12 +2,6 @@ use borrow.Author.Needs.{needs}
 use Rattle.nitrasovy.proofs.witnesses.flat_counts.Statement.{statement}
 use Rattle.nitrasovy.proofs.witnesses.flat_counts.Tie as tie
 
-enum-known-read : tie.Need-enum-known-read
-enum-known-read c = search needs
-
-enum-known-read-2 : tie.Need-enum-known-read-2
-enum-known-read-2 c = search needs
-
 returns : tie.Need-returns
 returns c = rw (c .before .read .given .1)
 
@@ -15,4 +9,4 @@ returns-2 : tie.Need-returns-2
 returns-2 c = rw (c .before .read2 .given .1)
 
 pub flat-counts-spec : {M : Type 1} → statement M
-flat-counts-spec = tie.close (tie.spec enum-known-read enum-known-read-2 returns returns-2)
+flat-counts-spec = tie.close (tie.spec (λ c. search needs) (λ c. search needs) returns returns-2)

@@ -3,8 +3,6 @@ use Rattle.obligation.proofs.MakingLaws.{claims-space, last-space, clai
 use borrow.Author.Needs.{needs}
 use Rattle.obligation.proofs.making.append_all.Statement.{statement}
 use Rattle.obligation.proofs.making.append_all.Tie as tie
-use Rattle.obligation.proofs.making.append_all.Reads as reads
-use Rattle.obligation.proofs.making.append_all.Lts as lts
 use Rattle.obligation_gates.proofs.push_literal.Reads as push-literal-reads
 use Rattle.obligation.proofs.making.append_claims.Reads as append-claims-reads
 use Rattle.obligation.proofs.making.append_front.Reads as append-front-reads
@@ -23,12 +21,6 @@ push-literal-requires c κs = let k = c .before .before .before .before .before 
     let s = f .before .before .before .before .before .before .before .before .before .before .before .before .before in
     (s .pre .lowLast, last-space _ (s .pre .front) _ _ _ _ _ (f .append-front .ensures) (claimedOf (s .args .keys .now) (s .args .words .now) (s .args .wide)) _ _ _ (k .append-claims .ensures) (claims-few _ _ _ (s .pre .claims)))
 
-same-length : tie.Need-same-length
-same-length c = search needs
-
-same-length-2 : tie.Need-same-length-2
-same-length-2 c = search needs
-
 returns : tie.Need-returns
 returns c = let l = c .before .before .before .before in
     let k = l .before .before .before .before .before .before .before in
@@ -43,6 +35,6 @@ append-all-spec =
     append-front-requires
     append-claims-requires
     push-literal-requires
-    same-length
-    same-length-2
+    (λ c. search needs)
+    (λ c. search needs)
     returns)

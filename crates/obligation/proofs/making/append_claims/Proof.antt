@@ -3,20 +3,12 @@ use Rattle.obligation.proofs.MakingLaws.{states-space, outcomes-space, 
 use borrow.Author.Needs.{needs}
 use Rattle.obligation.proofs.making.append_claims.Statement.{statement}
 use Rattle.obligation.proofs.making.append_claims.Tie as tie
-use Rattle.obligation.proofs.making.append_claims.Reads as reads
-use Rattle.obligation.proofs.making.append_claims.Lts as lts
 use Rattle.obligation_claims.proofs.append_outcomes.Reads as append-outcomes-reads
 use Rattle.obligation_claims.proofs.append_states.Reads as append-states-reads
 
 append-outcomes-requires : tie.Need-append-outcomes-requires
 append-outcomes-requires c κs = let s = c .before .before .before .before .before .before .before in
     (outcomes-space _ _ _ (s .pre .1) _ (s .pre .0), omega (arith, s .pre .0 .fewKeys), s .pre .0 .lowKeys)
-
-same-length : tie.Need-same-length
-same-length c = search needs
-
-same-length-2 : tie.Need-same-length-2
-same-length-2 c = search needs
 
 returns : tie.Need-returns
 returns c = let s = c .before .before .before .before .before .before .before .before .before .before .before .before in
@@ -25,12 +17,6 @@ returns c = let s = c .before .before .before .before .before .before .before .b
 append-states-requires : tie.Need-append-states-requires
 append-states-requires c κs = let s = c .before .before .before .before .before .before .before in
     (states-space _ _ _ (s .pre .1) _ (s .pre .0), omega (arith, s .pre .0 .fewKeys), s .pre .0 .lowKeys)
-
-same-length-3 : tie.Need-same-length-3
-same-length-3 c = search needs
-
-same-length-4 : tie.Need-same-length-4
-same-length-4 c = search needs
 
 returns-2 : tie.Need-returns-2
 returns-2 c = let s = c .before .before .before .before .before .before .before .before .before .before .before .before in
@@ -41,10 +27,10 @@ append-claims-spec =
     tie.close
     (tie.spec
     append-outcomes-requires
-    same-length
-    same-length-2
+    (λ c. search needs)
+    (λ c. search needs)
     returns
     append-states-requires
-    same-length-3
-    same-length-4
+    (λ c. search needs)
+    (λ c. search needs)
     returns-2)

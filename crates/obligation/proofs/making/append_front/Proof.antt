@@ -3,8 +3,6 @@ use Rattle.obligation.proofs.MakingLaws.{sources-space, clauses-space, 
 use borrow.Author.Needs.{needs}
 use Rattle.obligation.proofs.making.append_front.Statement.{statement}
 use Rattle.obligation.proofs.making.append_front.Tie as tie
-use Rattle.obligation.proofs.making.append_front.Reads as reads
-use Rattle.obligation.proofs.making.append_front.Lts as lts
 use Rattle.obligation_gates.proofs.append_ands.Reads as append-ands-reads
 use Rattle.obligation_gates.proofs.append_predicate.Reads as append-predicate-reads
 use Rattle.obligation_gates.proofs.append_sources.Reads as append-sources-reads
@@ -24,12 +22,6 @@ append-ands-requires c κs = let h = c .before .before .before .before .before .
     let s = g .before .before .before .before .before .before .before .before .before .before .before in
     (s .pre .enough, s .pre .lowGates, gates-space _ (s .pre) _ _ _ _ _ (g .append-sources .ensures) _ _ _ (h .append-predicate .ensures))
 
-same-length : tie.Need-same-length
-same-length c = search needs
-
-same-length-2 : tie.Need-same-length-2
-same-length-2 c = search needs
-
 returns : tie.Need-returns
 returns c = let k = c .before .before .before .before in
     let h = k .before .before .before .before .before .before .before in
@@ -44,6 +36,6 @@ append-front-spec =
     append-sources-requires
     append-predicate-requires
     append-ands-requires
-    same-length
-    same-length-2
+    (λ c. search needs)
+    (λ c. search needs)
     returns)

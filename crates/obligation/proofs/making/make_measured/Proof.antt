@@ -3,15 +3,7 @@ use Rattle.obligation.proofs.PromiseLaws.{no-pairs, no-words, made-all}
 use borrow.Author.Needs.{needs}
 use Rattle.obligation.proofs.making.make_measured.Statement.{statement}
 use Rattle.obligation.proofs.making.make_measured.Tie as tie
-use Rattle.obligation.proofs.making.make_measured.Reads as reads
-use Rattle.obligation.proofs.making.make_measured.Lts as lts
 use Rattle.obligation.proofs.making.append_all.Reads as append-all-reads
-
-slice-aggregate-append-all : tie.Need-slice-aggregate-append-all
-slice-aggregate-append-all c = search needs
-
-slice-aggregate-append-all-2 : tie.Need-slice-aggregate-append-all-2
-slice-aggregate-append-all-2 c = search needs
 
 append-all-requires : tie.Need-append-all-requires
 append-all-requires c κs = c .before .before .before .before .before .before .before .before .before .before .before .before .pre
@@ -25,12 +17,6 @@ returns-2 c = no-words _ _ _ _ _ _ _ _ (appends-start _ _ _ _ _ _ (c .before .be
 append-all-requires-2 : tie.Need-append-all-requires-2
 append-all-requires-2 c κs = c .before .before .before .before .before .before .before .before .before .before .before .before .before .before .before .before .before .before .before .before .before .pre
 
-same-length : tie.Need-same-length
-same-length c = search needs
-
-same-length-2 : tie.Need-same-length-2
-same-length-2 c = search needs
-
 returns-3 : tie.Need-returns-3
 returns-3 c = let m = c .before .before .before .before .before .before .before .before .before .before .before .before .before in
     made-all _ _ _ _ _ _ _ _ (appends-start _ _ _ _ _ _ (m .append-all .ensures)) (c .before .before .before .before .before .before .before .before .before .if1 .left) (c .before .before .before .before .before .before .before .if2 .left) _ _ _ (appends-start _ _ _ _ _ _ (c .before .before .before .before .append-all2 .ensures))
@@ -39,12 +25,12 @@ pub make-measured-spec : {M : Type 1} → statement M
 make-measured-spec =
     tie.close
     (tie.spec
-    slice-aggregate-append-all
-    slice-aggregate-append-all-2
+    (λ c. search needs)
+    (λ c. search needs)
     append-all-requires
     returns
     returns-2
     append-all-requires-2
-    same-length
-    same-length-2
+    (λ c. search needs)
+    (λ c. search needs)
     returns-3)

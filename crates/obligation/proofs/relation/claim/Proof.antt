@@ -40,12 +40,6 @@ assemble-requires c κs = let u = c .before .before in
     let s = k .before .before .before .before .before .before .before .before .before .before .before .before in
     (s .pre, states-hold (question s) (s .pre) (eight s) (s .args .targets .now) _ (k .states-claimed .ensures) (u .if2 .left))
 
-same-length : tie.Need-same-length
-same-length c = search needs
-
-same-length-2 : tie.Need-same-length-2
-same-length-2 c = search needs
-
 returns-3 : tie.Need-returns-3
 returns-3 c = let m = c .before .before .before .before in
     let u = m .before .before .before in
@@ -64,6 +58,6 @@ claim-spec =
     states-claimed-requires
     returns-2
     assemble-requires
-    same-length
-    same-length-2
+    (λ c. search needs)
+    (λ c. search needs)
     returns-3)

@@ -7,8 +7,6 @@ use Rattle.obligation.proofs.AssembleLaws.{in-order, currents-list, low
 use borrow.Author.Needs.{needs}
 use Rattle.obligation.proofs.terminal.assemble.Statement.{statement}
 use Rattle.obligation.proofs.terminal.assemble.Tie as tie
-use Rattle.obligation.proofs.terminal.assemble.Reads as reads
-use Rattle.obligation.proofs.terminal.assemble.Lts as lts
 use Rattle.obligation_claims.proofs.state_keys.Reads as state-keys-reads
 use Rattle.cnf.proofs.opposite_of.Reads as opposite-of-reads
 use Rattle.lists.proofs.first.Reads as first-reads
@@ -24,43 +22,10 @@ question s = askedOf (recordFrom (s .args .n) (s .args .inputs .now) (s .args .l
 sized : (s : tie.Start) → Sized (question s .model)
 sized s = record { latches = s .good .1 .1 .0 .1 .0 .1 }
 
-currents-requires : tie.Need-currents-requires
-currents-requires c κs = search needs
-
-slice-aggregate-first : tie.Need-slice-aggregate-first
-slice-aggregate-first c = search needs
-
-first-requires : tie.Need-first-requires
-first-requires c κs = search needs
-
-slice-aggregate-state-keys : tie.Need-slice-aggregate-state-keys
-slice-aggregate-state-keys c = search needs
-
 state-keys-requires : tie.Need-state-keys-requires
 state-keys-requires c κs = let s = c .before .before .before .before .before .before .before .before .before .before .before .before .before in
     let e = currents-list (question s) _ _ (c .before .before .before .currents .ensures) (c .before .first .ensures) in
     (omega (arith, few-list-now (question s) (s .pre .0) (sized s) _ e), omega (arith, few-list-now (question s) (s .pre .0) (sized s) _ e), low-list-now (question s) (s .pre .0) (sized s) _ e)
-
-first-requires-2 : tie.Need-first-requires-2
-first-requires-2 c κs = search needs
-
-word-requires : tie.Need-word-requires
-word-requires c κs = search needs
-
-slice-aggregate-first-2 : tie.Need-slice-aggregate-first-2
-slice-aggregate-first-2 c = search needs
-
-first-requires-3 : tie.Need-first-requires-3
-first-requires-3 c κs = search needs
-
-first-requires-4 : tie.Need-first-requires-4
-first-requires-4 c κs = search needs
-
-slice-aggregate-first-3 : tie.Need-slice-aggregate-first-3
-slice-aggregate-first-3 c = search needs
-
-first-requires-5 : tie.Need-first-requires-5
-first-requires-5 c κs = search needs
 
 opposite-of-requires : tie.Need-opposite-of-requires
 opposite-of-requires c κs = let s = c .before .before .before .before .before .before .before .before .before .before .before .before .before .before .before .before .before .before .before .before .before .before in
@@ -72,12 +37,6 @@ make-requires c κs = let s = c .before .before .before .before .before .before 
     let ce = currents-list q _ _ (c .before .before .before .before .before .before .before .before .before .before .before .before .before .before .before .currents .ensures) (c .before .before .before .before .before .before .before .before .before .before .before .before .before .first .ensures) in
     terminal-list-ready q (s .pre .0) (sized s) _ _ _ _ ce (c .before .before .before .before .before .before .first3 .ensures) (c .before .before .before .before .before .first4 .ensures) (in-order _ _ _ _ (c .before .before .before .before .before .before .before .before .before .before .before .state-keys .ensures) (c .before .before .before .first5 .ensures)) (s .args .bad) _ _ (bad-output q (s .args .bad) _ _ (c .before .before .before .before .before .before .before .before .before .first2 .ensures) (c .before .before .before .before .before .before .before .before .word .ensures)) (c .before .before .opposite-of .ensures) _ (s .pre .1)
 
-same-length : tie.Need-same-length
-same-length c = search needs
-
-same-length-2 : tie.Need-same-length-2
-same-length-2 c = search needs
-
 returns : tie.Need-returns
 returns c = let s = c .before .before .before .before .before .before .before .before .before .before .before .before .before .before .before .before .before .before .before .before .before .before .before .before .before .before .before .before .before .before in
     let q = question s in
@@ -88,20 +47,20 @@ pub assemble-spec : {M : Type 1} → statement M
 assemble-spec =
     tie.close
     (tie.spec
-    currents-requires
-    slice-aggregate-first
-    first-requires
-    slice-aggregate-state-keys
+    (λ c κs. search needs)
+    (λ c. search needs)
+    (λ c κs. search needs)
+    (λ c. search needs)
     state-keys-requires
-    first-requires-2
-    word-requires
-    slice-aggregate-first-2
-    first-requires-3
-    first-requires-4
-    slice-aggregate-first-3
-    first-requires-5
+    (λ c κs. search needs)
+    (λ c κs. search needs)
+    (λ c. search needs)
+    (λ c κs. search needs)
+    (λ c κs. search needs)
+    (λ c. search needs)
+    (λ c κs. search needs)
     opposite-of-requires
     make-requires
-    same-length
-    same-length-2
+    (λ c. search needs)
+    (λ c. search needs)
     returns)

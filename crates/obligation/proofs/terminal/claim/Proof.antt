@@ -38,12 +38,6 @@ assemble-requires c κs = let u = c .before .before .before in
     let s = k .before .before .before .before .before .before .before .before .before .before .before in
     (s .pre, states-hold (question s) (s .pre) (eight s) (s .args .states .now) _ (k .states-claimed .ensures) (u .if2 .left))
 
-same-length : tie.Need-same-length
-same-length c = search needs
-
-same-length-2 : tie.Need-same-length-2
-same-length-2 c = search needs
-
 returns-3 : tie.Need-returns-3
 returns-3 c = let m = c .before .before .before .before in
     let p = m .before .before .before in
@@ -62,6 +56,6 @@ claim-spec =
     returns-2
     index-requires
     assemble-requires
-    same-length
-    same-length-2
+    (λ c. search needs)
+    (λ c. search needs)
     returns-3)

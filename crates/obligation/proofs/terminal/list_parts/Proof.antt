@@ -19,34 +19,16 @@ eight s = record { latches = s .good .1 .1 .0 .1 .0 .1 }
 check-requires : tie.Need-check-requires
 check-requires c κs = tt
 
-enum-known-verdict : tie.Need-enum-known-verdict
-enum-known-verdict c = search needs
-
-enum-told : tie.Need-enum-told
-enum-told c = search needs
-
 claim-requires : tie.Need-claim-requires
 claim-requires c κs = let t = c .before .before in
     let k = t .before .before .before .before in
     let s = k .before .before .before .before .before .before .before .before .before .before .before .before in
     asks (question s) (length (s .args .work .now)) _ _ (k .check .ensures) (t .enum-told .given .1)
 
-same-length : tie.Need-same-length
-same-length c = search needs
-
 returns : tie.Need-returns
 returns c = let k = c .before .before .before .before .before in
     let s = k .before .before .before .before .before .before .before .before .before .before .before .before in
     terminal-refused (question s) (eight s) (s .args .pairs .now) (s .args .literals .now) (s .args .work .now) _ _ (k .check .ensures) _ (c .before .verdict .given .1) (s .args .bad) (s .args .states .now)
-
-same-length-2 : tie.Need-same-length-2
-same-length-2 c = search needs
-
-same-length-3 : tie.Need-same-length-3
-same-length-3 c = search needs
-
-same-length-4 : tie.Need-same-length-4
-same-length-4 c = search needs
 
 returns-2 : tie.Need-returns-2
 returns-2 c = let m = c .before .before .before .before in
@@ -60,12 +42,12 @@ list-parts-spec =
     tie.close
     (tie.spec
     check-requires
-    enum-known-verdict
-    enum-told
+    (λ c. search needs)
+    (λ c. search needs)
     claim-requires
-    same-length
+    (λ c. search needs)
     returns
-    same-length-2
-    same-length-3
-    same-length-4
+    (λ c. search needs)
+    (λ c. search needs)
+    (λ c. search needs)
     returns-2)

@@ -8,8 +8,6 @@ use Rattle.obligation.proofs.ReadyLaws.{few-observed}
 use borrow.Author.Needs.{needs}
 use Rattle.obligation.proofs.transducer.assemble.Statement.{statement}
 use Rattle.obligation.proofs.transducer.assemble.Tie as tie
-use Rattle.obligation.proofs.transducer.assemble.Reads as reads
-use Rattle.obligation.proofs.transducer.assemble.Lts as lts
 use Rattle.obligation_claims.proofs.outcome_keys.Reads as outcome-keys-reads
 use Rattle.lists.proofs.first.Reads as first-reads
 use Rattle.model.proofs.currents.Reads as currents-reads
@@ -24,44 +22,11 @@ question s = askedOf (recordFrom (s .args .n) (s .args .inputs .now) (s .args .l
 sized : (s : tie.Start) → Sized (question s .model)
 sized s = record { latches = s .good .1 .1 .0 .1 .0 .1 }
 
-currents-requires : tie.Need-currents-requires
-currents-requires c κs = search needs
-
-nexts-requires : tie.Need-nexts-requires
-nexts-requires c κs = search needs
-
-slice-aggregate-first : tie.Need-slice-aggregate-first
-slice-aggregate-first c = search needs
-
-first-requires : tie.Need-first-requires
-first-requires c κs = search needs
-
-first-requires-2 : tie.Need-first-requires-2
-first-requires-2 c κs = search needs
-
-slice-aggregate-outcome-keys : tie.Need-slice-aggregate-outcome-keys
-slice-aggregate-outcome-keys c = search needs
-
 outcome-keys-requires : tie.Need-outcome-keys-requires
 outcome-keys-requires c κs = let s = c .before .before .before .before .before .before .before .before .before .before .before .before .before .before .before .before in
     let q = question s in
     let e = nexts-list q _ _ (c .before .before .before .before .nexts .ensures) (c .before .before .first .ensures) in
     (few-list q (s .pre .0) (sized s) _ e, few-observed q (s .pre .0) (sized s) _ (s .args .outcomes .now) (s .pre .1), omega arith, low-list q (s .pre .0) (sized s) _ e, low-list-out q (s .pre .0) (sized s) _ (c .before .first2 .ensures))
-
-slice-aggregate-first-2 : tie.Need-slice-aggregate-first-2
-slice-aggregate-first-2 c = search needs
-
-first-requires-3 : tie.Need-first-requires-3
-first-requires-3 c κs = search needs
-
-first-requires-4 : tie.Need-first-requires-4
-first-requires-4 c κs = search needs
-
-slice-aggregate-first-3 : tie.Need-slice-aggregate-first-3
-slice-aggregate-first-3 c = search needs
-
-first-requires-5 : tie.Need-first-requires-5
-first-requires-5 c κs = search needs
 
 make-requires : tie.Need-make-requires
 make-requires c κs = let s = c .before .before .before .before .before .before .before .before .before .before .before .before .before .before .before .before .before .before .before .before .before .before .before .before .before in
@@ -69,12 +34,6 @@ make-requires c κs = let s = c .before .before .before .before .before .before 
     let ne = nexts-list q _ _ (c .before .before .before .before .before .before .before .before .before .before .before .before .before .nexts .ensures) (c .before .before .before .before .before .before .before .before .before .before .before .first .ensures) in
     let ce = currents-list q _ _ (c .before .before .before .before .before .before .before .before .before .before .before .before .before .before .currents .ensures) (c .before .before .before .before .before .first3 .ensures) in
     transducer-ready q (s .pre .0) (sized s) (s .args .source) _ _ _ _ ce (c .before .before .before .before .first4 .ensures) ne _ (s .args .observed .now) (s .args .outcomes .now) (c .before .before .before .before .before .before .before .before .before .before .first2 .ensures) (s .pre .1) (in-order _ _ _ _ (c .before .before .before .before .before .before .before .before .outcome-keys .ensures) (c .before .before .first5 .ensures))
-
-same-length : tie.Need-same-length
-same-length c = search needs
-
-same-length-2 : tie.Need-same-length-2
-same-length-2 c = search needs
 
 returns : tie.Need-returns
 returns c = let s = c .before .before .before .before .before .before .before .before .before .before .before .before .before .before .before .before .before .before .before .before .before .before .before .before .before .before .before .before .before .before in
@@ -87,19 +46,19 @@ pub assemble-spec : {M : Type 1} → statement M
 assemble-spec =
     tie.close
     (tie.spec
-    currents-requires
-    nexts-requires
-    slice-aggregate-first
-    first-requires
-    first-requires-2
-    slice-aggregate-outcome-keys
+    (λ c κs. search needs)
+    (λ c κs. search needs)
+    (λ c. search needs)
+    (λ c κs. search needs)
+    (λ c κs. search needs)
+    (λ c. search needs)
     outcome-keys-requires
-    slice-aggregate-first-2
-    first-requires-3
-    first-requires-4
-    slice-aggregate-first-3
-    first-requires-5
+    (λ c. search needs)
+    (λ c κs. search needs)
+    (λ c κs. search needs)
+    (λ c. search needs)
+    (λ c κs. search needs)
     make-requires
-    same-length
-    same-length-2
+    (λ c. search needs)
+    (λ c. search needs)
     returns)

@@ -15,14 +15,5 @@ slice-aggregate-made-for-3 c = repeated 8192 6148914691236517205
 slice-aggregate-made-for-4 : tie.Need-slice-aggregate-made-for-4
 slice-aggregate-made-for-4 c = repeated 8192 2863311530
 
-made-for-requires : tie.Need-made-for-requires
-made-for-requires c κs = search needs
-
-same-length : tie.Need-same-length
-same-length c = search needs
-
-returns : tie.Need-returns
-returns c = search needs
-
 pub made-case-spec : {M : Type 1} → statement M
-made-case-spec = tie.close (tie.spec slice-aggregate-made-for slice-aggregate-made-for-2 slice-aggregate-made-for-3 slice-aggregate-made-for-4 made-for-requires same-length returns)
+made-case-spec = tie.close (tie.spec slice-aggregate-made-for slice-aggregate-made-for-2 slice-aggregate-made-for-3 slice-aggregate-made-for-4 (λ c κs. search needs) (λ c. search needs) (λ c. search needs))

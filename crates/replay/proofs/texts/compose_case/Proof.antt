@@ -9,14 +9,5 @@ slice-aggregate-compose-with c = repeated 65536 6148914691236517205
 slice-aggregate-compose-with-2 : tie.Need-slice-aggregate-compose-with-2
 slice-aggregate-compose-with-2 c = repeated 65536 170
 
-compose-with-requires : tie.Need-compose-with-requires
-compose-with-requires c κs = search needs
-
-same-length : tie.Need-same-length
-same-length c = search needs
-
-returns : tie.Need-returns
-returns c = search needs
-
 pub compose-case-spec : {M : Type 1} → statement M
-compose-case-spec = tie.close (tie.spec slice-aggregate-compose-with slice-aggregate-compose-with-2 compose-with-requires same-length returns)
+compose-case-spec = tie.close (tie.spec slice-aggregate-compose-with slice-aggregate-compose-with-2 (λ c κs. search needs) (λ c. search needs) (λ c. search needs))

@@ -16,14 +16,8 @@ abbrev μ-loop : tie.MeasureT-loop
 returns : tie.Need-returns Inv-loop μ-loop
 returns c = sym (digits-none _ _ (c .if1 .taken))
 
-zeros-end-requires : tie.Need-zeros-end-requires Inv-loop μ-loop
-zeros-end-requires c κs = search needs
-
 loop-holds : tie.Need-loop-holds Inv-loop μ-loop
 loop-holds c = (search needs, digits-start-at _ _ (c .before .if1 .left) (c .zeros-end .result) (c .zeros-end .ensures))
-
-shared-slice-read-b : tie.Need-shared-slice-read-b Inv-loop μ-loop
-shared-slice-read-b c = search needs
 
 returns-2 : tie.Need-returns-2 Inv-loop μ-loop
 returns-2 c = search at-low
@@ -31,29 +25,8 @@ returns-2 c = search at-low
 returns-3 : tie.Need-returns-3 Inv-loop μ-loop
 returns-3 c = search at-high
 
-wide-requires : tie.Need-wide-requires Inv-loop μ-loop
-wide-requires c κs = search needs
-
-sub-d : tie.Need-sub-d Inv-loop μ-loop
-sub-d c = search needs
-
-sub-if4 : tie.Need-sub-if4 Inv-loop μ-loop
-sub-if4 c = search needs
-
 returns-4 : tie.Need-returns-4 Inv-loop μ-loop
 returns-4 c = search at-over
-
-mul-v : tie.Need-mul-v Inv-loop μ-loop
-mul-v c = search needs
-
-add-v : tie.Need-add-v Inv-loop μ-loop
-add-v c = search needs
-
-add-i : tie.Need-add-i Inv-loop μ-loop
-add-i c = search needs
-
-loop-less : tie.Need-loop-less Inv-loop μ-loop
-loop-less c = search needs
 
 loop-again : tie.Need-loop-again Inv-loop μ-loop
 loop-again c = (search needs, search at-digit)
@@ -68,18 +41,18 @@ digits-spec =
     Inv-loop
     μ-loop
     returns
-    zeros-end-requires
+    (λ c κs. search needs)
     loop-holds
-    shared-slice-read-b
+    (λ c. search needs)
     returns-2
     returns-3
-    wide-requires
-    sub-d
-    sub-if4
+    (λ c κs. search needs)
+    (λ c. search needs)
+    (λ c. search needs)
     returns-4
-    mul-v
-    add-v
-    add-i
-    loop-less
+    (λ c. search needs)
+    (λ c. search needs)
+    (λ c. search needs)
+    (λ c. search needs)
     loop-again
     returns-5)

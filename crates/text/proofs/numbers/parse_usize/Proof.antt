@@ -3,14 +3,8 @@ use Rattle.text.proofs.NumberLaws.{usize-digits}
 use Rattle.text.proofs.numbers.parse_usize.Statement.{statement}
 use Rattle.text.proofs.numbers.parse_usize.Tie as tie
 
-sign-end-requires : tie.Need-sign-end-requires
-sign-end-requires c κs = search needs
-
-digits-requires : tie.Need-digits-requires
-digits-requires c κs = search needs
-
 returns : tie.Need-returns
 returns c = search usize-digits
 
 pub parse-usize-spec : {M : Type 1} → statement M
-parse-usize-spec = tie.close (tie.spec sign-end-requires digits-requires returns)
+parse-usize-spec = tie.close (tie.spec (λ c κs. search needs) (λ c κs. search needs) returns)

@@ -6,9 +6,6 @@ use Rattle.text.proofs.numbers.sign_end.Tie as tie
 returns : tie.Need-returns
 returns c = search sign-none
 
-shared-slice-read-if2 : tie.Need-shared-slice-read-if2
-shared-slice-read-if2 c = search needs
-
 returns-2 : tie.Need-returns-2
 returns-2 c = search sign-plus
 
@@ -16,4 +13,4 @@ returns-3 : tie.Need-returns-3
 returns-3 c = search sign-plain
 
 pub sign-end-spec : {M : Type 1} → statement M
-sign-end-spec = tie.close (tie.spec returns shared-slice-read-if2 returns-2 returns-3)
+sign-end-spec = tie.close (tie.spec returns (λ c. search needs) returns-2 returns-3)

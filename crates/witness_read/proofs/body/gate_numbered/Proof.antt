@@ -3,9 +3,6 @@ use Rattle.witness_read.proofs.NumberedLaws.{gate-elsewhere, gate-left,
 use Rattle.witness_read.proofs.body.gate_numbered.Statement.{statement}
 use Rattle.witness_read.proofs.body.gate_numbered.Tie as tie
 
-mul-if1 : tie.Need-mul-if1
-mul-if1 c = search needs
-
 returns : tie.Need-returns
 returns c = search gate-elsewhere
 
@@ -16,4 +13,4 @@ returns-3 : tie.Need-returns-3
 returns-3 c = search gate-right
 
 pub gate-numbered-spec : {M : Type 1} → statement M
-gate-numbered-spec = tie.close (tie.spec mul-if1 returns returns-2 returns-3)
+gate-numbered-spec = tie.close (tie.spec (λ c. search needs) returns returns-2 returns-3)

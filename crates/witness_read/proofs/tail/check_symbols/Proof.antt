@@ -15,20 +15,8 @@ abbrev μ-loop : tie.MeasureT-loop
 loop-holds : tie.Need-loop-holds Inv-loop μ-loop
 loop-holds c = (refl, search naming-none)
 
-next-symbol-requires : tie.Need-next-symbol-requires Inv-loop μ-loop
-next-symbol-requires c κs = search needs
-
-enum-known-symbol : tie.Need-enum-known-symbol Inv-loop μ-loop
-enum-known-symbol c = search needs
-
-same-length : tie.Need-same-length Inv-loop μ-loop
-same-length c = search needs
-
 returns : tie.Need-returns Inv-loop μ-loop
 returns c = search naming-end
-
-enum-known-symbol-2 : tie.Need-enum-known-symbol-2 Inv-loop μ-loop
-enum-known-symbol-2 c = search needs
 
 name-first-requires : tie.Need-name-first-requires Inv-loop μ-loop
 name-first-requires c κs = (search needs, search index-below)
@@ -38,9 +26,6 @@ loop-less c = search symbol-less
 
 loop-again : tie.Need-loop-again Inv-loop μ-loop
 loop-again c = (search needs, search naming-more)
-
-same-length-2 : tie.Need-same-length-2 Inv-loop μ-loop
-same-length-2 c = search needs
 
 returns-2 : tie.Need-returns-2 Inv-loop μ-loop
 returns-2 c = search naming-again
@@ -52,13 +37,13 @@ check-symbols-spec =
     Inv-loop
     μ-loop
     loop-holds
-    next-symbol-requires
-    enum-known-symbol
-    same-length
+    (λ c κs. search needs)
+    (λ c. search needs)
+    (λ c. search needs)
     returns
-    enum-known-symbol-2
+    (λ c. search needs)
     name-first-requires
     loop-less
     loop-again
-    same-length-2
+    (λ c. search needs)
     returns-2)

@@ -15,26 +15,8 @@ abbrev μ-loop : tie.MeasureT-loop
 loop-holds : tie.Need-loop-holds Inv-loop μ-loop
 loop-holds c = search order-none
 
-next-symbol-requires : tie.Need-next-symbol-requires Inv-loop μ-loop
-next-symbol-requires c κs = search needs
-
-enum-known-symbol : tie.Need-enum-known-symbol Inv-loop μ-loop
-enum-known-symbol c = search needs
-
 returns : tie.Need-returns Inv-loop μ-loop
 returns c = search order-end
-
-enum-known-symbol-2 : tie.Need-enum-known-symbol-2 Inv-loop μ-loop
-enum-known-symbol-2 c = search needs
-
-enum-told : tie.Need-enum-told Inv-loop μ-loop
-enum-told c = search needs
-
-check-marked-requires : tie.Need-check-marked-requires Inv-loop μ-loop
-check-marked-requires c κs = search needs
-
-returns-2 : tie.Need-returns-2 Inv-loop μ-loop
-returns-2 c = search needs
 
 add-inputs : tie.Need-add-inputs Inv-loop μ-loop
 add-inputs c = search input-fits
@@ -45,15 +27,6 @@ loop-less c = search symbol-less
 loop-again : tie.Need-loop-again Inv-loop μ-loop
 loop-again c = search order-input
 
-enum-told-2 : tie.Need-enum-told-2 Inv-loop μ-loop
-enum-told-2 c = search needs
-
-check-marked-requires-2 : tie.Need-check-marked-requires-2 Inv-loop μ-loop
-check-marked-requires-2 c κs = search needs
-
-returns-3 : tie.Need-returns-3 Inv-loop μ-loop
-returns-3 c = search needs
-
 add-latches : tie.Need-add-latches Inv-loop μ-loop
 add-latches c = search latch-fits
 
@@ -63,26 +36,17 @@ loop-less-2 c = search symbol-less
 loop-again-2 : tie.Need-loop-again-2 Inv-loop μ-loop
 loop-again-2 c = search order-latch
 
-enum-told-3 : tie.Need-enum-told-3 Inv-loop μ-loop
-enum-told-3 c = search needs
-
 loop-less-3 : tie.Need-loop-less-3 Inv-loop μ-loop
 loop-less-3 c = search symbol-less
 
 loop-again-3 : tie.Need-loop-again-3 Inv-loop μ-loop
 loop-again-3 c = search order-output
 
-enum-told-4 : tie.Need-enum-told-4 Inv-loop μ-loop
-enum-told-4 c = search needs
-
 loop-less-4 : tie.Need-loop-less-4 Inv-loop μ-loop
 loop-less-4 c = search symbol-less
 
 loop-again-4 : tie.Need-loop-again-4 Inv-loop μ-loop
 loop-again-4 c = search order-bad
-
-enum-told-5 : tie.Need-enum-told-5 Inv-loop μ-loop
-enum-told-5 c = search needs
 
 loop-less-5 : tie.Need-loop-less-5 Inv-loop μ-loop
 loop-less-5 c = search symbol-less
@@ -97,28 +61,28 @@ check-tail-spec =
     Inv-loop
     μ-loop
     loop-holds
-    next-symbol-requires
-    enum-known-symbol
+    (λ c κs. search needs)
+    (λ c. search needs)
     returns
-    enum-known-symbol-2
-    enum-told
-    check-marked-requires
-    returns-2
+    (λ c. search needs)
+    (λ c. search needs)
+    (λ c κs. search needs)
+    (λ c. search needs)
     add-inputs
     loop-less
     loop-again
-    enum-told-2
-    check-marked-requires-2
-    returns-3
+    (λ c. search needs)
+    (λ c κs. search needs)
+    (λ c. search needs)
     add-latches
     loop-less-2
     loop-again-2
-    enum-told-3
+    (λ c. search needs)
     loop-less-3
     loop-again-3
-    enum-told-4
+    (λ c. search needs)
     loop-less-4
     loop-again-4
-    enum-told-5
+    (λ c. search needs)
     loop-less-5
     loop-again-5)

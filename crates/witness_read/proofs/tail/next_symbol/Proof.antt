@@ -4,15 +4,6 @@ use Rattle.witness_read.proofs.TailLaws.{symbol-none, symbol-comments, 
 use Rattle.witness_read.proofs.tail.next_symbol.Statement.{statement}
 use Rattle.witness_read.proofs.tail.next_symbol.Tie as tie
 
-next-line-requires : tie.Need-next-line-requires
-next-line-requires c κs = search needs
-
-enum-known-start : tie.Need-enum-known-start
-enum-known-start c = search needs
-
-enum-told : tie.Need-enum-told
-enum-told c = search needs
-
 returns : tie.Need-returns
 returns c = search symbol-none
 
@@ -25,20 +16,8 @@ part-l-start c = search line-ordered
 part-l-end : tie.Need-part-l-end
 part-l-end c = search line-within
 
-ends-symbols-requires : tie.Need-ends-symbols-requires
-ends-symbols-requires c κs = search needs
-
 returns-2 : tie.Need-returns-2
 returns-2 c = search symbol-comments
-
-symbol-line-requires : tie.Need-symbol-line-requires
-symbol-line-requires c κs = search needs
-
-enum-known-kind : tie.Need-enum-known-kind
-enum-known-kind c = search needs
-
-enum-told-2 : tie.Need-enum-told-2
-enum-told-2 c = search needs
 
 returns-3 : tie.Need-returns-3
 returns-3 c = search symbol-bad
@@ -50,17 +29,17 @@ pub next-symbol-spec : {M : Type 1} → statement M
 next-symbol-spec =
     tie.close
     (tie.spec
-    next-line-requires
-    enum-known-start
-    enum-told
+    (λ c κs. search needs)
+    (λ c. search needs)
+    (λ c. search needs)
     returns
     sub-l
     part-l-start
     part-l-end
-    ends-symbols-requires
+    (λ c κs. search needs)
     returns-2
-    symbol-line-requires
-    enum-known-kind
-    enum-told-2
+    (λ c κs. search needs)
+    (λ c. search needs)
+    (λ c. search needs)
     returns-3
     returns-4)

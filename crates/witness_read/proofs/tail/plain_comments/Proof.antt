@@ -22,15 +22,6 @@ returns c = search model-comments
 loop-holds : tie.Need-loop-holds Inv-loop μ-loop
 loop-holds c = refl
 
-next-line-requires : tie.Need-next-line-requires Inv-loop μ-loop
-next-line-requires c κs = search needs
-
-enum-known-start : tie.Need-enum-known-start Inv-loop μ-loop
-enum-known-start c = search needs
-
-enum-told : tie.Need-enum-told Inv-loop μ-loop
-enum-told c = search needs
-
 returns-2 : tie.Need-returns-2 Inv-loop μ-loop
 returns-2 c = search comments-end
 
@@ -42,9 +33,6 @@ part-plain-comment-start c = search line-ordered
 
 part-plain-comment-end : tie.Need-part-plain-comment-end Inv-loop μ-loop
 part-plain-comment-end c = search line-within
-
-plain-comment-requires : tie.Need-plain-comment-requires Inv-loop μ-loop
-plain-comment-requires c κs = search needs
 
 loop-less : tie.Need-loop-less Inv-loop μ-loop
 loop-less c = search line-less
@@ -63,14 +51,14 @@ plain-comments-spec =
     μ-loop
     returns
     loop-holds
-    next-line-requires
-    enum-known-start
-    enum-told
+    (λ c κs. search needs)
+    (λ c. search needs)
+    (λ c. search needs)
     returns-2
     sub-plain-comment
     part-plain-comment-start
     part-plain-comment-end
-    plain-comment-requires
+    (λ c κs. search needs)
     loop-less
     loop-again
     returns-3)
