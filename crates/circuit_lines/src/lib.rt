@@ -121,10 +121,10 @@ fn gate_line(reader: Reader, l: &[u8]) -> ReadGate
 }
 
 // The gate of the line at a cursor, in whatever form: the line's end first, and then its fields.
-fn any_gate(reader: Reader, s: &[u8], c: Cursor) -> TakenGate
-    ensures { λ r. ⌜ TakesGate reader (now (s .entry)) c r ⌝ }
+fn any_gate(reader: Reader, s: &[u8], cursor: Cursor) -> TakenGate
+    ensures { λ r. ⌜ TakesGate reader (now (s .entry)) cursor r ⌝ }
 {
-    let Line::At { start, end, next } = text::next_line(s, c) else {
+    let Line::At { start, end, next } = text::next_line(s, cursor) else {
         return TakenGate::Bad;
     };
     let ReadGate::Got(gate) = gate_line(reader, &s[start..end]) else {
@@ -137,13 +137,13 @@ fn any_gate(reader: Reader, s: &[u8], c: Cursor) -> TakenGate
 }
 
 // The gate of a line of three plain numbers, each with one byte behind it: the form in which circuits are printed.
-fn plain_gate(s: &[u8], c: Cursor) -> PlainGate
-    ensures { λ r. ⌜ TakesPlain (now (s .entry)) c r ⌝ }
+fn plain_gate(s: &[u8], cursor: Cursor) -> PlainGate
+    ensures { λ r. ⌜ TakesPlain (now (s .entry)) cursor r ⌝ }
 {
     let Plain::Got {
         value: output,
         next: second,
-    } = text::plain_number(s, c.at, 32)
+    } = text::plain_number(s, cursor.at, 32)
     else {
         return PlainGate::Other;
     };
@@ -168,11 +168,11 @@ fn plain_gate(s: &[u8], c: Cursor) -> PlainGate
 }
 
 // The gate of the line at a cursor: nearly always three plain numbers.
-pub fn take_gate(reader: Reader, s: &[u8], c: Cursor) -> TakenGate
-    ensures { λ r. ⌜ TakesGate reader (now (s .entry)) c r ⌝ }
+pub fn take_gate(reader: Reader, s: &[u8], cursor: Cursor) -> TakenGate
+    ensures { λ r. ⌜ TakesGate reader (now (s .entry)) cursor r ⌝ }
 {
-    let PlainGate::Got { gate, next } = plain_gate(s, c) else {
-        return any_gate(reader, s, c);
+    let PlainGate::Got { gate, next } = plain_gate(s, cursor) else {
+        return any_gate(reader, s, cursor);
     };
     TakenGate::Got {
         gate: gate,
@@ -181,10 +181,10 @@ pub fn take_gate(reader: Reader, s: &[u8], c: Cursor) -> TakenGate
 }
 
 // One number from each of the lines from a cursor on, as many as `out` is long.
-pub fn take_literals(reader: Reader, s: &[u8], c: Cursor, out: &mut [u64]) -> Place
-    ensures { λ r. ⌜ Takes (literalLine reader) (now (s .entry)) c (length (now (out .entry))) r (now (out .exit)) ⌝ }
+pub fn take_literals(reader: Reader, s: &[u8], cursor: Cursor, out: &mut [u64]) -> Place
+    ensures { λ r. ⌜ Takes (literalLine reader) (now (s .entry)) cursor (length (now (out .entry))) r (now (out .exit)) ⌝ }
 {
-    let mut p = c;
+    let mut p = cursor;
     let mut i = 0;
     while i < out.len() {
         let Literal::Got { value, next } = text::take_literal(reader, s, p) else {

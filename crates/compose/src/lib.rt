@@ -113,15 +113,15 @@ fn measure(
     counts: &[u64],
     work: &[u64],
     at: Places,
-    c: Merged,
-    t: Totals,
+    merged: Merged,
+    totals: Totals,
     out: &mut [u8],
 ) -> usize
-    requires { ⌜ PrintableSome (now witnesses) (now pairs) (now work) at c t ⌝ }
+    requires { ⌜ PrintableSome (now witnesses) (now pairs) (now work) at merged totals ⌝ }
     requires { ⌜ CountsListed (now witnesses) (now pairs) (now counts) ⌝ }
-    ensures { λ r. ⌜ Measures (now (witnesses .entry)) (now (pairs .entry)) (now (work .entry)) at c t (now (out .entry)) (now (out .exit)) r ⌝ }
+    ensures { λ r. ⌜ Measures (now (witnesses .entry)) (now (pairs .entry)) (now (work .entry)) at merged totals (now (out .entry)) (now (out .exit)) r ⌝ }
 {
-    compose_print::print_composition(&mut out[..0], witnesses, pairs, counts, work, at, c, t)
+    compose_print::print_composition(&mut out[..0], witnesses, pairs, counts, work, at, merged, totals)
 }
 
 // The text of a merged composition, where it fits.
@@ -131,19 +131,19 @@ fn write_merged(
     counts: &[u64],
     work: &[u64],
     at: Places,
-    c: Merged,
-    t: Totals,
+    merged: Merged,
+    totals: Totals,
     out: &mut [u8],
 ) -> Composed
-    requires { ⌜ PrintableSome (now witnesses) (now pairs) (now work) at c t ⌝ }
+    requires { ⌜ PrintableSome (now witnesses) (now pairs) (now work) at merged totals ⌝ }
     requires { ⌜ CountsListed (now witnesses) (now pairs) (now counts) ⌝ }
-    ensures { λ r. ⌜ Writes (now (witnesses .entry)) (now (pairs .entry)) (now (work .entry)) at c t (now (out .entry)) (now (out .exit)) r ⌝ }
+    ensures { λ r. ⌜ Writes (now (witnesses .entry)) (now (pairs .entry)) (now (work .entry)) at merged totals (now (out .entry)) (now (out .exit)) r ⌝ }
 {
-    let size = measure(witnesses, pairs, counts, work, at, c, t, out);
+    let size = measure(witnesses, pairs, counts, work, at, merged, totals, out);
     if out.len() < size {
         return Composed::Refused(20);
     }
-    let end = compose_print::print_composition(out, witnesses, pairs, counts, work, at, c, t);
+    let end = compose_print::print_composition(out, witnesses, pairs, counts, work, at, merged, totals);
     Composed::Got(end)
 }
 
@@ -153,21 +153,21 @@ fn compose_laid(
     pairs: &[u64],
     counts: &[u64],
     work: &mut [u64],
-    m: AagCounts,
-    t: Totals,
+    model_counts: AagCounts,
+    totals: Totals,
     at: Places,
     out: &mut [u8],
 ) -> Composed
-    requires { ⌜ LaidSome m t (now witnesses) (now pairs) (now work) at ⌝ }
+    requires { ⌜ LaidSome «model_counts» totals (now witnesses) (now pairs) (now work) at ⌝ }
     requires { ⌜ CountsListed (now witnesses) (now pairs) (now counts) ⌝ }
-    ensures { λ r. ⌜ ComposesLaid m t (now (witnesses .entry)) (now (pairs .entry)) (now (work .entry)) at (now (out .entry)) (now (out .exit)) r ⌝ }
+    ensures { λ r. ⌜ ComposesLaid «model_counts» totals (now (witnesses .entry)) (now (pairs .entry)) (now (work .entry)) at (now (out .entry)) (now (out .exit)) r ⌝ }
 {
-    let merged = compose_merge::merge(work, at, m, t);
+    let merged = compose_merge::merge(work, at, model_counts, totals);
     match merged {
         Merging::Refused(reason) => Composed::Refused(reason),
         Merging::Done(c) => {
             if all_safe(witnesses, pairs, counts) {
-                return write_merged(witnesses, pairs, counts, work, at, c, t, out);
+                return write_merged(witnesses, pairs, counts, work, at, c, totals, out);
             }
             Composed::Refused(19)
         }
@@ -180,25 +180,25 @@ fn compose_fitting(
     pairs: &[u64],
     counts: &[u64],
     work: &mut [u64],
-    m: AagCounts,
-    t: Totals,
+    model_counts: AagCounts,
+    totals: Totals,
     out: &mut [u8],
 ) -> Composed
-    requires { ⌜ CanLay m t (now witnesses) (now pairs) (now work) ⌝ }
+    requires { ⌜ CanLay «model_counts» totals (now witnesses) (now pairs) (now work) ⌝ }
     requires { ⌜ CountsListed (now witnesses) (now pairs) (now counts) ⌝ }
-    ensures { λ r. ⌜ ComposesFitting m t (now (witnesses .entry)) (now (pairs .entry)) (now (work .entry)) (now (out .entry)) (now (out .exit)) r ⌝ }
+    ensures { λ r. ⌜ ComposesFitting «model_counts» totals (now (witnesses .entry)) (now (pairs .entry)) (now (work .entry)) (now (out .entry)) (now (out .exit)) r ⌝ }
 {
-    let laid = compose_layout::lay(witnesses, pairs, counts, work, m, t);
+    let laid = compose_layout::lay(witnesses, pairs, counts, work, model_counts, totals);
     match laid {
         Laid::Wrong => Composed::Refused(16),
-        Laid::At(at) => compose_laid(witnesses, pairs, counts, work, m, t, at, out),
+        Laid::At(at) => compose_laid(witnesses, pairs, counts, work, model_counts, totals, at, out),
     }
 }
 
 // How much room the model leaves.
-fn room_beside(m: AagCounts, words: usize) -> usize
-    requires { ⌜ SmallSums (noneYet (firstRoom words)) m ⌝ }
-    ensures { λ r. ⌜ r ≡ roomBeside m words ⌝ }
+fn room_beside(model_counts: AagCounts, words: usize) -> usize
+    requires { ⌜ SmallSums (noneYet (firstRoom words)) «model_counts» ⌝ }
+    ensures { λ r. ⌜ r ≡ roomBeside «model_counts» words ⌝ }
 {
     let none = Totals {
         room: first_room(words),
@@ -206,7 +206,7 @@ fn room_beside(m: AagCounts, words: usize) -> usize
         latches: 0,
         gates: 0,
     };
-    let t = compose_gather::add_counts(none, m);
+    let t = compose_gather::add_counts(none, model_counts);
     t.room
 }
 
@@ -215,13 +215,13 @@ fn compose_witnesses(
     witnesses: &[u8],
     pairs: &[u64],
     work: &mut [u64],
-    m: AagCounts,
+    model_counts: AagCounts,
     out: &mut [u8],
 ) -> Composed
-    requires { ⌜ ModelSome (now witnesses) (now pairs) m ⌝ }
-    ensures { λ r. ⌜ ComposesWitnesses m (now (witnesses .entry)) (now (pairs .entry)) (now (work .entry)) (now (out .entry)) (now (out .exit)) r ⌝ }
+    requires { ⌜ ModelSome (now witnesses) (now pairs) «model_counts» ⌝ }
+    ensures { λ r. ⌜ ComposesWitnesses «model_counts» (now (witnesses .entry)) (now (pairs .entry)) (now (work .entry)) (now (out .entry)) (now (out .exit)) r ⌝ }
 {
-    let room = room_beside(m, work.len());
+    let room = room_beside(model_counts, work.len());
     // nine for each of at most 64 witnesses
     let mut counts: [u64; 576] = [0; 576];
     let checked = compose_gather::check_all(witnesses, pairs, room, &mut counts);
@@ -231,7 +231,7 @@ fn compose_witnesses(
             if t.room == 0 {
                 return Composed::Refused(15);
             }
-            compose_fitting(witnesses, pairs, &counts, work, m, t, out)
+            compose_fitting(witnesses, pairs, &counts, work, model_counts, t, out)
         }
     }
 }

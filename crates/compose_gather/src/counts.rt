@@ -20,31 +20,31 @@ fn store_three(out: &mut [u64], at: usize, x: u64, y: u64, z: u64)
 }
 
 // Stores the counts of witness w.
-pub fn store(counts: &mut [u64], w: usize, n: AagCounts)
+pub fn store(counts: &mut [u64], w: usize, witness: AagCounts)
     requires { ⌜ 9 * w + 8 < length (now counts) ⌝ }
-    ensures { λ _. ⌜ now (counts .exit) ≡ put (now (counts .entry)) (9 * w) (countWords n) ⌝ }
+    ensures { λ _. ⌜ now (counts .exit) ≡ put (now (counts .entry)) (9 * w) (countWords witness) ⌝ }
 {
     let at = 9 * w;
     store_three(
         counts,
         at,
-        n.max_variable as u64,
-        n.inputs as u64,
-        n.latches as u64,
+        witness.max_variable as u64,
+        witness.inputs as u64,
+        witness.latches as u64,
     );
     store_three(
         counts,
         at + 3,
-        n.outputs as u64,
-        n.gates as u64,
-        n.bads as u64,
+        witness.outputs as u64,
+        witness.gates as u64,
+        witness.bads as u64,
     );
     store_three(
         counts,
         at + 6,
-        n.constraints as u64,
-        n.justice as u64,
-        n.fairness as u64,
+        witness.constraints as u64,
+        witness.justice as u64,
+        witness.fairness as u64,
     );
 }
 
@@ -68,22 +68,22 @@ pub fn counts_at(counts: &[u64], w: usize) -> AagCounts
 }
 
 // How many inputs, or latches, a text with these counts has.
-pub fn leaf_count(leaves: Leaves, n: AagCounts) -> usize
-    ensures { λ r. ⌜ r ≡ leafCounts leaves n ⌝ }
+pub fn leaf_count(leaves: Leaves, counts: AagCounts) -> usize
+    ensures { λ r. ⌜ r ≡ leafCounts leaves counts ⌝ }
 {
     match leaves {
-        Leaves::Inputs => n.inputs,
-        Leaves::Latches => n.latches,
+        Leaves::Inputs => counts.inputs,
+        Leaves::Latches => counts.latches,
     }
 }
 
 // Where their names begin among the words of the text.
-pub fn names_before(leaves: Leaves, n: AagCounts) -> usize
-    requires { ⌜ wordsFor n < 18446744073709551616 ⌝ }
-    ensures { λ r. ⌜ r ≡ namesBefore leaves n ⌝ }
+pub fn names_before(leaves: Leaves, counts: AagCounts) -> usize
+    requires { ⌜ wordsFor counts < 18446744073709551616 ⌝ }
+    ensures { λ r. ⌜ r ≡ namesBefore leaves counts ⌝ }
 {
     match leaves {
         Leaves::Inputs => 0,
-        Leaves::Latches => 2 * n.inputs,
+        Leaves::Latches => 2 * counts.inputs,
     }
 }

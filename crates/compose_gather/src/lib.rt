@@ -67,31 +67,31 @@ fn less(a: usize, b: usize) -> usize
 }
 
 // The totals with one more text.
-pub fn add_counts(t: Totals, n: AagCounts) -> Totals
-    requires { ⌜ SmallSums t n ⌝ }
-    ensures { λ r. ⌜ r ≡ addedCounts t n ⌝ }
+pub fn add_counts(totals: Totals, counts: AagCounts) -> Totals
+    requires { ⌜ SmallSums totals counts ⌝ }
+    ensures { λ r. ⌜ r ≡ addedCounts totals counts ⌝ }
 {
-    let a = less(t.room, n.max_variable);
-    let b = less(a, n.outputs);
-    let c = less(b, n.bads);
+    let a = less(totals.room, counts.max_variable);
+    let b = less(a, counts.outputs);
+    let c = less(b, counts.bads);
     Totals {
-        room: less(c, n.constraints),
-        inputs: t.inputs + n.inputs,
-        latches: t.latches + n.latches,
-        gates: t.gates + n.gates,
+        room: less(c, counts.constraints),
+        inputs: totals.inputs + counts.inputs,
+        latches: totals.latches + counts.latches,
+        gates: totals.gates + counts.gates,
     }
 }
 
 // Reads a text, the one of witness w: the totals with it, and its counts are listed; or the number of the reason.
-fn check_one(text: &[u8], counts: &mut [u64], w: usize, t: Totals) -> Checked
-    requires { ⌜ CanCheck (now counts) w t ⌝ }
-    ensures { λ r. ⌜ ChecksOne (now (text .entry)) w t (now (counts .entry)) (now (counts .exit)) r ⌝ }
+fn check_one(text: &[u8], counts: &mut [u64], w: usize, totals: Totals) -> Checked
+    requires { ⌜ CanCheck (now counts) w totals ⌝ }
+    ensures { λ r. ⌜ ChecksOne (now (text .entry)) w totals (now (counts .entry)) (now (counts .exit)) r ⌝ }
 {
     match witness_read::parse_aag(text, true) {
         ReadAag::Refused(reason) => Checked::Refused(reason),
         ReadAag::Got(n) => {
             counts::store(counts, w, n);
-            Checked::Read(add_counts(t, n))
+            Checked::Read(add_counts(totals, n))
         }
     }
 }
@@ -126,28 +126,28 @@ pub fn check_all(witnesses: &[u8], pairs: &[u64], room: usize, counts: &mut [u64
 }
 
 // How many words the sections of a text with these counts need.
-pub fn word_count(n: AagCounts) -> usize
-    requires { ⌜ wordsFor n < 18446744073709551616 ⌝ }
-    ensures { λ r. ⌜ r ≡ wordsFor n ⌝ }
+pub fn word_count(counts: AagCounts) -> usize
+    requires { ⌜ wordsFor counts < 18446744073709551616 ⌝ }
+    ensures { λ r. ⌜ r ≡ wordsFor counts ⌝ }
 {
-    2 * n.inputs + 4 * n.latches + n.outputs + n.bads + n.constraints + 2 * n.gates
+    2 * counts.inputs + 4 * counts.latches + counts.outputs + counts.bads + counts.constraints + 2 * counts.gates
 }
 
 // The place behind the words of a text; they end at another place or before it.
-pub fn after_words(n: AagCounts, from: usize, end: usize) -> usize
-    requires { ⌜ from + wordsFor n ≤ end ⌝ }
-    ensures { λ r. ⌜ r ≡ from + wordsFor n ⌝ }
+pub fn after_words(counts: AagCounts, from: usize, end: usize) -> usize
+    requires { ⌜ from + wordsFor counts ≤ end ⌝ }
+    ensures { λ r. ⌜ r ≡ from + wordsFor counts ⌝ }
 {
-    from + word_count(n)
+    from + word_count(counts)
 }
 
 // Loads a text with the counts n from a place on, and returns the place after it.
-fn load_at(text: &[u8], n: AagCounts, work: &mut [u64], at: usize) -> usize
-    requires { ⌜ LoadableAt (now text) n (now work) at ⌝ }
-    ensures { λ r. ⌜ (r ≡ at + wordsFor n) × LoadsAt (now (text .entry)) n at (now (work .entry)) (now (work .exit)) ⌝ }
+fn load_at(text: &[u8], counts: AagCounts, work: &mut [u64], at: usize) -> usize
+    requires { ⌜ LoadableAt (now text) counts (now work) at ⌝ }
+    ensures { λ r. ⌜ (r ≡ at + wordsFor counts) × LoadsAt (now (text .entry)) counts at (now (work .entry)) (now (work .exit)) ⌝ }
 {
-    witness_load::load(text, n, &mut work[at..]);
-    at + word_count(n)
+    witness_load::load(text, counts, &mut work[at..]);
+    at + word_count(counts)
 }
 
 // Loads all witnesses in front of the words, and returns how many words that takes.

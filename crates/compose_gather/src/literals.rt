@@ -13,129 +13,129 @@ use compose_joint::Shift;
 use witness_text::AagCounts;
 
 // Where a list of literals stands among the words of a text with these counts.
-fn range_of(kind: Literals, n: AagCounts) -> Range
-    requires { ⌜ wordsFor n < 18446744073709551616 ⌝ }
-    ensures { λ r. ⌜ r ≡ rangeOf kind n ⌝ }
+fn range_of(kind: Literals, counts: AagCounts) -> Range
+    requires { ⌜ wordsFor counts < 18446744073709551616 ⌝ }
+    ensures { λ r. ⌜ r ≡ rangeOf kind counts ⌝ }
 {
-    let outputs = 2 * n.inputs + 4 * n.latches;
+    let outputs = 2 * counts.inputs + 4 * counts.latches;
     match kind {
         Literals::Latches => Range {
-            start: 2 * n.inputs + 2 * n.latches,
-            count: 2 * n.latches,
+            start: 2 * counts.inputs + 2 * counts.latches,
+            count: 2 * counts.latches,
         },
         Literals::Safety => {
-            if n.bads == 0 {
+            if counts.bads == 0 {
                 return Range {
                     start: outputs,
-                    count: n.outputs,
+                    count: counts.outputs,
                 };
             }
             Range {
-                start: outputs + n.outputs,
-                count: n.bads,
+                start: outputs + counts.outputs,
+                count: counts.bads,
             }
         }
         Literals::Constraints => Range {
-            start: outputs + n.outputs + n.bads,
-            count: n.constraints,
+            start: outputs + counts.outputs + counts.bads,
+            count: counts.constraints,
         },
         Literals::Operands => Range {
-            start: outputs + n.outputs + n.bads + n.constraints,
-            count: 2 * n.gates,
+            start: outputs + counts.outputs + counts.bads + counts.constraints,
+            count: 2 * counts.gates,
         },
     }
 }
 
 // The joint variable of a variable.
-fn shift(h: Shift, x: usize) -> usize
-    requires { ⌜ Shiftable h x ⌝ }
-    ensures { λ r. ⌜ SmallWord r (shifted h x) ⌝ }
+fn shift(shift: Shift, x: usize) -> usize
+    requires { ⌜ Shiftable shift x ⌝ }
+    ensures { λ r. ⌜ SmallWord r (shifted shift x) ⌝ }
 {
     if x == 0 {
         return 0;
     }
-    if x <= h.inputs {
-        return x + h.by_input;
+    if x <= shift.inputs {
+        return x + shift.by_input;
     }
-    if x <= h.leaves {
-        return x + h.by_latch;
+    if x <= shift.leaves {
+        return x + shift.by_latch;
     }
-    x + h.by_gate
+    x + shift.by_gate
 }
 
-fn shift_literal(h: Shift, l: u64) -> u64
-    requires { ⌜ Shiftable h l ⌝ }
-    ensures { λ r. ⌜ r ≡ shiftedLiteral h l ⌝ }
+fn shift_literal(shift: Shift, l: u64) -> u64
+    requires { ⌜ Shiftable shift l ⌝ }
+    ensures { λ r. ⌜ r ≡ shiftedLiteral shift l ⌝ }
 {
-    let x = shift(h, lists::index(l / 2));
+    let x = shift(shift, lists::index(l / 2));
     2 * x as u64 + l % 2
 }
 
 // Literals from one place on, written as joint literals from another place on.
-fn shift_words(work: &mut [u64], from: usize, count: usize, to: usize, h: Shift)
-    requires { ⌜ CanShift h (now work) from count to ⌝ }
-    ensures { λ _. ⌜ now (work .exit) ≡ put (now (work .entry)) to (map (shiftedLiteral h) (part (now (work .entry)) from (from + count))) ⌝ }
+fn shift_words(work: &mut [u64], from: usize, count: usize, to: usize, shift: Shift)
+    requires { ⌜ CanShift shift (now work) from count to ⌝ }
+    ensures { λ _. ⌜ now (work .exit) ≡ put (now (work .entry)) to (map (shiftedLiteral shift) (part (now (work .entry)) from (from + count))) ⌝ }
 {
     let mut i = 0;
     while i < count {
-        work[to + i] = shift_literal(h, work[from + i]);
+        work[to + i] = shift_literal(shift, work[from + i]);
         i += 1;
     }
 }
 
 // How the variables of a witness become joint ones.
-fn shift_of(inputs: usize, latches: usize, b: Before, n: AagCounts) -> Shift
-    requires { ⌜ SmallBefore inputs latches b n ⌝ }
-    ensures { λ r. ⌜ r ≡ shiftFor inputs latches b n ⌝ }
+fn shift_of(inputs: usize, latches: usize, before: Before, counts: AagCounts) -> Shift
+    requires { ⌜ SmallBefore inputs latches before counts ⌝ }
+    ensures { λ r. ⌜ r ≡ shiftFor inputs latches before counts ⌝ }
 {
-    let leaves = n.inputs + n.latches;
+    let leaves = counts.inputs + counts.latches;
     Shift {
-        inputs: n.inputs,
+        inputs: counts.inputs,
         leaves: leaves,
-        by_input: b.inputs,
-        by_latch: inputs + b.latches - n.inputs,
-        by_gate: inputs + latches + b.gates - leaves,
+        by_input: before.inputs,
+        by_latch: inputs + before.latches - counts.inputs,
+        by_gate: inputs + latches + before.gates - leaves,
     }
 }
 
 // What stands before the next witness.
-fn pass(inputs: usize, latches: usize, b: Before, n: AagCounts) -> Before
-    requires { ⌜ SmallBefore inputs latches b n ⌝ }
-    ensures { λ r. ⌜ r ≡ beyondCounts b n ⌝ }
+fn pass(inputs: usize, latches: usize, before: Before, counts: AagCounts) -> Before
+    requires { ⌜ SmallBefore inputs latches before counts ⌝ }
+    ensures { λ r. ⌜ r ≡ beyondCounts before counts ⌝ }
 {
     Before {
-        inputs: b.inputs + n.inputs,
-        latches: b.latches + n.latches,
-        gates: b.gates + n.gates,
+        inputs: before.inputs + counts.inputs,
+        latches: before.latches + counts.latches,
+        gates: before.gates + counts.gates,
     }
 }
 
 // The literals of a range behind a place, written as joint literals from another place on. Returns the place after them.
-fn shift_range(range: Range, h: Shift, work: &mut [u64], from: usize, to: usize) -> usize
-    requires { ⌜ CanShift h (now work) (from + range .start) (range .count) to ⌝ }
-    ensures { λ r. ⌜ ShiftsRange range h (now (work .entry)) from to (now (work .exit)) r ⌝ }
+fn shift_range(range: Range, shift: Shift, work: &mut [u64], from: usize, to: usize) -> usize
+    requires { ⌜ CanShift shift (now work) (from + range .start) (range .count) to ⌝ }
+    ensures { λ r. ⌜ ShiftsRange range shift (now (work .entry)) from to (now (work .exit)) r ⌝ }
 {
-    shift_words(work, from + range.start, range.count, to, h);
+    shift_words(work, from + range.start, range.count, to, shift);
     to + range.count
 }
 
 // A list of one witness, whose words begin at a place, written as joint literals from another place on. Returns the place after it.
 fn shift_list(
     kind: Literals,
-    n: AagCounts,
+    counts: AagCounts,
     inputs: usize,
     latches: usize,
-    b: Before,
+    before: Before,
     work: &mut [u64],
     from: usize,
     to: usize,
 ) -> usize
-    requires { ⌜ SmallBefore inputs latches b n ⌝ }
-    requires { ⌜ CanShiftList kind n (shiftFor inputs latches b n) (now work) from to ⌝ }
-    ensures { λ r. ⌜ ShiftsRange (rangeOf kind n) (shiftFor inputs latches b n) (now (work .entry)) from to (now (work .exit)) r ⌝ }
+    requires { ⌜ SmallBefore inputs latches before counts ⌝ }
+    requires { ⌜ CanShiftList kind counts (shiftFor inputs latches before counts) (now work) from to ⌝ }
+    ensures { λ r. ⌜ ShiftsRange (rangeOf kind counts) (shiftFor inputs latches before counts) (now (work .entry)) from to (now (work .exit)) r ⌝ }
 {
-    let h = shift_of(inputs, latches, b, n);
-    let range = range_of(kind, n);
+    let h = shift_of(inputs, latches, before, counts);
+    let range = range_of(kind, counts);
     shift_range(range, h, work, from, to)
 }
 

@@ -45,29 +45,29 @@ pub struct Lists {
 
 // The places of the regions behind the lists and origins.
 fn place_regions(
-    l: Lists,
+    listed: Lists,
     latch_origins: usize,
     table: usize,
-    m: AagCounts,
-    t: Totals,
+    model_counts: AagCounts,
+    totals: Totals,
     size: usize,
 ) -> Places
-    requires { ⌜ PlacesFit l table m t size ⌝ }
-    ensures { λ r. ⌜ r ≡ placesOf l «latch_origins» table m t ⌝ }
+    requires { ⌜ PlacesFit listed table «model_counts» totals size ⌝ }
+    ensures { λ r. ⌜ r ≡ placesOf listed «latch_origins» table «model_counts» totals ⌝ }
 {
-    let all = t.inputs + t.latches + t.gates;
-    let vars = table + (m.inputs + m.latches);
+    let all = totals.inputs + totals.latches + totals.gates;
+    let vars = table + (model_counts.inputs + model_counts.latches);
     let gates = vars + (all + 1);
-    let definitions = gates + (4 * t.gates + 1);
-    let bads = definitions + 2 * t.latches;
+    let definitions = gates + (4 * totals.gates + 1);
+    let bads = definitions + 2 * totals.latches;
     let bits = all / 32 + 1;
     let limits = bads + bits;
     Places {
-        latches: l.latches,
-        operands: l.operands,
-        safety: l.safety,
-        constraints: l.constraints,
-        input_origins: l.end,
+        latches: listed.latches,
+        operands: listed.operands,
+        safety: listed.safety,
+        constraints: listed.constraints,
+        input_origins: listed.end,
         latch_origins: latch_origins,
         table: table,
         vars: vars,
@@ -86,18 +86,18 @@ fn lay_leaves(
     pairs: &[u64],
     counts: &[u64],
     work: &mut [u64],
-    m: AagCounts,
-    t: Totals,
-    l: Lists,
+    model_counts: AagCounts,
+    totals: Totals,
+    listed: Lists,
     b: usize,
 ) -> Laid
-    requires { ⌜ Staged m t (now witnesses) (now pairs) (now work) (withInputs l (l .end)) b ⌝ }
+    requires { ⌜ Staged «model_counts» totals (now witnesses) (now pairs) (now work) (withInputs listed (listed .end)) b ⌝ }
     requires { ⌜ CountsListed (now witnesses) (now pairs) (now counts) ⌝ }
-    ensures { λ r. ⌜ GoesRight leaf.Latches m t (now (witnesses .entry)) (now (pairs .entry)) (now (work .entry)) (withInputs l (l .end)) b (now (work .exit)) r ⌝ }
+    ensures { λ r. ⌜ GoesRight leaf.Latches «model_counts» totals (now (witnesses .entry)) (now (pairs .entry)) (now (work .entry)) (withInputs listed (listed .end)) b (now (work .exit)) r ⌝ }
 {
     let p = ModelLeaves {
-        before: m.inputs,
-        count: m.latches,
+        before: model_counts.inputs,
+        count: model_counts.latches,
     };
     let Origins::Next(table) = compose_origins::gather_origins(
         witnesses,
@@ -110,7 +110,7 @@ fn lay_leaves(
     ) else {
         return Laid::Wrong;
     };
-    Laid::At(place_regions(l, b, table, m, t, work.len()))
+    Laid::At(place_regions(listed, b, table, model_counts, totals, work.len()))
 }
 
 // The origins of the inputs, then the latches'.
@@ -119,17 +119,17 @@ fn lay_inputs(
     pairs: &[u64],
     counts: &[u64],
     work: &mut [u64],
-    m: AagCounts,
-    t: Totals,
-    l: Lists,
+    model_counts: AagCounts,
+    totals: Totals,
+    listed: Lists,
 ) -> Laid
-    requires { ⌜ Staged m t (now witnesses) (now pairs) (now work) (withConstraints l) (l .end) ⌝ }
+    requires { ⌜ Staged «model_counts» totals (now witnesses) (now pairs) (now work) (withConstraints listed) (listed .end) ⌝ }
     requires { ⌜ CountsListed (now witnesses) (now pairs) (now counts) ⌝ }
-    ensures { λ r. ⌜ Goes m t (now (witnesses .entry)) (now (pairs .entry)) (now (work .entry)) (withConstraints l) (l .end) (now (work .exit)) r ⌝ }
+    ensures { λ r. ⌜ Goes «model_counts» totals (now (witnesses .entry)) (now (pairs .entry)) (now (work .entry)) (withConstraints listed) (listed .end) (now (work .exit)) r ⌝ }
 {
     let p = ModelLeaves {
         before: 0,
-        count: m.inputs,
+        count: model_counts.inputs,
     };
     let Origins::Next(b) = compose_origins::gather_origins(
         witnesses,
@@ -138,11 +138,11 @@ fn lay_inputs(
         work,
         Leaves::Inputs,
         p,
-        l.end,
+        listed.end,
     ) else {
         return Laid::Wrong;
     };
-    lay_leaves(witnesses, pairs, counts, work, m, t, l, b)
+    lay_leaves(witnesses, pairs, counts, work, model_counts, totals, listed, b)
 }
 
 // The constraints, then the origins.
@@ -151,16 +151,16 @@ fn lay_constraints(
     pairs: &[u64],
     counts: &[u64],
     work: &mut [u64],
-    m: AagCounts,
-    t: Totals,
+    model_counts: AagCounts,
+    totals: Totals,
     a: usize,
     b: usize,
     c: usize,
     d: usize,
 ) -> Laid
-    requires { ⌜ Staged m t (now witnesses) (now pairs) (now work) (withSafety a b c) d ⌝ }
+    requires { ⌜ Staged «model_counts» totals (now witnesses) (now pairs) (now work) (withSafety a b c) d ⌝ }
     requires { ⌜ CountsListed (now witnesses) (now pairs) (now counts) ⌝ }
-    ensures { λ r. ⌜ Goes m t (now (witnesses .entry)) (now (pairs .entry)) (now (work .entry)) (withSafety a b c) d (now (work .exit)) r ⌝ }
+    ensures { λ r. ⌜ Goes «model_counts» totals (now (witnesses .entry)) (now (pairs .entry)) (now (work .entry)) (withSafety a b c) d (now (work .exit)) r ⌝ }
 {
     let end = compose_gather::literals::gather(
         witnesses,
@@ -168,8 +168,8 @@ fn lay_constraints(
         counts,
         work,
         Literals::Constraints,
-        t.inputs,
-        t.latches,
+        totals.inputs,
+        totals.latches,
         d,
     );
     let lists = Lists {
@@ -179,7 +179,7 @@ fn lay_constraints(
         constraints: d,
         end: end,
     };
-    lay_inputs(witnesses, pairs, counts, work, m, t, lists)
+    lay_inputs(witnesses, pairs, counts, work, model_counts, totals, lists)
 }
 
 // The safety literals, then the others.
@@ -188,15 +188,15 @@ fn lay_safety(
     pairs: &[u64],
     counts: &[u64],
     work: &mut [u64],
-    m: AagCounts,
-    t: Totals,
+    model_counts: AagCounts,
+    totals: Totals,
     a: usize,
     b: usize,
     c: usize,
 ) -> Laid
-    requires { ⌜ Staged m t (now witnesses) (now pairs) (now work) (withOperands a b) c ⌝ }
+    requires { ⌜ Staged «model_counts» totals (now witnesses) (now pairs) (now work) (withOperands a b) c ⌝ }
     requires { ⌜ CountsListed (now witnesses) (now pairs) (now counts) ⌝ }
-    ensures { λ r. ⌜ Goes m t (now (witnesses .entry)) (now (pairs .entry)) (now (work .entry)) (withOperands a b) c (now (work .exit)) r ⌝ }
+    ensures { λ r. ⌜ Goes «model_counts» totals (now (witnesses .entry)) (now (pairs .entry)) (now (work .entry)) (withOperands a b) c (now (work .exit)) r ⌝ }
 {
     let d = compose_gather::literals::gather(
         witnesses,
@@ -204,11 +204,11 @@ fn lay_safety(
         counts,
         work,
         Literals::Safety,
-        t.inputs,
-        t.latches,
+        totals.inputs,
+        totals.latches,
         c,
     );
-    lay_constraints(witnesses, pairs, counts, work, m, t, a, b, c, d)
+    lay_constraints(witnesses, pairs, counts, work, model_counts, totals, a, b, c, d)
 }
 
 // The operands of the gates, then the others.
@@ -217,14 +217,14 @@ fn lay_operands(
     pairs: &[u64],
     counts: &[u64],
     work: &mut [u64],
-    m: AagCounts,
-    t: Totals,
+    model_counts: AagCounts,
+    totals: Totals,
     a: usize,
     b: usize,
 ) -> Laid
-    requires { ⌜ Staged m t (now witnesses) (now pairs) (now work) (withLatches a) b ⌝ }
+    requires { ⌜ Staged «model_counts» totals (now witnesses) (now pairs) (now work) (withLatches a) b ⌝ }
     requires { ⌜ CountsListed (now witnesses) (now pairs) (now counts) ⌝ }
-    ensures { λ r. ⌜ Goes m t (now (witnesses .entry)) (now (pairs .entry)) (now (work .entry)) (withLatches a) b (now (work .exit)) r ⌝ }
+    ensures { λ r. ⌜ Goes «model_counts» totals (now (witnesses .entry)) (now (pairs .entry)) (now (work .entry)) (withLatches a) b (now (work .exit)) r ⌝ }
 {
     let c = compose_gather::literals::gather(
         witnesses,
@@ -232,11 +232,11 @@ fn lay_operands(
         counts,
         work,
         Literals::Operands,
-        t.inputs,
-        t.latches,
+        totals.inputs,
+        totals.latches,
         b,
     );
-    lay_safety(witnesses, pairs, counts, work, m, t, a, b, c)
+    lay_safety(witnesses, pairs, counts, work, model_counts, totals, a, b, c)
 }
 
 // The latches' literals, then the others; the words of the texts end at a place.
@@ -245,13 +245,13 @@ fn lay_latches(
     pairs: &[u64],
     counts: &[u64],
     work: &mut [u64],
-    m: AagCounts,
-    t: Totals,
+    model_counts: AagCounts,
+    totals: Totals,
     a: usize,
 ) -> Laid
-    requires { ⌜ Staged m t (now witnesses) (now pairs) (now work) nothing a ⌝ }
+    requires { ⌜ Staged «model_counts» totals (now witnesses) (now pairs) (now work) nothing a ⌝ }
     requires { ⌜ CountsListed (now witnesses) (now pairs) (now counts) ⌝ }
-    ensures { λ r. ⌜ Goes m t (now (witnesses .entry)) (now (pairs .entry)) (now (work .entry)) nothing a (now (work .exit)) r ⌝ }
+    ensures { λ r. ⌜ Goes «model_counts» totals (now (witnesses .entry)) (now (pairs .entry)) (now (work .entry)) nothing a (now (work .exit)) r ⌝ }
 {
     let b = compose_gather::literals::gather(
         witnesses,
@@ -259,11 +259,11 @@ fn lay_latches(
         counts,
         work,
         Literals::Latches,
-        t.inputs,
-        t.latches,
+        totals.inputs,
+        totals.latches,
         a,
     );
-    lay_operands(witnesses, pairs, counts, work, m, t, a, b)
+    lay_operands(witnesses, pairs, counts, work, model_counts, totals, a, b)
 }
 
 // Loads the witnesses and lays out what is read of them.
@@ -272,13 +272,13 @@ pub fn lay(
     pairs: &[u64],
     counts: &[u64],
     work: &mut [u64],
-    m: AagCounts,
-    t: Totals,
+    model_counts: AagCounts,
+    totals: Totals,
 ) -> Laid
-    requires { ⌜ CanLay m t (now witnesses) (now pairs) (now work) ⌝ }
+    requires { ⌜ CanLay «model_counts» totals (now witnesses) (now pairs) (now work) ⌝ }
     requires { ⌜ CountsListed (now witnesses) (now pairs) (now counts) ⌝ }
-    ensures { λ r. ⌜ Lays m t (now (witnesses .entry)) (now (pairs .entry)) (now (work .entry)) (now (work .exit)) r ⌝ }
+    ensures { λ r. ⌜ Lays «model_counts» totals (now (witnesses .entry)) (now (pairs .entry)) (now (work .entry)) (now (work .exit)) r ⌝ }
 {
     let a = compose_gather::load_all(witnesses, pairs, counts, work);
-    lay_latches(witnesses, pairs, counts, work, m, t, a)
+    lay_latches(witnesses, pairs, counts, work, model_counts, totals, a)
 }

@@ -42,20 +42,20 @@ fn print_four(out: &mut [u8], at: usize, a: u64, b: u64, c: u64, d: u64) -> usiz
 }
 
 // Prints `aag` and the first four numbers.
-fn print_start(out: &mut [u8], at: usize, n: Counts) -> usize
-    ensures { λ r. ⌜ Prints (now (out .entry)) at (97 ∷ 97 ∷ 103 ∷ fieldsText (n .variables ∷ n .inputs ∷ n .latches ∷ 0 ∷ [])) (now (out .exit)) r ⌝ }
+fn print_start(out: &mut [u8], at: usize, counts: Counts) -> usize
+    ensures { λ r. ⌜ Prints (now (out .entry)) at (97 ∷ 97 ∷ 103 ∷ fieldsText (counts .variables ∷ counts .inputs ∷ counts .latches ∷ 0 ∷ [])) (now (out .exit)) r ⌝ }
 {
     let fields = text_print::print_bytes(out, at, b"aag");
-    print_four(out, fields, n.variables, n.inputs, n.latches, 0)
+    print_four(out, fields, counts.variables, counts.inputs, counts.latches, 0)
 }
 
 // Prints the line of the header.
-pub fn print_header(out: &mut [u8], at: usize, n: Counts) -> usize
-    ensures { λ r. ⌜ Prints (now (out .entry)) at (headerOf n ++ 10 ∷ []) (now (out .exit)) r ⌝ }
+pub fn print_header(out: &mut [u8], at: usize, counts: Counts) -> usize
+    ensures { λ r. ⌜ Prints (now (out .entry)) at (headerOf counts ++ 10 ∷ []) (now (out .exit)) r ⌝ }
 {
-    let gates = print_start(out, at, n);
-    let last = print_four(out, gates, n.gates, n.bads, n.constraints, 0);
-    text_print::print_bytes(out, last, b" 0\n")
+    let gates = print_start(out, at, counts);
+    let last = print_four(out, gates, counts.gates, counts.bads, counts.constraints, 0);
+    text_print::print_bytes(out, last, b" 0\counts")
 }
 
 // Prints the lines of the gates whose keys a table holds; the first gate has the variable `first`.

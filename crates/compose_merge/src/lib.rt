@@ -59,19 +59,19 @@ fn merge_literals(work: &mut [u64], at: Places, first: usize, next: usize, gates
 fn merge_definitions(
     work: &mut [u64],
     at: Places,
-    t: Totals,
+    totals: Totals,
     first: usize,
     next: usize,
     gates: usize,
 ) -> Merging
-    requires { ⌜ Some (GatesShared t at first next gates (now work)) ⌝ }
-    ensures { λ r. ⌜ Goes (GatesShared t at first next gates (now (work .entry))) at (now (work .entry)) (now (work .exit)) r ⌝ }
+    requires { ⌜ Some (GatesShared totals at first next gates (now work)) ⌝ }
+    ensures { λ r. ⌜ Goes (GatesShared totals at first next gates (now (work .entry))) at (now (work .entry)) (now (work .exit)) r ⌝ }
 {
-    let own = at.vars + 1 + t.inputs;
+    let own = at.vars + 1 + totals.inputs;
     match compose_gates::define_latches(
         work,
         at.latches,
-        t.latches,
+        totals.latches,
         at.vars,
         own,
         at.definitions,
@@ -83,62 +83,62 @@ fn merge_definitions(
 }
 
 // Shares the gates, and goes on.
-fn merge_gates(work: &mut [u64], at: Places, t: Totals, first: usize, next: usize) -> Merging
-    requires { ⌜ Some (LeavesNumbered t at first next (now work)) ⌝ }
-    ensures { λ r. ⌜ Goes (LeavesNumbered t at first next (now (work .entry))) at (now (work .entry)) (now (work .exit)) r ⌝ }
+fn merge_gates(work: &mut [u64], at: Places, totals: Totals, first: usize, next: usize) -> Merging
+    requires { ⌜ Some (LeavesNumbered totals at first next (now work)) ⌝ }
+    ensures { λ r. ⌜ Goes (LeavesNumbered totals at first next (now (work .entry))) at (now (work .entry)) (now (work .exit)) r ⌝ }
 {
-    let known = 1 + t.inputs + t.latches;
+    let known = 1 + totals.inputs + totals.latches;
     match compose_gates::share_gates(
         work,
         at.operands,
-        t.gates,
+        totals.gates,
         at.vars,
         known,
         at.gates,
         next - 1,
     ) {
         SharedGates::TooMany => Merging::Refused(17),
-        SharedGates::All(gates) => merge_definitions(work, at, t, first, next, gates),
+        SharedGates::All(gates) => merge_definitions(work, at, totals, first, next, gates),
     }
 }
 
 // Numbers the latches, whose first number is `first`, and goes on.
-fn merge_latches(work: &mut [u64], at: Places, m: AagCounts, t: Totals, first: usize) -> Merging
-    requires { ⌜ Some (InputsNumbered m t at first (now work)) ⌝ }
-    ensures { λ r. ⌜ Goes (InputsNumbered m t at first (now (work .entry))) at (now (work .entry)) (now (work .exit)) r ⌝ }
+fn merge_latches(work: &mut [u64], at: Places, model_counts: AagCounts, totals: Totals, first: usize) -> Merging
+    requires { ⌜ Some (InputsNumbered «model_counts» totals at first (now work)) ⌝ }
+    ensures { λ r. ⌜ Goes (InputsNumbered «model_counts» totals at first (now (work .entry))) at (now (work .entry)) (now (work .exit)) r ⌝ }
 {
-    let table = at.table + m.inputs;
-    let own = at.vars + 1 + t.inputs;
+    let table = at.table + model_counts.inputs;
+    let own = at.vars + 1 + totals.inputs;
     let next = compose_numbers::number_leaves(
         work,
         at.latch_origins,
-        t.latches,
+        totals.latches,
         table,
-        m.latches,
-        m.inputs,
+        model_counts.latches,
+        model_counts.inputs,
         own,
         first,
     );
-    merge_gates(work, at, t, first, next)
+    merge_gates(work, at, totals, first, next)
 }
 
 // Numbers the inputs, and goes on.
-fn merge_inputs(work: &mut [u64], at: Places, m: AagCounts, t: Totals) -> Merging
-    requires { ⌜ Some (Cleared m t at (now work)) ⌝ }
-    ensures { λ r. ⌜ Goes (Cleared m t at (now (work .entry))) at (now (work .entry)) (now (work .exit)) r ⌝ }
+fn merge_inputs(work: &mut [u64], at: Places, model_counts: AagCounts, totals: Totals) -> Merging
+    requires { ⌜ Some (Cleared «model_counts» totals at (now work)) ⌝ }
+    ensures { λ r. ⌜ Goes (Cleared «model_counts» totals at (now (work .entry))) at (now (work .entry)) (now (work .exit)) r ⌝ }
 {
     let own = at.vars + 1;
     let first = compose_numbers::number_leaves(
         work,
         at.input_origins,
-        t.inputs,
+        totals.inputs,
         at.table,
-        m.inputs,
+        model_counts.inputs,
         0,
         own,
         1,
     );
-    merge_latches(work, at, m, t, first)
+    merge_latches(work, at, model_counts, totals, first)
 }
 
 // Clears the words that are read before they are written: the table of the model's leaves and the constant's variable behind it, the heads of the table of
@@ -153,10 +153,10 @@ fn clear_regions(work: &mut [u64], at: Places, gates: usize)
 }
 
 // Merges the witnesses that are laid out in the work words, whose totals are t, for a model with the counts m.
-pub fn merge(work: &mut [u64], at: Places, m: AagCounts, t: Totals) -> Merging
-    requires { ⌜ Some (Mergeable m t at (now work)) ⌝ }
-    ensures { λ r. ⌜ Goes (Mergeable m t at (now (work .entry))) at (now (work .entry)) (now (work .exit)) r ⌝ }
+pub fn merge(work: &mut [u64], at: Places, model_counts: AagCounts, totals: Totals) -> Merging
+    requires { ⌜ Some (Mergeable «model_counts» totals at (now work)) ⌝ }
+    ensures { λ r. ⌜ Goes (Mergeable «model_counts» totals at (now (work .entry))) at (now (work .entry)) (now (work .exit)) r ⌝ }
 {
-    clear_regions(work, at, t.gates);
-    merge_inputs(work, at, m, t)
+    clear_regions(work, at, totals.gates);
+    merge_inputs(work, at, model_counts, totals)
 }

@@ -135,15 +135,15 @@ fn print_row(
     work: &[u64],
     leaves: Leaves,
     w: usize,
-    p: Places,
+    starts: Places,
     k: usize,
     number: u64,
 ) -> usize
-    requires { ⌜ RowWords (now text) (now work) p k ⌝ }
-    ensures { λ r. ⌜ Prints (now (out .entry)) at (symbolLine (kindOf leaves) number (rowAt (now (text .entry)) (now (work .entry)) leaves w p k .name) ++ 10 ∷ []) (now (out .exit)) r ⌝ }
+    requires { ⌜ RowWords (now text) (now work) starts k ⌝ }
+    ensures { λ r. ⌜ Prints (now (out .entry)) at (symbolLine (kindOf leaves) number (rowAt (now (text .entry)) (now (work .entry)) leaves w starts k .name) ++ 10 ∷ []) (now (out .exit)) r ⌝ }
 {
-    let start = lists::index(work[p.names + 2 * k]);
-    let size = lists::index(work[p.names + 2 * k + 1]);
+    let start = lists::index(work[starts.names + 2 * k]);
+    let size = lists::index(work[starts.names + 2 * k + 1]);
     print_symbol(
         out,
         at,
@@ -151,7 +151,7 @@ fn print_row(
         leaves,
         w,
         number,
-        work[p.origins + k],
+        work[starts.origins + k],
         start,
         size,
     )
@@ -165,23 +165,23 @@ fn print_names(
     work: &[u64],
     leaves: Leaves,
     w: usize,
-    p: Places,
+    starts: Places,
     count: usize,
     first: u64,
     new: u64,
 ) -> Printed
-    requires { ⌜ CanPrintNames (now text) (now work) p count first new ⌝ }
-    ensures { λ r. ⌜ PrintsNew leaves first new (rowsFrom (rowAt (now (text .entry)) (now (work .entry)) leaves w p) 0 count) (now (out .entry)) at (now (out .exit)) r ⌝ }
+    requires { ⌜ CanPrintNames (now text) (now work) starts count first new ⌝ }
+    ensures { λ r. ⌜ PrintsNew leaves first new (rowsFrom (rowAt (now (text .entry)) (now (work .entry)) leaves w starts) 0 count) (now (out .entry)) at (now (out .exit)) r ⌝ }
 {
     let mut to = at;
     let mut next = new;
     let mut k = 0;
     while k < count {
-        if work[p.numbers + k] != next {
+        if work[starts.numbers + k] != next {
             k += 1;
             continue;
         }
-        to = print_row(out, to, text, work, leaves, w, p, k, next - first);
+        to = print_row(out, to, text, work, leaves, w, starts, k, next - first);
         next += 1;
         k += 1;
     }
@@ -193,37 +193,37 @@ fn print_witness(
     out: &mut [u8],
     at: usize,
     text: &[u8],
-    n: AagCounts,
+    counts: AagCounts,
     work: &[u64],
     leaves: Leaves,
     w: usize,
-    p: Places,
+    starts: Places,
     first: u64,
     new: u64,
 ) -> Printed
-    requires { ⌜ CanPrintWitness (now text) n (now work) leaves p first new ⌝ }
-    ensures { λ r. ⌜ PrintsNew leaves first new (rowsIn (now (text .entry)) n (now (work .entry)) leaves w p) (now (out .entry)) at (now (out .exit)) r ⌝ }
+    requires { ⌜ CanPrintWitness (now text) counts (now work) leaves starts first new ⌝ }
+    ensures { λ r. ⌜ PrintsNew leaves first new (rowsIn (now (text .entry)) counts (now (work .entry)) leaves w starts) (now (out .entry)) at (now (out .exit)) r ⌝ }
 {
-    let count = compose_gather::counts::leaf_count(leaves, n);
-    let start = compose_gather::counts::names_before(leaves, n);
+    let count = compose_gather::counts::leaf_count(leaves, counts);
+    let start = compose_gather::counts::names_before(leaves, counts);
     let q = Places {
-        names: p.names + start,
-        origins: p.origins,
-        numbers: p.numbers,
+        names: starts.names + start,
+        origins: starts.origins,
+        numbers: starts.numbers,
     };
     print_names(out, at, text, work, leaves, w, q, count, first, new)
 }
 
 // The places of the next witness, within so many words.
-fn pass(leaves: Leaves, n: AagCounts, p: Places, size: usize) -> Places
-    requires { ⌜ CanPass leaves n p size ⌝ }
-    ensures { λ r. ⌜ r ≡ passed leaves n p ⌝ }
+fn pass(leaves: Leaves, counts: AagCounts, starts: Places, size: usize) -> Places
+    requires { ⌜ CanPass leaves counts starts size ⌝ }
+    ensures { λ r. ⌜ r ≡ passed leaves counts starts ⌝ }
 {
-    let count = compose_gather::counts::leaf_count(leaves, n);
+    let count = compose_gather::counts::leaf_count(leaves, counts);
     Places {
-        names: compose_gather::after_words(n, p.names, size),
-        origins: p.origins + count,
-        numbers: p.numbers + count,
+        names: compose_gather::after_words(counts, starts.names, size),
+        origins: starts.origins + count,
+        numbers: starts.numbers + count,
     }
 }
 

@@ -26,55 +26,55 @@ pub enum Origins {
 }
 
 // What a literal behind `= ` maps to.
-fn onto(p: ModelLeaves, l: u64) -> Mapping
-    requires { ⌜ FewLeaves p 0 ⌝ }
-    ensures { λ r. ⌜ r ≡ ontoNumber p (Value l) ⌝ }
+fn onto(model_leaves: ModelLeaves, l: u64) -> Mapping
+    requires { ⌜ FewLeaves «model_leaves» 0 ⌝ }
+    ensures { λ r. ⌜ r ≡ ontoNumber «model_leaves» (Value l) ⌝ }
 {
     let x = lists::index(l / 2);
     if l % 2 == 1 {
         return Mapping::Wrong;
     }
-    if x <= p.before {
+    if x <= model_leaves.before {
         return Mapping::Wrong;
     }
-    if p.before + p.count < x {
+    if model_leaves.before + model_leaves.count < x {
         return Mapping::Wrong;
     }
     Mapping::Onto(l)
 }
 
 // What the bytes behind `= ` map to.
-fn onto_digits(p: ModelLeaves, digits: &[u8]) -> Mapping
-    requires { ⌜ FewLeaves p 0 ⌝ }
-    ensures { λ r. ⌜ r ≡ ontoNumber p (numberOf Witness (now (digits .entry))) ⌝ }
+fn onto_digits(model_leaves: ModelLeaves, digits: &[u8]) -> Mapping
+    requires { ⌜ FewLeaves «model_leaves» 0 ⌝ }
+    ensures { λ r. ⌜ r ≡ ontoNumber «model_leaves» (numberOf Witness (now (digits .entry))) ⌝ }
 {
     match text::numbers::parse_number(digits) {
         Number::Unreadable => Mapping::Wrong,
-        Number::Value(l) => onto(p, l),
+        Number::Value(l) => onto(model_leaves, l),
     }
 }
 
 // What an input or latch of this name maps to.
-fn by_name(p: ModelLeaves, name: &[u8]) -> Mapping
-    requires { ⌜ FewLeaves p 0 ⌝ }
-    ensures { λ r. ⌜ r ≡ byName p (some (now (name .entry))) ⌝ }
+fn by_name(model_leaves: ModelLeaves, name: &[u8]) -> Mapping
+    requires { ⌜ FewLeaves «model_leaves» 0 ⌝ }
+    ensures { λ r. ⌜ r ≡ byName «model_leaves» (some (now (name .entry))) ⌝ }
 {
     if name.len() < 2 {
         return Mapping::Private;
     }
     if scan::begins_with(name, b"= ") {
-        return onto_digits(p, &name[2..]);
+        return onto_digits(model_leaves, &name[2..]);
     }
     Mapping::Private
 }
 
 // What input or latch number k maps to by its position.
-fn by_position(p: ModelLeaves, k: usize) -> Mapping
-    requires { ⌜ FewLeaves p k ⌝ }
-    ensures { λ r. ⌜ r ≡ byPosition p k ⌝ }
+fn by_position(model_leaves: ModelLeaves, k: usize) -> Mapping
+    requires { ⌜ FewLeaves «model_leaves» k ⌝ }
+    ensures { λ r. ⌜ r ≡ byPosition «model_leaves» k ⌝ }
 {
-    if k < p.count {
-        return Mapping::Onto((2 * (p.before + k + 1)) as u64);
+    if k < model_leaves.count {
+        return Mapping::Onto((2 * (model_leaves.before + k + 1)) as u64);
     }
     Mapping::Private
 }
@@ -85,20 +85,20 @@ fn mapping_of(
     offset: usize,
     size: usize,
     named: bool,
-    p: ModelLeaves,
+    model_leaves: ModelLeaves,
     k: usize,
 ) -> Mapping
-    requires { ⌜ FewLeaves p k ⌝ }
+    requires { ⌜ FewLeaves «model_leaves» k ⌝ }
     requires { ⌜ SaysName (now text) offset size ⌝ }
-    ensures { λ r. ⌜ MapsTo p named k (now (text .entry)) offset size r ⌝ }
+    ensures { λ r. ⌜ MapsTo «model_leaves» named k (now (text .entry)) offset size r ⌝ }
 {
     if named {
         if offset == 0 {
             return Mapping::Private;
         }
-        return by_name(p, compose_gather::piece(text, offset, size));
+        return by_name(model_leaves, compose_gather::piece(text, offset, size));
     }
-    by_position(p, k)
+    by_position(model_leaves, k)
 }
 
 // What input or latch number k maps to; the two words at a place say its name.
@@ -107,15 +107,15 @@ fn mapping_at(
     work: &[u64],
     at: usize,
     named: bool,
-    p: ModelLeaves,
+    model_leaves: ModelLeaves,
     k: usize,
 ) -> Mapping
-    requires { ⌜ MappedAt p (now text) (now work) at k ⌝ }
-    ensures { λ r. ⌜ MapsAt p named k (now (text .entry)) (now (work .entry)) at r ⌝ }
+    requires { ⌜ MappedAt «model_leaves» (now text) (now work) at k ⌝ }
+    ensures { λ r. ⌜ MapsAt «model_leaves» named k (now (text .entry)) (now (work .entry)) at r ⌝ }
 {
     let offset = lists::index(work[at]);
     let size = lists::index(work[at + 1]);
-    mapping_of(text, offset, size, named, p, k)
+    mapping_of(text, offset, size, named, model_leaves, k)
 }
 
 // Whether a name begins with `= `; two words say it.
@@ -184,16 +184,16 @@ fn store_origins(
     from: usize,
     count: usize,
     named: bool,
-    p: ModelLeaves,
+    model_leaves: ModelLeaves,
     w: usize,
     to: usize,
 ) -> bool
-    requires { ⌜ CanMap p (now text) (now work) from count w to ⌝ }
-    ensures { λ r. ⌜ StoresOrigins p (now (text .entry)) from count named w to (now (work .entry)) (now (work .exit)) r ⌝ }
+    requires { ⌜ CanMap «model_leaves» (now text) (now work) from count w to ⌝ }
+    ensures { λ r. ⌜ StoresOrigins «model_leaves» (now (text .entry)) from count named w to (now (work .entry)) (now (work .exit)) r ⌝ }
 {
     let mut k = 0;
     while k < count {
-        let mapping = mapping_at(text, work, from + 2 * k, named, p, k);
+        let mapping = mapping_at(text, work, from + 2 * k, named, model_leaves, k);
         if is_right(mapping) {
             work[to + k] = origin_word(w, mapping);
             k += 1;
@@ -205,19 +205,19 @@ fn store_origins(
 }
 
 // Where the names of the inputs, or latches, begin; the words of the text begin at a place.
-fn names_at(leaves: Leaves, n: AagCounts, from: usize, end: usize) -> usize
-    requires { ⌜ from + wordsFor n ≤ end ⌝ }
-    ensures { λ r. ⌜ r ≡ from + namesBefore leaves n ⌝ }
+fn names_at(leaves: Leaves, counts: AagCounts, from: usize, end: usize) -> usize
+    requires { ⌜ from + wordsFor counts ≤ end ⌝ }
+    ensures { λ r. ⌜ r ≡ from + namesBefore leaves counts ⌝ }
 {
-    from + compose_gather::counts::names_before(leaves, n)
+    from + compose_gather::counts::names_before(leaves, counts)
 }
 
 // Whether witness maps by name; its words begin at a place.
-fn maps_by_name(text: &[u8], n: AagCounts, work: &[u64], from: usize) -> bool
-    requires { ⌜ CanTest (now text) n (now work) from ⌝ }
-    ensures { λ r. ⌜ TestsWitness (now (text .entry)) n (now (work .entry)) from r ⌝ }
+fn maps_by_name(text: &[u8], counts: AagCounts, work: &[u64], from: usize) -> bool
+    requires { ⌜ CanTest (now text) counts (now work) from ⌝ }
+    ensures { λ r. ⌜ TestsWitness (now (text .entry)) counts (now (work .entry)) from r ⌝ }
 {
-    let end = from + 2 * (n.inputs + n.latches);
+    let end = from + 2 * (counts.inputs + counts.latches);
     any_mapped(text, &work[from..end])
 }
 
@@ -235,21 +235,21 @@ fn stored(right: bool, to: usize, count: usize, end: usize) -> Origins
 // The origins of the inputs, or latches, of witness w, whose words begin at a place, from another place on.
 fn witness_origins(
     text: &[u8],
-    n: AagCounts,
+    counts: AagCounts,
     work: &mut [u64],
     from: usize,
     leaves: Leaves,
-    p: ModelLeaves,
+    model_leaves: ModelLeaves,
     w: usize,
     to: usize,
 ) -> Origins
-    requires { ⌜ CanMapWitness p leaves (now text) n (now work) from w to ⌝ }
-    ensures { λ r. ⌜ MapsWitness p leaves (now (text .entry)) n (now (work .entry)) from w to (now (work .exit)) r ⌝ }
+    requires { ⌜ CanMapWitness «model_leaves» leaves (now text) counts (now work) from w to ⌝ }
+    ensures { λ r. ⌜ MapsWitness «model_leaves» leaves (now (text .entry)) counts (now (work .entry)) from w to (now (work .exit)) r ⌝ }
 {
-    let named = maps_by_name(text, n, work, from);
-    let names = names_at(leaves, n, from, to);
-    let count = compose_gather::counts::leaf_count(leaves, n);
-    let right = store_origins(text, work, names, count, named, p, w, to);
+    let named = maps_by_name(text, counts, work, from);
+    let names = names_at(leaves, counts, from, to);
+    let count = compose_gather::counts::leaf_count(leaves, counts);
+    let right = store_origins(text, work, names, count, named, model_leaves, w, to);
     stored(right, to, count, work.len())
 }
 
@@ -260,12 +260,12 @@ pub fn gather_origins(
     counts: &[u64],
     work: &mut [u64],
     leaves: Leaves,
-    p: ModelLeaves,
+    model_leaves: ModelLeaves,
     to: usize,
 ) -> Origins
-    requires { ⌜ CanMapAll p leaves (now witnesses) (now pairs) (now work) to ⌝ }
+    requires { ⌜ CanMapAll «model_leaves» leaves (now witnesses) (now pairs) (now work) to ⌝ }
     requires { ⌜ CountsListed (now witnesses) (now pairs) (now counts) ⌝ }
-    ensures { λ r. ⌜ MapsAll p leaves (now (witnesses .entry)) (now (pairs .entry)) (now (work .entry)) to (now (work .exit)) r ⌝ }
+    ensures { λ r. ⌜ MapsAll «model_leaves» leaves (now (witnesses .entry)) (now (pairs .entry)) (now (work .entry)) to (now (work .exit)) r ⌝ }
 {
     let count = pairs.len() / 2;
     let mut from = 0;
@@ -275,7 +275,7 @@ pub fn gather_origins(
         let text = compose_gather::text_at(witnesses, pairs, w);
         let n = compose_gather::counts::counts_at(counts, w);
         let next = compose_gather::after_words(n, from, at);
-        let Origins::Next(end) = witness_origins(text, n, work, from, leaves, p, w, at) else {
+        let Origins::Next(end) = witness_origins(text, n, work, from, leaves, model_leaves, w, at) else {
             return Origins::Wrong;
         };
         at = end;

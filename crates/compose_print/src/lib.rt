@@ -16,15 +16,15 @@ fn print_latch_names(
     counts: &[u64],
     work: &[u64],
     at: Places,
-    c: Merged,
-    t: Totals,
+    merged: Merged,
+    totals: Totals,
 ) -> usize
-    requires { ⌜ PrintableSome (now witnesses) (now pairs) (now work) at c t ⌝ }
+    requires { ⌜ PrintableSome (now witnesses) (now pairs) (now work) at merged totals ⌝ }
     requires { ⌜ CountsListed (now witnesses) (now pairs) (now counts) ⌝ }
-    ensures { λ r. ⌜ PrintsText fromLatchNames (now (witnesses .entry)) (now (pairs .entry)) (now (work .entry)) at c t (now (out .entry)) from (now (out .exit)) r ⌝ }
+    ensures { λ r. ⌜ PrintsText fromLatchNames (now (witnesses .entry)) (now (pairs .entry)) (now (work .entry)) at merged totals (now (out .entry)) from (now (out .exit)) r ⌝ }
 {
-    let numbers = at.vars + 1 + t.inputs;
-    let first = c.inputs + 1;
+    let numbers = at.vars + 1 + totals.inputs;
+    let first = merged.inputs + 1;
     let next = compose_names::print_symbols(
         out,
         from,
@@ -49,12 +49,12 @@ fn print_input_names(
     counts: &[u64],
     work: &[u64],
     at: Places,
-    c: Merged,
-    t: Totals,
+    merged: Merged,
+    totals: Totals,
 ) -> usize
-    requires { ⌜ PrintableSome (now witnesses) (now pairs) (now work) at c t ⌝ }
+    requires { ⌜ PrintableSome (now witnesses) (now pairs) (now work) at merged totals ⌝ }
     requires { ⌜ CountsListed (now witnesses) (now pairs) (now counts) ⌝ }
-    ensures { λ r. ⌜ PrintsText fromInputNames (now (witnesses .entry)) (now (pairs .entry)) (now (work .entry)) at c t (now (out .entry)) from (now (out .exit)) r ⌝ }
+    ensures { λ r. ⌜ PrintsText fromInputNames (now (witnesses .entry)) (now (pairs .entry)) (now (work .entry)) at merged totals (now (out .entry)) from (now (out .exit)) r ⌝ }
 {
     let next = compose_names::print_symbols(
         out,
@@ -68,7 +68,7 @@ fn print_input_names(
         at.vars + 1,
         1,
     );
-    print_latch_names(out, next, witnesses, pairs, counts, work, at, c, t)
+    print_latch_names(out, next, witnesses, pairs, counts, work, at, merged, totals)
 }
 
 // From the gates on.
@@ -80,14 +80,14 @@ fn print_gates(
     counts: &[u64],
     work: &[u64],
     at: Places,
-    c: Merged,
-    t: Totals,
+    merged: Merged,
+    totals: Totals,
 ) -> usize
-    requires { ⌜ PrintableSome (now witnesses) (now pairs) (now work) at c t ⌝ }
+    requires { ⌜ PrintableSome (now witnesses) (now pairs) (now work) at merged totals ⌝ }
     requires { ⌜ CountsListed (now witnesses) (now pairs) (now counts) ⌝ }
-    ensures { λ r. ⌜ PrintsText fromGates (now (witnesses .entry)) (now (pairs .entry)) (now (work .entry)) at c t (now (out .entry)) from (now (out .exit)) r ⌝ }
+    ensures { λ r. ⌜ PrintsText fromGates (now (witnesses .entry)) (now (pairs .entry)) (now (work .entry)) at merged totals (now (out .entry)) from (now (out .exit)) r ⌝ }
 {
-    let first = c.inputs + c.latches + 1;
+    let first = merged.inputs + merged.latches + 1;
     let start = at.gates;
     let end = at.definitions;
     let next = compose_lines::print_gates(
@@ -95,10 +95,10 @@ fn print_gates(
         from,
         first as u64,
         &work[start..end],
-        t.gates + 1,
-        c.gates,
+        totals.gates + 1,
+        merged.gates,
     );
-    print_input_names(out, next, witnesses, pairs, counts, work, at, c, t)
+    print_input_names(out, next, witnesses, pairs, counts, work, at, merged, totals)
 }
 
 // From the constraints on.
@@ -110,17 +110,17 @@ fn print_constraints(
     counts: &[u64],
     work: &[u64],
     at: Places,
-    c: Merged,
-    t: Totals,
+    merged: Merged,
+    totals: Totals,
 ) -> usize
-    requires { ⌜ PrintableSome (now witnesses) (now pairs) (now work) at c t ⌝ }
+    requires { ⌜ PrintableSome (now witnesses) (now pairs) (now work) at merged totals ⌝ }
     requires { ⌜ CountsListed (now witnesses) (now pairs) (now counts) ⌝ }
-    ensures { λ r. ⌜ PrintsText fromConstraints (now (witnesses .entry)) (now (pairs .entry)) (now (work .entry)) at c t (now (out .entry)) from (now (out .exit)) r ⌝ }
+    ensures { λ r. ⌜ PrintsText fromConstraints (now (witnesses .entry)) (now (pairs .entry)) (now (work .entry)) at merged totals (now (out .entry)) from (now (out .exit)) r ⌝ }
 {
     let start = at.limits;
     let end = at.end;
     let next = text_print::print_set(out, from, &work[start..end]);
-    print_gates(out, next, witnesses, pairs, counts, work, at, c, t)
+    print_gates(out, next, witnesses, pairs, counts, work, at, merged, totals)
 }
 
 // From the bads on.
@@ -132,17 +132,17 @@ fn print_bads(
     counts: &[u64],
     work: &[u64],
     at: Places,
-    c: Merged,
-    t: Totals,
+    merged: Merged,
+    totals: Totals,
 ) -> usize
-    requires { ⌜ PrintableSome (now witnesses) (now pairs) (now work) at c t ⌝ }
+    requires { ⌜ PrintableSome (now witnesses) (now pairs) (now work) at merged totals ⌝ }
     requires { ⌜ CountsListed (now witnesses) (now pairs) (now counts) ⌝ }
-    ensures { λ r. ⌜ PrintsText fromBads (now (witnesses .entry)) (now (pairs .entry)) (now (work .entry)) at c t (now (out .entry)) from (now (out .exit)) r ⌝ }
+    ensures { λ r. ⌜ PrintsText fromBads (now (witnesses .entry)) (now (pairs .entry)) (now (work .entry)) at merged totals (now (out .entry)) from (now (out .exit)) r ⌝ }
 {
     let start = at.bads;
     let end = at.limits;
     let next = text_print::print_set(out, from, &work[start..end]);
-    print_constraints(out, next, witnesses, pairs, counts, work, at, c, t)
+    print_constraints(out, next, witnesses, pairs, counts, work, at, merged, totals)
 }
 
 // From the latches on.
@@ -154,18 +154,18 @@ fn print_latches(
     counts: &[u64],
     work: &[u64],
     at: Places,
-    c: Merged,
-    t: Totals,
+    merged: Merged,
+    totals: Totals,
 ) -> usize
-    requires { ⌜ PrintableSome (now witnesses) (now pairs) (now work) at c t ⌝ }
+    requires { ⌜ PrintableSome (now witnesses) (now pairs) (now work) at merged totals ⌝ }
     requires { ⌜ CountsListed (now witnesses) (now pairs) (now counts) ⌝ }
-    ensures { λ r. ⌜ PrintsText fromLatches (now (witnesses .entry)) (now (pairs .entry)) (now (work .entry)) at c t (now (out .entry)) from (now (out .exit)) r ⌝ }
+    ensures { λ r. ⌜ PrintsText fromLatches (now (witnesses .entry)) (now (pairs .entry)) (now (work .entry)) at merged totals (now (out .entry)) from (now (out .exit)) r ⌝ }
 {
-    let first = c.inputs + 1;
+    let first = merged.inputs + 1;
     let start = at.definitions;
-    let end = start + 2 * c.latches;
+    let end = start + 2 * merged.latches;
     let next = text_print::print_pairs(out, from, first as u64, &work[start..end]);
-    print_bads(out, next, witnesses, pairs, counts, work, at, c, t)
+    print_bads(out, next, witnesses, pairs, counts, work, at, merged, totals)
 }
 
 // From the inputs on.
@@ -177,15 +177,15 @@ fn print_inputs(
     counts: &[u64],
     work: &[u64],
     at: Places,
-    c: Merged,
-    t: Totals,
+    merged: Merged,
+    totals: Totals,
 ) -> usize
-    requires { ⌜ PrintableSome (now witnesses) (now pairs) (now work) at c t ⌝ }
+    requires { ⌜ PrintableSome (now witnesses) (now pairs) (now work) at merged totals ⌝ }
     requires { ⌜ CountsListed (now witnesses) (now pairs) (now counts) ⌝ }
-    ensures { λ r. ⌜ PrintsText fromInputs (now (witnesses .entry)) (now (pairs .entry)) (now (work .entry)) at c t (now (out .entry)) from (now (out .exit)) r ⌝ }
+    ensures { λ r. ⌜ PrintsText fromInputs (now (witnesses .entry)) (now (pairs .entry)) (now (work .entry)) at merged totals (now (out .entry)) from (now (out .exit)) r ⌝ }
 {
-    let next = text_print::print_consecutive(out, from, 1, c.inputs);
-    print_latches(out, next, witnesses, pairs, counts, work, at, c, t)
+    let next = text_print::print_consecutive(out, from, 1, merged.inputs);
+    print_latches(out, next, witnesses, pairs, counts, work, at, merged, totals)
 }
 
 // The whole text.
@@ -196,21 +196,21 @@ pub fn print_composition(
     counts: &[u64],
     work: &[u64],
     at: Places,
-    c: Merged,
-    t: Totals,
+    merged: Merged,
+    totals: Totals,
 ) -> usize
-    requires { ⌜ PrintableSome (now witnesses) (now pairs) (now work) at c t ⌝ }
+    requires { ⌜ PrintableSome (now witnesses) (now pairs) (now work) at merged totals ⌝ }
     requires { ⌜ CountsListed (now witnesses) (now pairs) (now counts) ⌝ }
-    ensures { λ r. ⌜ PrintsText fromHeader (now (witnesses .entry)) (now (pairs .entry)) (now (work .entry)) at c t (now (out .entry)) 0 (now (out .exit)) r ⌝ }
+    ensures { λ r. ⌜ PrintsText fromHeader (now (witnesses .entry)) (now (pairs .entry)) (now (work .entry)) at merged totals (now (out .entry)) 0 (now (out .exit)) r ⌝ }
 {
     let head = Counts {
-        variables: (c.inputs + c.latches + c.gates) as u64,
-        inputs: c.inputs as u64,
-        latches: c.latches as u64,
-        gates: c.gates as u64,
-        bads: c.bads as u64,
-        constraints: c.constraints as u64,
+        variables: (merged.inputs + merged.latches + merged.gates) as u64,
+        inputs: merged.inputs as u64,
+        latches: merged.latches as u64,
+        gates: merged.gates as u64,
+        bads: merged.bads as u64,
+        constraints: merged.constraints as u64,
     };
     let next = compose_lines::print_header(out, 0, head);
-    print_inputs(out, next, witnesses, pairs, counts, work, at, c, t)
+    print_inputs(out, next, witnesses, pairs, counts, work, at, merged, totals)
 }

@@ -53,44 +53,44 @@ pub enum Verdict {
 }
 
 // The counts of a record.
-pub fn counts_of(m: AigerTransition) -> Counts
-    ensures { λ r. ⌜ r ≡ countsOf m ⌝ }
+pub fn counts_of(model: AigerTransition) -> Counts
+    ensures { λ r. ⌜ r ≡ countsOf model ⌝ }
 {
     Counts {
-        max_variable: m.max_variable,
-        inputs: m.input_count,
-        latches: m.latch_count,
-        outputs: m.output_count,
-        ands: m.and_count,
+        max_variable: model.max_variable,
+        inputs: model.input_count,
+        latches: model.latch_count,
+        outputs: model.output_count,
+        ands: model.and_count,
     }
 }
 
 // Whether the counts are within the limits and agree.
-pub fn counts_hold(n: Counts) -> bool
-    ensures { λ r. ⌜ r ≡ counted n ⌝ }
+pub fn counts_hold(counts: Counts) -> bool
+    ensures { λ r. ⌜ r ≡ counted counts ⌝ }
 {
-    if 64 < n.inputs {
+    if 64 < counts.inputs {
         return false;
     }
-    if n.latches == 0 {
+    if counts.latches == 0 {
         return false;
     }
-    if 8 < n.latches {
+    if 8 < counts.latches {
         return false;
     }
-    if 128 < n.outputs {
+    if 128 < counts.outputs {
         return false;
     }
-    if n.max_variable == 0 {
+    if counts.max_variable == 0 {
         return false;
     }
-    if 1000000 < n.max_variable {
+    if 1000000 < counts.max_variable {
         return false;
     }
-    if n.max_variable < n.ands {
+    if counts.max_variable < counts.ands {
         return false;
     }
-    n.max_variable == n.inputs + n.latches + n.ands
+    counts.max_variable == counts.inputs + counts.latches + counts.ands
 }
 
 // The literals of the latches.
@@ -154,12 +154,12 @@ fn define_all(work: &mut [u64], most: usize, literals: &[u64]) -> bool
 }
 
 // The same for the inputs and latches of a model. The record comes in parts, since it is long to copy.
-pub fn define_leaves(n: Counts, inputs: &[u64], latches: [AigerLatch; 8], work: &mut [u64]) -> bool
-    ensures { λ r. ⌜ AddsLeaves (n .«max_variable») (now (work .entry)) (leavesFrom n (now (inputs .entry)) latches) (now (work .exit)) r ⌝ }
+pub fn define_leaves(counts: Counts, inputs: &[u64], latches: [AigerLatch; 8], work: &mut [u64]) -> bool
+    ensures { λ r. ⌜ AddsLeaves (counts .«max_variable») (now (work .entry)) (leavesFrom counts (now (inputs .entry)) latches) (now (work .exit)) r ⌝ }
 {
     let at = currents(latches);
-    if define_all(work, n.max_variable, lists::first(inputs, n.inputs)) {
-        return define_all(work, n.max_variable, lists::first(&at, n.latches));
+    if define_all(work, counts.max_variable, lists::first(inputs, counts.inputs)) {
+        return define_all(work, counts.max_variable, lists::first(&at, counts.latches));
     }
     false
 }
@@ -216,43 +216,43 @@ fn within(literals: &[u64], most: usize) -> bool
 }
 
 // Whether no next literal and no output of a model is above 2M + 1.
-pub fn literals_hold(n: Counts, latches: [AigerLatch; 8], outputs: &[u64]) -> bool
-    ensures { λ r. ⌜ r ≡ literalsFrom n latches (now (outputs .entry)) ⌝ }
+pub fn literals_hold(counts: Counts, latches: [AigerLatch; 8], outputs: &[u64]) -> bool
+    ensures { λ r. ⌜ r ≡ literalsFrom counts latches (now (outputs .entry)) ⌝ }
 {
     let to = nexts(latches);
-    if within(lists::first(&to, n.latches), n.max_variable) {
-        return within(lists::first(outputs, n.outputs), n.max_variable);
+    if within(lists::first(&to, counts.latches), counts.max_variable) {
+        return within(lists::first(outputs, counts.outputs), counts.max_variable);
     }
     false
 }
 
 // Whether a record, in parts, is within the limits, with so many gates and work words beside it: all that comes before its definitions.
 pub fn limits_hold(
-    n: Counts,
+    counts: Counts,
     inputs: &[u64],
     latches: [AigerLatch; 8],
     outputs: &[u64],
     gates: usize,
     room: usize,
 ) -> Verdict
-    ensures { λ r. ⌜ passed r ≡ limits (recordFrom n (now (inputs .entry)) latches (now (outputs .entry))) gates room ⌝ }
+    ensures { λ r. ⌜ passed r ≡ limits (recordFrom counts (now (inputs .entry)) latches (now (outputs .entry))) gates room ⌝ }
 {
-    if room <= n.max_variable {
+    if room <= counts.max_variable {
         return Verdict::Refused(7);
     }
-    if !counts_hold(n) {
+    if !counts_hold(counts) {
         return Verdict::Refused(11);
     }
-    if inputs.len() < n.inputs {
+    if inputs.len() < counts.inputs {
         return Verdict::Refused(11);
     }
-    if outputs.len() < n.outputs {
+    if outputs.len() < counts.outputs {
         return Verdict::Refused(11);
     }
-    if gates < n.ands {
+    if gates < counts.ands {
         return Verdict::Refused(11);
     }
-    if literals_hold(n, latches, outputs) {
+    if literals_hold(counts, latches, outputs) {
         return Verdict::Valid;
     }
     Verdict::Refused(11)
@@ -260,50 +260,50 @@ pub fn limits_hold(
 
 // Whether each variable of a model is defined once. The marks are all 0 at first, and again afterwards.
 fn definitions_hold(
-    n: Counts,
+    counts: Counts,
     inputs: &[u64],
     latches: [AigerLatch; 8],
     gates: &[u64],
     marks: &mut [u64],
 ) -> bool
-    requires { ⌜ Checkable (n .«max_variable») (n .ands) (now gates) (now marks) ⌝ }
-    ensures { λ r. ⌜ (r ≡ defined (n .«max_variable») (leavesFrom n (now (inputs .entry)) latches) (take (n .ands) (triplesOf gateFrom (now (gates .entry))))) × (now (marks .exit) ≡ zeros (length (now (marks .entry)))) ⌝ }
+    requires { ⌜ Checkable (counts .«max_variable») (counts .ands) (now gates) (now marks) ⌝ }
+    ensures { λ r. ⌜ (r ≡ defined (counts .«max_variable») (leavesFrom counts (now (inputs .entry)) latches) (take (counts .ands) (triplesOf gateFrom (now (gates .entry))))) × (now (marks .exit) ≡ zeros (length (now (marks .entry)))) ⌝ }
 {
-    let fine = define_leaves(n, inputs, latches, marks);
-    let defined = define_gates(marks, n.max_variable, fine, gates, n.ands);
+    let fine = define_leaves(counts, inputs, latches, marks);
+    let defined = define_gates(marks, counts.max_variable, fine, gates, counts.ands);
     lists::clear(marks);
     defined
 }
 
 // Whether a record, in parts, and its gate words are a model. A record is long to copy, and its parts can be lent.
 pub fn validate_parts(
-    n: Counts,
+    counts: Counts,
     inputs: &[u64],
     latches: [AigerLatch; 8],
     outputs: &[u64],
     gates: &[u64],
     work: &mut [u64],
 ) -> Verdict
-    ensures { λ r. ⌜ Validates (recordFrom n (now (inputs .entry)) latches (now (outputs .entry))) (now (gates .entry)) (length (now (work .entry))) r (now (work .exit)) ⌝ }
+    ensures { λ r. ⌜ Validates (recordFrom counts (now (inputs .entry)) latches (now (outputs .entry))) (now (gates .entry)) (length (now (work .entry))) r (now (work .exit)) ⌝ }
 {
     let room = work.len();
     lists::clear(work);
-    let verdict = limits_hold(n, inputs, latches, outputs, gates.len() / 3, room);
+    let verdict = limits_hold(counts, inputs, latches, outputs, gates.len() / 3, room);
     if let Verdict::Refused(reason) = verdict {
         return Verdict::Refused(reason);
     }
-    if definitions_hold(n, inputs, latches, gates, work) {
+    if definitions_hold(counts, inputs, latches, gates, work) {
         return Verdict::Valid;
     }
     Verdict::Refused(11)
 }
 
 // Whether a record and its gate words are a model: the validation that comes before every step and obligation.
-pub fn validate(m: AigerTransition, gates: &[u64], work: &mut [u64]) -> Verdict
-    ensures { λ r. ⌜ Validates m (now (gates .entry)) (length (now (work .entry))) r (now (work .exit)) ⌝ }
+pub fn validate(model: AigerTransition, gates: &[u64], work: &mut [u64]) -> Verdict
+    ensures { λ r. ⌜ Validates model (now (gates .entry)) (length (now (work .entry))) r (now (work .exit)) ⌝ }
 {
-    let n = counts_of(m);
-    let latches = m.latches;
-    let outputs = m.outputs;
-    validate_parts(n, &m.inputs, latches, &outputs, gates, work)
+    let n = counts_of(model);
+    let latches = model.latches;
+    let outputs = model.outputs;
+    validate_parts(n, &model.inputs, latches, &outputs, gates, work)
 }

@@ -64,15 +64,15 @@ fn define_next(work: &mut [u64], most: usize, fine: bool, gate: Gate) -> bool
 // Checks the gates of the n lines from a cursor on. All lines are looked at, since a bad one counts more than a definition that fails.
 fn check_gates(
     s: &[u8],
-    c: Cursor,
+    cursor: Cursor,
     n: usize,
     most: usize,
     fine: bool,
     work: &mut [u64],
 ) -> GateCheck
-    ensures { λ r. ⌜ ChecksGates (now (s .entry)) c n most fine (now (work .entry)) r ⌝ }
+    ensures { λ r. ⌜ ChecksGates (now (s .entry)) cursor n most fine (now (work .entry)) r ⌝ }
 {
-    let mut p = c;
+    let mut p = cursor;
     let mut good = fine;
     let mut i = 0;
     while i < n {
@@ -90,11 +90,11 @@ fn check_gates(
 }
 
 // Writes the gates of the n lines from a cursor on, three words each.
-fn write_gates(s: &[u8], c: Cursor, n: usize, gates: &mut [u64])
+fn write_gates(s: &[u8], cursor: Cursor, n: usize, gates: &mut [u64])
     requires { ⌜ 3 * n ≤ length (now gates) ⌝ }
-    ensures { λ _. ⌜ Writes (now (s .entry)) c n (now (gates .entry)) (now (gates .exit)) ⌝ }
+    ensures { λ _. ⌜ Writes (now (s .entry)) cursor n (now (gates .entry)) (now (gates .exit)) ⌝ }
 {
-    let mut p = c;
+    let mut p = cursor;
     let mut i = 0;
     while i < n {
         let taken = circuit_lines::take_gate(Reader::Transition, s, p);
@@ -112,12 +112,12 @@ fn write_gates(s: &[u8], c: Cursor, n: usize, gates: &mut [u64])
 }
 
 // The inputs of the n lines from a cursor on.
-fn take_inputs(s: &[u8], c: Cursor, n: usize) -> TakenInputs
+fn take_inputs(s: &[u8], cursor: Cursor, n: usize) -> TakenInputs
     requires { ⌜ n ≤ 64 ⌝ }
-    ensures { λ r. ⌜ TakesLiterals 64 (now (s .entry)) c n (r .place) (r .inputs) ⌝ }
+    ensures { λ r. ⌜ TakesLiterals 64 (now (s .entry)) cursor n (r .place) (r .inputs) ⌝ }
 {
     let mut inputs = [0; 64];
-    let place = circuit_lines::take_literals(Reader::Transition, s, c, &mut inputs[..n]);
+    let place = circuit_lines::take_literals(Reader::Transition, s, cursor, &mut inputs[..n]);
     TakenInputs {
         place: place,
         inputs: inputs,
@@ -125,12 +125,12 @@ fn take_inputs(s: &[u8], c: Cursor, n: usize) -> TakenInputs
 }
 
 // The outputs of the n lines from a cursor on.
-fn take_outputs(s: &[u8], c: Cursor, n: usize) -> TakenOutputs
+fn take_outputs(s: &[u8], cursor: Cursor, n: usize) -> TakenOutputs
     requires { ⌜ n ≤ 128 ⌝ }
-    ensures { λ r. ⌜ TakesLiterals 128 (now (s .entry)) c n (r .place) (r .outputs) ⌝ }
+    ensures { λ r. ⌜ TakesLiterals 128 (now (s .entry)) cursor n (r .place) (r .outputs) ⌝ }
 {
     let mut outputs = [0; 128];
-    let place = circuit_lines::take_literals(Reader::Transition, s, c, &mut outputs[..n]);
+    let place = circuit_lines::take_literals(Reader::Transition, s, cursor, &mut outputs[..n]);
     TakenOutputs {
         place: place,
         outputs: outputs,
@@ -167,21 +167,21 @@ fn bad_head() -> Head
 }
 
 // The inputs, latches and outputs from a cursor on.
-fn take_head(s: &[u8], c: Cursor, n: Counts) -> Head
-    requires { ⌜ counted n ≡ true ⌝ }
-    ensures { λ r. ⌜ TakesStart (now (s .entry)) c n (r .model) (r .place) ⌝ }
+fn take_head(s: &[u8], cursor: Cursor, counts: Counts) -> Head
+    requires { ⌜ counted counts ≡ true ⌝ }
+    ensures { λ r. ⌜ TakesStart (now (s .entry)) cursor counts (r .model) (r .place) ⌝ }
 {
-    let ins = take_inputs(s, c, n.inputs);
+    let ins = take_inputs(s, cursor, counts.inputs);
     let in_place = ins.place;
     let Place::At(p) = in_place else {
         return bad_head();
     };
-    let las = model_text::take_latches(s, p, n.latches);
+    let las = model_text::take_latches(s, p, counts.latches);
     let latch_place = las.place;
     let Place::At(q) = latch_place else {
         return bad_head();
     };
-    let outs = take_outputs(s, q, n.outputs);
+    let outs = take_outputs(s, q, counts.outputs);
     let place = outs.place;
     let inputs = ins.inputs;
     let latches = las.latches;
@@ -189,33 +189,33 @@ fn take_head(s: &[u8], c: Cursor, n: Counts) -> Head
     Head {
         place: place,
         model: AigerTransition {
-            max_variable: n.max_variable,
-            input_count: n.inputs,
+            max_variable: counts.max_variable,
+            input_count: counts.inputs,
             inputs,
-            latch_count: n.latches,
+            latch_count: counts.latches,
             latches,
-            output_count: n.outputs,
+            output_count: counts.outputs,
             outputs,
-            and_count: n.ands,
+            and_count: counts.ands,
         },
     }
 }
 
 // Whether a model is well defined with the gates of the lines from a cursor on. The work words are all 0 at first.
-fn check_model(s: &[u8], c: Cursor, m: AigerTransition, work: &mut [u64]) -> Verdict
-    requires { ⌜ (m .«max_variable» < length (now work)) × (now work ≡ zeros (length (now work))) ⌝ }
-    ensures { λ r. ⌜ r ≡ verdictOf (gatesOf (circuitOf m []) (m .«and_count») (linesFrom (now (s .entry)) c)) ⌝ }
+fn check_model(s: &[u8], cursor: Cursor, model: AigerTransition, work: &mut [u64]) -> Verdict
+    requires { ⌜ (model .«max_variable» < length (now work)) × (now work ≡ zeros (length (now work))) ⌝ }
+    ensures { λ r. ⌜ r ≡ verdictOf (gatesOf (circuitOf model []) (model .«and_count») (linesFrom (now (s .entry)) cursor)) ⌝ }
 {
-    let n = model::counts_of(m);
-    let latches = m.latches;
-    let fine = model::define_leaves(n, &m.inputs, latches, work);
-    let GateCheck::Done(good) = check_gates(s, c, m.and_count, m.max_variable, fine, work) else {
+    let n = model::counts_of(model);
+    let latches = model.latches;
+    let fine = model::define_leaves(n, &model.inputs, latches, work);
+    let GateCheck::Done(good) = check_gates(s, cursor, model.and_count, model.max_variable, fine, work) else {
         return Verdict::Refused(8);
     };
     if !good {
         return Verdict::Refused(11);
     }
-    if model::literals_hold(n, latches, &m.outputs) {
+    if model::literals_hold(n, latches, &model.outputs) {
         return Verdict::Valid;
     }
     Verdict::Refused(11)
@@ -232,11 +232,11 @@ fn refuse(reason: u64) -> ReadTransition
 }
 
 // The model of the lines from a cursor on. The work words are all 0 at first, and there is room for what the counts ask for.
-fn read_model(s: &[u8], c: Cursor, n: Counts, gates: &mut [u64], work: &mut [u64]) -> ReadTransition
-    requires { ⌜ Readable n (now gates) (now work) ⌝ }
-    ensures { λ r. ⌜ Reads (modelOf n (linesFrom (now (s .entry)) c)) (now (gates .entry)) (length (now (work .entry))) r (now (gates .exit)) (now (work .exit)) ⌝ }
+fn read_model(s: &[u8], cursor: Cursor, counts: Counts, gates: &mut [u64], work: &mut [u64]) -> ReadTransition
+    requires { ⌜ Readable counts (now gates) (now work) ⌝ }
+    ensures { λ r. ⌜ Reads (modelOf counts (linesFrom (now (s .entry)) cursor)) (now (gates .entry)) (length (now (work .entry))) r (now (gates .exit)) (now (work .exit)) ⌝ }
 {
-    let head = take_head(s, c, n);
+    let head = take_head(s, cursor, counts);
     let place = head.place;
     let Place::At(p) = place else {
         return refuse(8);
@@ -246,7 +246,7 @@ fn read_model(s: &[u8], c: Cursor, n: Counts, gates: &mut [u64], work: &mut [u64
     lists::clear(work);
     match verdict {
         Verdict::Valid => {
-            write_gates(s, p, n.ands, gates);
+            write_gates(s, p, counts.ands, gates);
             ReadTransition {
                 verdict: verdict,
                 model: model,
@@ -257,20 +257,20 @@ fn read_model(s: &[u8], c: Cursor, n: Counts, gates: &mut [u64], work: &mut [u64
 }
 
 // The model of the lines after a header, from a cursor on. The work words are all 0 at first.
-fn read_body(s: &[u8], c: Cursor, n: Counts, gates: &mut [u64], work: &mut [u64]) -> ReadTransition
+fn read_body(s: &[u8], cursor: Cursor, counts: Counts, gates: &mut [u64], work: &mut [u64]) -> ReadTransition
     requires { ⌜ now work ≡ zeros (length (now work)) ⌝ }
-    ensures { λ r. ⌜ Reads (bodyOf (length (now (gates .entry))) (length (now (work .entry))) (linesFrom (now (s .entry)) c) n) (now (gates .entry)) (length (now (work .entry))) r (now (gates .exit)) (now (work .exit)) ⌝ }
+    ensures { λ r. ⌜ Reads (bodyOf (length (now (gates .entry))) (length (now (work .entry))) (linesFrom (now (s .entry)) cursor) counts) (now (gates .entry)) (length (now (work .entry))) r (now (gates .exit)) (now (work .exit)) ⌝ }
 {
-    if !model::counts_hold(n) {
+    if !model::counts_hold(counts) {
         return refuse(5);
     }
-    if gates.len() / 3 < n.ands {
+    if gates.len() / 3 < counts.ands {
         return refuse(7);
     }
-    if work.len() <= n.max_variable {
+    if work.len() <= counts.max_variable {
         return refuse(7);
     }
-    read_model(s, c, n, gates, work)
+    read_model(s, cursor, counts, gates, work)
 }
 
 // Reads a transition text: the record, and the gates' words in front of the lent ones.

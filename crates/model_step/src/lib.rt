@@ -118,7 +118,7 @@ pub fn read_out(vals: &[u64], nexts: &[u64], outputs: &[u64]) -> Outcome
 
 // One step of a valid model, whose record comes in parts, in words that are all 0.
 fn run(
-    n: Counts,
+    counts: Counts,
     inputs: &[u64],
     latches: [AigerLatch; 8],
     outputs: &[u64],
@@ -127,25 +127,25 @@ fn run(
     state: u64,
     input: u64,
 ) -> Outcome
-    requires { ⌜ Runnable (recordFrom n (now inputs) latches (now outputs)) (now gates) (length (now vals)) × (now vals ≡ zeros (length (now vals))) ⌝ }
-    ensures { λ r. ⌜ r ≡ outcomeUnder (circuitOf (recordFrom n (now (inputs .entry)) latches (now (outputs .entry))) (now (gates .entry))) (stepValues (circuitOf (recordFrom n (now (inputs .entry)) latches (now (outputs .entry))) (now (gates .entry))) state input) ⌝ }
+    requires { ⌜ Runnable (recordFrom counts (now inputs) latches (now outputs)) (now gates) (length (now vals)) × (now vals ≡ zeros (length (now vals))) ⌝ }
+    ensures { λ r. ⌜ r ≡ outcomeUnder (circuitOf (recordFrom counts (now (inputs .entry)) latches (now (outputs .entry))) (now (gates .entry))) (stepValues (circuitOf (recordFrom counts (now (inputs .entry)) latches (now (outputs .entry))) (now (gates .entry))) state input) ⌝ }
 {
     let from = model::currents(latches);
     let to = model::nexts(latches);
-    load(vals, lists::first(&from, n.latches), state);
-    load(vals, lists::first(inputs, n.inputs), input);
-    run_gates(vals, gates, n.ands);
+    load(vals, lists::first(&from, counts.latches), state);
+    load(vals, lists::first(inputs, counts.inputs), input);
+    run_gates(vals, gates, counts.ands);
     read_out(
         vals,
-        lists::first(&to, n.latches),
-        lists::first(outputs, n.outputs),
+        lists::first(&to, counts.latches),
+        lists::first(outputs, counts.outputs),
     )
 }
 
 // One step of a model whose record comes in parts, or the number of the reason why there is none. A record is long to copy, and its
 // parts can be lent. The work words are 0 again afterwards.
 pub fn evaluate_parts(
-    n: Counts,
+    counts: Counts,
     inputs: &[u64],
     latches: [AigerLatch; 8],
     outputs: &[u64],
@@ -154,22 +154,22 @@ pub fn evaluate_parts(
     state: u64,
     input: u64,
 ) -> Stepped
-    ensures { λ r. ⌜ (answerOf r ≡ stepOf (recordFrom n (now (inputs .entry)) latches (now (outputs .entry))) (now (gates .entry)) (length (now (work .entry))) state input) × (now (work .exit) ≡ zeros (length (now (work .entry)))) ⌝ }
+    ensures { λ r. ⌜ (answerOf r ≡ stepOf (recordFrom counts (now (inputs .entry)) latches (now (outputs .entry))) (now (gates .entry)) (length (now (work .entry))) state input) × (now (work .exit) ≡ zeros (length (now (work .entry)))) ⌝ }
 {
-    let verdict = model::validate_parts(n, inputs, latches, outputs, gates, work);
+    let verdict = model::validate_parts(counts, inputs, latches, outputs, gates, work);
     if let Verdict::Refused(reason) = verdict {
         return Stepped::Refused(reason);
     }
-    if !lists::fits(state, n.latches) {
+    if !lists::fits(state, counts.latches) {
         return Stepped::Refused(12);
     }
-    let given = lists::first(inputs, n.inputs);
+    let given = lists::first(inputs, counts.inputs);
     if !lists::fits(input, given.len()) {
         return Stepped::Refused(12);
     }
-    let words = n.max_variable + 1;
+    let words = counts.max_variable + 1;
     let outcome = run(
-        n,
+        counts,
         inputs,
         latches,
         outputs,
@@ -184,16 +184,16 @@ pub fn evaluate_parts(
 
 // One step of a model, or the number of the reason why there is none. The work words are 0 again afterwards.
 pub fn evaluate(
-    m: AigerTransition,
+    model: AigerTransition,
     gates: &[u64],
     work: &mut [u64],
     state: u64,
     input: u64,
 ) -> Stepped
-    ensures { λ r. ⌜ (answerOf r ≡ stepOf m (now (gates .entry)) (length (now (work .entry))) state input) × (now (work .exit) ≡ zeros (length (now (work .entry)))) ⌝ }
+    ensures { λ r. ⌜ (answerOf r ≡ stepOf model (now (gates .entry)) (length (now (work .entry))) state input) × (now (work .exit) ≡ zeros (length (now (work .entry)))) ⌝ }
 {
-    let n = model::counts_of(m);
-    let latches = m.latches;
-    let outputs = m.outputs;
-    evaluate_parts(n, &m.inputs, latches, &outputs, gates, work, state, input)
+    let n = model::counts_of(model);
+    let latches = model.latches;
+    let outputs = model.outputs;
+    evaluate_parts(n, &model.inputs, latches, &outputs, gates, work, state, input)
 }

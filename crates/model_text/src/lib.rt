@@ -135,10 +135,10 @@ fn latch_line(l: &[u8]) -> ReadLatch
 }
 
 // The latch of the line at a cursor.
-pub fn take_latch(s: &[u8], c: Cursor) -> TakenLatch
-    ensures { λ r. ⌜ TakesLatch (now (s .entry)) c r ⌝ }
+pub fn take_latch(s: &[u8], cursor: Cursor) -> TakenLatch
+    ensures { λ r. ⌜ TakesLatch (now (s .entry)) cursor r ⌝ }
 {
-    let Line::At { start, end, next } = text::next_line(s, c) else {
+    let Line::At { start, end, next } = text::next_line(s, cursor) else {
         return TakenLatch::Bad;
     };
     let ReadLatch::Got(latch) = latch_line(&s[start..end]) else {
@@ -151,8 +151,8 @@ pub fn take_latch(s: &[u8], c: Cursor) -> TakenLatch
 }
 
 // The latches of the n lines from a cursor on; n above 8 is refused at once.
-pub fn take_latches(s: &[u8], c: Cursor, n: usize) -> TakenLatches
-    ensures { λ r. ⌜ (n ≤ 8 → TakesLatches (now (s .entry)) c n r) ⌝ }
+pub fn take_latches(s: &[u8], cursor: Cursor, n: usize) -> TakenLatches
+    ensures { λ r. ⌜ (n ≤ 8 → TakesLatches (now (s .entry)) cursor n r) ⌝ }
 {
     let mut latches = [AigerLatch {
         current: 0,
@@ -164,7 +164,7 @@ pub fn take_latches(s: &[u8], c: Cursor, n: usize) -> TakenLatches
             latches: latches,
         };
     }
-    let mut p = c;
+    let mut p = cursor;
     let mut i = 0;
     while i < n {
         let taken = take_latch(s, p);

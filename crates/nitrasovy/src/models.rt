@@ -28,10 +28,10 @@ pub struct NitStepped {
 }
 
 // The number of a verdict: 0 where there is a model.
-pub fn reason_of(v: Verdict) -> u64
-    ensures { λ r. ⌜ r ≡ reasonOf v ⌝ }
+pub fn reason_of(verdict: Verdict) -> u64
+    ensures { λ r. ⌜ r ≡ reasonOf verdict ⌝ }
 {
-    match v {
+    match verdict {
         Verdict::Valid => 0,
         Verdict::Refused(reason) => reason,
     }
@@ -51,10 +51,10 @@ pub extern "C" fn nit_read_transition(text: &[u8], gates: &mut [u64], work: &mut
     }
 }
 
-pub fn flat_stepped(s: Stepped) -> NitStepped
-    ensures { λ r. ⌜ r ≡ flatStep (answerOf s) ⌝ }
+pub fn flat_stepped(stepped: Stepped) -> NitStepped
+    ensures { λ r. ⌜ r ≡ flatStep (answerOf stepped) ⌝ }
 {
-    match s {
+    match stepped {
         Stepped::Done(o) => NitStepped {
             reason: 0,
             target: o.target,

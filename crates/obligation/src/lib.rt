@@ -17,7 +17,7 @@ pub enum Made {
 
 // The clauses of a row: every input that meets the predicate leads from the source to a claimed target.
 pub fn relation_row_completeness_cnf(
-    m: AigerTransition,
+    model: AigerTransition,
     gates: &[u64],
     relevant: &[u64],
     source: u64,
@@ -28,14 +28,14 @@ pub fn relation_row_completeness_cnf(
     pairs: &mut [u64],
     literals: &mut [u32],
 ) -> Made
-    ensures { λ r. ⌜ MakesRelation (askedOf m (now (gates .entry)) (now (relevant .entry)) (now (predicate .entry)) (now (terms .entry))) source (now (targets .entry)) (buffersOf (now (pairs .entry)) (now (literals .entry)) (now (work .entry))) r (buffersOf (now (pairs .exit)) (now (literals .exit)) (now (work .exit))) ⌝ }
+    ensures { λ r. ⌜ MakesRelation (askedOf model (now (gates .entry)) (now (relevant .entry)) (now (predicate .entry)) (now (terms .entry))) source (now (targets .entry)) (buffersOf (now (pairs .entry)) (now (literals .entry)) (now (work .entry))) r (buffersOf (now (pairs .exit)) (now (literals .exit)) (now (work .exit))) ⌝ }
 {
-    let n = model::counts_of(m);
-    let latches = m.latches;
-    let outputs = m.outputs;
+    let n = model::counts_of(model);
+    let latches = model.latches;
+    let outputs = model.outputs;
     relation::row_parts(
         n,
-        &m.inputs,
+        &model.inputs,
         latches,
         &outputs,
         gates,
@@ -52,7 +52,7 @@ pub fn relation_row_completeness_cnf(
 
 // The same with outputs: to a claimed target with its outputs.
 pub fn transducer_row_completeness_cnf(
-    m: AigerTransition,
+    model: AigerTransition,
     gates: &[u64],
     relevant: &[u64],
     source: u64,
@@ -64,14 +64,14 @@ pub fn transducer_row_completeness_cnf(
     pairs: &mut [u64],
     literals: &mut [u32],
 ) -> Made
-    ensures { λ r. ⌜ MakesTransducer (askedOf m (now (gates .entry)) (now (relevant .entry)) (now (predicate .entry)) (now (terms .entry))) source (now (observed .entry)) (now (outcomes .entry)) (buffersOf (now (pairs .entry)) (now (literals .entry)) (now (work .entry))) r (buffersOf (now (pairs .exit)) (now (literals .exit)) (now (work .exit))) ⌝ }
+    ensures { λ r. ⌜ MakesTransducer (askedOf model (now (gates .entry)) (now (relevant .entry)) (now (predicate .entry)) (now (terms .entry))) source (now (observed .entry)) (now (outcomes .entry)) (buffersOf (now (pairs .entry)) (now (literals .entry)) (now (work .entry))) r (buffersOf (now (pairs .exit)) (now (literals .exit)) (now (work .exit))) ⌝ }
 {
-    let n = model::counts_of(m);
-    let latches = m.latches;
-    let outputs = m.outputs;
+    let n = model::counts_of(model);
+    let latches = model.latches;
+    let outputs = model.outputs;
     transducer::row_parts(
         n,
-        &m.inputs,
+        &model.inputs,
         latches,
         &outputs,
         gates,
@@ -89,7 +89,7 @@ pub fn transducer_row_completeness_cnf(
 
 // The clauses of a terminal list: every state in which some input that meets the predicate leaves the bad output 0 is claimed.
 pub fn terminal_completeness_cnf(
-    m: AigerTransition,
+    model: AigerTransition,
     gates: &[u64],
     relevant: &[u64],
     predicate: &[u64],
@@ -100,14 +100,14 @@ pub fn terminal_completeness_cnf(
     pairs: &mut [u64],
     literals: &mut [u32],
 ) -> Made
-    ensures { λ r. ⌜ MakesTerminal (askedOf m (now (gates .entry)) (now (relevant .entry)) (now (predicate .entry)) (now (terms .entry))) bad (now (states .entry)) (buffersOf (now (pairs .entry)) (now (literals .entry)) (now (work .entry))) r (buffersOf (now (pairs .exit)) (now (literals .exit)) (now (work .exit))) ⌝ }
+    ensures { λ r. ⌜ MakesTerminal (askedOf model (now (gates .entry)) (now (relevant .entry)) (now (predicate .entry)) (now (terms .entry))) bad (now (states .entry)) (buffersOf (now (pairs .entry)) (now (literals .entry)) (now (work .entry))) r (buffersOf (now (pairs .exit)) (now (literals .exit)) (now (work .exit))) ⌝ }
 {
-    let n = model::counts_of(m);
-    let latches = m.latches;
-    let outputs = m.outputs;
+    let n = model::counts_of(model);
+    let latches = model.latches;
+    let outputs = model.outputs;
     terminal::list_parts(
         n,
-        &m.inputs,
+        &model.inputs,
         latches,
         &outputs,
         gates,

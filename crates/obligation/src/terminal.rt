@@ -15,7 +15,7 @@ use model::Verdict;
 
 // Makes the clauses of a terminal list, once all arguments are accepted.
 fn assemble(
-    n: Counts,
+    counts: Counts,
     inputs: &[u64],
     latches: [AigerLatch; 8],
     outputs: &[u64],
@@ -28,22 +28,22 @@ fn assemble(
     pairs: &mut [u64],
     literals: &mut [u32],
 ) -> Made
-    requires { ⌜ Asks (askedOf (recordFrom n (now inputs) latches (now outputs)) (now gates) (now relevant) (now predicate) (now terms)) × ClaimsOf (statesClaimed (circuit (askedOf (recordFrom n (now inputs) latches (now outputs)) (now gates) (now relevant) (now predicate) (now terms))) (now states)) ⌝ }
-    ensures { λ r. ⌜ MakesAll (terminalClauses (circuit (askedOf (recordFrom n (now (inputs .entry)) latches (now (outputs .entry))) (now (gates .entry)) (now (relevant .entry)) (now (predicate .entry)) (now (terms .entry)))) (now (relevant .entry)) (clausesIn (now (terms .entry)) (now (predicate .entry))) bad (now (states .entry))) (now (pairs .entry)) (now (literals .entry)) r (now (pairs .exit)) (now (literals .exit)) ⌝ }
+    requires { ⌜ Asks (askedOf (recordFrom counts (now inputs) latches (now outputs)) (now gates) (now relevant) (now predicate) (now terms)) × ClaimsOf (statesClaimed (circuit (askedOf (recordFrom counts (now inputs) latches (now outputs)) (now gates) (now relevant) (now predicate) (now terms))) (now states)) ⌝ }
+    ensures { λ r. ⌜ MakesAll (terminalClauses (circuit (askedOf (recordFrom counts (now (inputs .entry)) latches (now (outputs .entry))) (now (gates .entry)) (now (relevant .entry)) (now (predicate .entry)) (now (terms .entry)))) (now (relevant .entry)) (clausesIn (now (terms .entry)) (now (predicate .entry))) bad (now (states .entry))) (now (pairs .entry)) (now (literals .entry)) r (now (pairs .exit)) (now (literals .exit)) ⌝ }
 {
     let at = model::currents(latches);
     let mut keys = [0u64; 8];
-    let count = obligation_claims::state_keys(lists::first(&at, n.latches), &mut keys);
-    let output = lists::word(lists::first(outputs, n.outputs), bad);
+    let count = obligation_claims::state_keys(lists::first(&at, counts.latches), &mut keys);
+    let output = lists::word(lists::first(outputs, counts.outputs), bad);
     making::make(
         lists::first(&at, 0),
         0,
-        lists::first(inputs, n.inputs),
+        lists::first(inputs, counts.inputs),
         relevant,
         predicate,
         terms,
         gates,
-        n.ands,
+        counts.ands,
         lists::first(&keys, count),
         states,
         false,
@@ -55,7 +55,7 @@ fn assemble(
 
 // A terminal list, once the model and the boundary are accepted: reasons 14 and 20.
 fn claim(
-    n: Counts,
+    counts: Counts,
     inputs: &[u64],
     latches: [AigerLatch; 8],
     outputs: &[u64],
@@ -68,17 +68,17 @@ fn claim(
     pairs: &mut [u64],
     literals: &mut [u32],
 ) -> Made
-    requires { ⌜ Asks (askedOf (recordFrom n (now inputs) latches (now outputs)) (now gates) (now relevant) (now predicate) (now terms)) ⌝ }
-    ensures { λ r. ⌜ Continues (terminalAfter (askedOf (recordFrom n (now (inputs .entry)) latches (now (outputs .entry))) (now (gates .entry)) (now (relevant .entry)) (now (predicate .entry)) (now (terms .entry))) bad (now (states .entry)) (roomOf (now (pairs .entry)) (now (literals .entry)))) (now (pairs .entry)) (now (literals .entry)) r (now (pairs .exit)) (now (literals .exit)) ⌝ }
+    requires { ⌜ Asks (askedOf (recordFrom counts (now inputs) latches (now outputs)) (now gates) (now relevant) (now predicate) (now terms)) ⌝ }
+    ensures { λ r. ⌜ Continues (terminalAfter (askedOf (recordFrom counts (now (inputs .entry)) latches (now (outputs .entry))) (now (gates .entry)) (now (relevant .entry)) (now (predicate .entry)) (now (terms .entry))) bad (now (states .entry)) (roomOf (now (pairs .entry)) (now (literals .entry)))) (now (pairs .entry)) (now (literals .entry)) r (now (pairs .exit)) (now (literals .exit)) ⌝ }
 {
-    if n.outputs as u64 <= bad {
+    if counts.outputs as u64 <= bad {
         return Made::Refused(14);
     }
-    if !obligation_check::states_claimed(n.latches, states) {
+    if !obligation_check::states_claimed(counts.latches, states) {
         return Made::Refused(14);
     }
     assemble(
-        n,
+        counts,
         inputs,
         latches,
         outputs,
@@ -95,7 +95,7 @@ fn claim(
 
 // The clauses of a terminal list, of a record in parts.
 pub fn list_parts(
-    n: Counts,
+    counts: Counts,
     inputs: &[u64],
     latches: [AigerLatch; 8],
     outputs: &[u64],
@@ -109,10 +109,10 @@ pub fn list_parts(
     pairs: &mut [u64],
     literals: &mut [u32],
 ) -> Made
-    ensures { λ r. ⌜ MakesTerminal (askedOf (recordFrom n (now (inputs .entry)) latches (now (outputs .entry))) (now (gates .entry)) (now (relevant .entry)) (now (predicate .entry)) (now (terms .entry))) bad (now (states .entry)) (buffersOf (now (pairs .entry)) (now (literals .entry)) (now (work .entry))) r (buffersOf (now (pairs .exit)) (now (literals .exit)) (now (work .exit))) ⌝ }
+    ensures { λ r. ⌜ MakesTerminal (askedOf (recordFrom counts (now (inputs .entry)) latches (now (outputs .entry))) (now (gates .entry)) (now (relevant .entry)) (now (predicate .entry)) (now (terms .entry))) bad (now (states .entry)) (buffersOf (now (pairs .entry)) (now (literals .entry)) (now (work .entry))) r (buffersOf (now (pairs .exit)) (now (literals .exit)) (now (work .exit))) ⌝ }
 {
     let verdict = obligation_check::check(
-        n,
+        counts,
         inputs,
         latches,
         outputs,
@@ -125,7 +125,7 @@ pub fn list_parts(
     match verdict {
         Verdict::Refused(reason) => Made::Refused(reason),
         Verdict::Valid => claim(
-            n,
+            counts,
             inputs,
             latches,
             outputs,

@@ -15,7 +15,7 @@ use model::Verdict;
 
 // Makes the clauses of a row with claimed outcomes, once all arguments are accepted.
 fn assemble(
-    n: Counts,
+    counts: Counts,
     inputs: &[u64],
     latches: [AigerLatch; 8],
     outputs: &[u64],
@@ -29,27 +29,27 @@ fn assemble(
     pairs: &mut [u64],
     literals: &mut [u32],
 ) -> Made
-    requires { ⌜ Asks (askedOf (recordFrom n (now inputs) latches (now outputs)) (now gates) (now relevant) (now predicate) (now terms)) × ClaimsOf (outcomesClaimed (circuit (askedOf (recordFrom n (now inputs) latches (now outputs)) (now gates) (now relevant) (now predicate) (now terms))) (now observed) (outcomesOf (now outcomes))) ⌝ }
-    ensures { λ r. ⌜ MakesAll (transducerClauses (circuit (askedOf (recordFrom n (now (inputs .entry)) latches (now (outputs .entry))) (now (gates .entry)) (now (relevant .entry)) (now (predicate .entry)) (now (terms .entry)))) (now (relevant .entry)) (clausesIn (now (terms .entry)) (now (predicate .entry))) source (now (observed .entry)) (outcomesOf (now (outcomes .entry)))) (now (pairs .entry)) (now (literals .entry)) r (now (pairs .exit)) (now (literals .exit)) ⌝ }
+    requires { ⌜ Asks (askedOf (recordFrom counts (now inputs) latches (now outputs)) (now gates) (now relevant) (now predicate) (now terms)) × ClaimsOf (outcomesClaimed (circuit (askedOf (recordFrom counts (now inputs) latches (now outputs)) (now gates) (now relevant) (now predicate) (now terms))) (now observed) (outcomesOf (now outcomes))) ⌝ }
+    ensures { λ r. ⌜ MakesAll (transducerClauses (circuit (askedOf (recordFrom counts (now (inputs .entry)) latches (now (outputs .entry))) (now (gates .entry)) (now (relevant .entry)) (now (predicate .entry)) (now (terms .entry)))) (now (relevant .entry)) (clausesIn (now (terms .entry)) (now (predicate .entry))) source (now (observed .entry)) (outcomesOf (now (outcomes .entry)))) (now (pairs .entry)) (now (literals .entry)) r (now (pairs .exit)) (now (literals .exit)) ⌝ }
 {
     let at = model::currents(latches);
     let to = model::nexts(latches);
     let mut keys = [0u64; 136];
     let count = obligation_claims::outcome_keys(
-        lists::first(&to, n.latches),
-        lists::first(outputs, n.outputs),
+        lists::first(&to, counts.latches),
+        lists::first(outputs, counts.outputs),
         observed,
         &mut keys,
     );
     making::make(
-        lists::first(&at, n.latches),
+        lists::first(&at, counts.latches),
         source,
-        lists::first(inputs, n.inputs),
+        lists::first(inputs, counts.inputs),
         relevant,
         predicate,
         terms,
         gates,
-        n.ands,
+        counts.ands,
         lists::first(&keys, count),
         outcomes,
         true,
@@ -61,7 +61,7 @@ fn assemble(
 
 // A row with claimed outcomes, once the model and the boundary are accepted: reasons 14 and 20.
 fn claim(
-    n: Counts,
+    counts: Counts,
     inputs: &[u64],
     latches: [AigerLatch; 8],
     outputs: &[u64],
@@ -75,17 +75,17 @@ fn claim(
     pairs: &mut [u64],
     literals: &mut [u32],
 ) -> Made
-    requires { ⌜ Asks (askedOf (recordFrom n (now inputs) latches (now outputs)) (now gates) (now relevant) (now predicate) (now terms)) ⌝ }
-    ensures { λ r. ⌜ Continues (transducerAfter (askedOf (recordFrom n (now (inputs .entry)) latches (now (outputs .entry))) (now (gates .entry)) (now (relevant .entry)) (now (predicate .entry)) (now (terms .entry))) source (now (observed .entry)) (now (outcomes .entry)) (roomOf (now (pairs .entry)) (now (literals .entry)))) (now (pairs .entry)) (now (literals .entry)) r (now (pairs .exit)) (now (literals .exit)) ⌝ }
+    requires { ⌜ Asks (askedOf (recordFrom counts (now inputs) latches (now outputs)) (now gates) (now relevant) (now predicate) (now terms)) ⌝ }
+    ensures { λ r. ⌜ Continues (transducerAfter (askedOf (recordFrom counts (now (inputs .entry)) latches (now (outputs .entry))) (now (gates .entry)) (now (relevant .entry)) (now (predicate .entry)) (now (terms .entry))) source (now (observed .entry)) (now (outcomes .entry)) (roomOf (now (pairs .entry)) (now (literals .entry)))) (now (pairs .entry)) (now (literals .entry)) r (now (pairs .exit)) (now (literals .exit)) ⌝ }
 {
-    if !obligation_check::is_state(n.latches, source) {
+    if !obligation_check::is_state(counts.latches, source) {
         return Made::Refused(14);
     }
-    if !obligation_check::outcomes_claimed(n.latches, n.outputs as u64, observed, outcomes) {
+    if !obligation_check::outcomes_claimed(counts.latches, counts.outputs as u64, observed, outcomes) {
         return Made::Refused(14);
     }
     assemble(
-        n,
+        counts,
         inputs,
         latches,
         outputs,
@@ -103,7 +103,7 @@ fn claim(
 
 // The clauses of a row with claimed outcomes, of a record in parts.
 pub fn row_parts(
-    n: Counts,
+    counts: Counts,
     inputs: &[u64],
     latches: [AigerLatch; 8],
     outputs: &[u64],
@@ -118,10 +118,10 @@ pub fn row_parts(
     pairs: &mut [u64],
     literals: &mut [u32],
 ) -> Made
-    ensures { λ r. ⌜ MakesTransducer (askedOf (recordFrom n (now (inputs .entry)) latches (now (outputs .entry))) (now (gates .entry)) (now (relevant .entry)) (now (predicate .entry)) (now (terms .entry))) source (now (observed .entry)) (now (outcomes .entry)) (buffersOf (now (pairs .entry)) (now (literals .entry)) (now (work .entry))) r (buffersOf (now (pairs .exit)) (now (literals .exit)) (now (work .exit))) ⌝ }
+    ensures { λ r. ⌜ MakesTransducer (askedOf (recordFrom counts (now (inputs .entry)) latches (now (outputs .entry))) (now (gates .entry)) (now (relevant .entry)) (now (predicate .entry)) (now (terms .entry))) source (now (observed .entry)) (now (outcomes .entry)) (buffersOf (now (pairs .entry)) (now (literals .entry)) (now (work .entry))) r (buffersOf (now (pairs .exit)) (now (literals .exit)) (now (work .exit))) ⌝ }
 {
     let verdict = obligation_check::check(
-        n,
+        counts,
         inputs,
         latches,
         outputs,
@@ -134,7 +134,7 @@ pub fn row_parts(
     match verdict {
         Verdict::Refused(reason) => Made::Refused(reason),
         Verdict::Valid => claim(
-            n,
+            counts,
             inputs,
             latches,
             outputs,

@@ -208,7 +208,7 @@ pub fn outcomes_claimed(latches: usize, outputs: u64, observed: &[u64], words: &
 
 // Whether there is a model, and relevant inputs and predicate are right: reasons 7, 11 and 13.
 pub fn check(
-    n: Counts,
+    counts: Counts,
     inputs: &[u64],
     latches: [AigerLatch; 8],
     outputs: &[u64],
@@ -218,13 +218,13 @@ pub fn check(
     terms: &[u32],
     work: &mut [u64],
 ) -> Verdict
-    ensures { λ r. ⌜ Checks (askedOf (recordFrom n (now (inputs .entry)) latches (now (outputs .entry))) (now (gates .entry)) (now (relevant .entry)) (now (predicate .entry)) (now (terms .entry))) (length (now (work .entry))) r (now (work .exit)) ⌝ }
+    ensures { λ r. ⌜ Checks (askedOf (recordFrom counts (now (inputs .entry)) latches (now (outputs .entry))) (now (gates .entry)) (now (relevant .entry)) (now (predicate .entry)) (now (terms .entry))) (length (now (work .entry))) r (now (work .exit)) ⌝ }
 {
-    let verdict = model::validate_parts(n, inputs, latches, outputs, gates, work);
+    let verdict = model::validate_parts(counts, inputs, latches, outputs, gates, work);
     let Verdict::Valid = verdict else {
         return verdict;
     };
-    if validate_boundary(n.inputs as u64, relevant, predicate, terms) {
+    if validate_boundary(counts.inputs as u64, relevant, predicate, terms) {
         return verdict;
     }
     Verdict::Refused(13)

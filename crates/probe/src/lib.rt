@@ -58,10 +58,10 @@ fn reader_of(witness: bool) -> Reader
     Reader::Transition
 }
 
-fn flat_number(n: Number) -> ProbeNumber
-    ensures { λ r. ⌜ r ≡ flatNumber n ⌝ }
+fn flat_number(number: Number) -> ProbeNumber
+    ensures { λ r. ⌜ r ≡ flatNumber number ⌝ }
 {
-    match n {
+    match number {
         Number::Value(v) => ProbeNumber {
             readable: true,
             value: v,
@@ -80,10 +80,10 @@ pub extern "C" fn probe_parse(witness: bool, f: &[u8]) -> ProbeNumber
     flat_number(text::numbers::parse_for(reader_of(witness), f))
 }
 
-fn flat_literal(l: Literal) -> ProbeLiteral
-    ensures { λ r. ⌜ r ≡ flatLiteral l ⌝ }
+fn flat_literal(literal: Literal) -> ProbeLiteral
+    ensures { λ r. ⌜ r ≡ flatLiteral literal ⌝ }
 {
-    match l {
+    match literal {
         Literal::Got { value, next } => ProbeLiteral {
             readable: true,
             value: value,
@@ -104,10 +104,10 @@ pub extern "C" fn probe_take_literal(witness: bool, bytes: &[u8], at: usize) -> 
     flat_literal(text::take_literal(reader_of(witness), bytes, Cursor { at: at }))
 }
 
-fn flat_line(l: Line) -> ProbePart
-    ensures { λ r. ⌜ r ≡ flatLine l ⌝ }
+fn flat_line(line: Line) -> ProbePart
+    ensures { λ r. ⌜ r ≡ flatLine line ⌝ }
 {
-    match l {
+    match line {
         Line::At { start, end, next } => ProbePart {
             found: true,
             start: start,
@@ -130,10 +130,10 @@ pub extern "C" fn probe_line(bytes: &[u8], at: usize) -> ProbePart
     flat_line(text::next_line(bytes, Cursor { at: at }))
 }
 
-fn flat_field(f: Field) -> ProbePart
-    ensures { λ r. ⌜ r ≡ flatField f ⌝ }
+fn flat_field(field: Field) -> ProbePart
+    ensures { λ r. ⌜ r ≡ flatField field ⌝ }
 {
-    match f {
+    match field {
         Field::At { start, end } => ProbePart {
             found: true,
             start: start,
@@ -156,10 +156,10 @@ pub extern "C" fn probe_field(line: &[u8], at: usize) -> ProbePart
     flat_field(text::next_field(line, at))
 }
 
-fn flat_written(w: Written) -> ProbeWritten
-    ensures { λ r. ⌜ r ≡ flatWritten w ⌝ }
+fn flat_written(written: Written) -> ProbeWritten
+    ensures { λ r. ⌜ r ≡ flatWritten written ⌝ }
 {
-    match w {
+    match written {
         Written::Next(next) => ProbeWritten {
             fits: true,
             next: next,

@@ -19,32 +19,32 @@ fn latch_words(latches: [AigerLatch; 8]) -> [u64; 16] {
 }
 
 // Prints M I L O A.
-fn show_counts(m: AigerTransition, out: &mut [u8], at: usize) -> usize {
+fn show_counts(model: AigerTransition, out: &mut [u8], at: usize) -> usize {
     let counts: [u64; 5] = [
-        m.max_variable as u64,
-        m.input_count as u64,
-        m.latch_count as u64,
-        m.output_count as u64,
-        m.and_count as u64,
+        model.max_variable as u64,
+        model.input_count as u64,
+        model.latch_count as u64,
+        model.output_count as u64,
+        model.and_count as u64,
     ];
     show::words(out, at, &counts)
 }
 
 // Prints a record: the counts, the literals of each list, and that all slots past them are 0.
-fn show_model(m: AigerTransition, out: &mut [u8], at: usize) -> usize {
-    let inputs = m.inputs;
-    let pairs = m.latches;
+fn show_model(model: AigerTransition, out: &mut [u8], at: usize) -> usize {
+    let inputs = model.inputs;
+    let pairs = model.latches;
     let latches = latch_words(pairs);
-    let outputs = m.outputs;
-    let counted = show_counts(m, out, at);
-    let first = show::zero(out, counted, &inputs, m.input_count);
+    let outputs = model.outputs;
+    let counted = show_counts(model, out, at);
+    let first = show::zero(out, counted, &inputs, model.input_count);
     let second = show::zero(
         out,
         first,
         &latches,
-        text_print::advance(m.latch_count, m.latch_count),
+        text_print::advance(model.latch_count, model.latch_count),
     );
-    show::zero(out, second, &outputs, m.output_count)
+    show::zero(out, second, &outputs, model.output_count)
 }
 
 // Reads a text with exactly these words lent, and prints the answer.

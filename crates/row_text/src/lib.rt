@@ -164,7 +164,7 @@ fn print_made(made: Made, pairs: &[u64], literals: &[u32], out: &mut [u8]) -> us
 
 // Makes the clauses of a row, without relevant inputs or predicate, and prints them.
 fn print_row(
-    m: AigerTransition,
+    model: AigerTransition,
     gates: &[u64],
     source: u64,
     targets: &[u64],
@@ -174,11 +174,11 @@ fn print_row(
     out: &mut [u8],
 ) -> usize
     requires { ⌜ 21 * (length (now pairs) + length (now literals)) + 29 ≤ length (now out) ⌝ }
-    ensures { λ r. ⌜ Wrote (now (out .entry)) 0 (printed (relationRow (bare m (now (gates .entry))) source (now (targets .entry)) (record { work = length (now (work .entry)); pairs = length (now (pairs .entry)); literals = length (now (literals .entry)) }))) (now (out .exit)) r ⌝ }
+    ensures { λ r. ⌜ Wrote (now (out .entry)) 0 (printed (relationRow (bare model (now (gates .entry))) source (now (targets .entry)) (record { work = length (now (work .entry)); pairs = length (now (pairs .entry)); literals = length (now (literals .entry)) }))) (now (out .exit)) r ⌝ }
 {
     let none = [0u32; 1];
     let made = obligation::relation_row_completeness_cnf(
-        m,
+        model,
         gates,
         &gates[..0],
         source,

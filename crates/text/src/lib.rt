@@ -69,10 +69,10 @@ pub enum Literal {
 }
 
 // The line at a cursor, without its byte 10.
-pub fn next_line(s: &[u8], c: Cursor) -> Line
-    ensures { λ r. ⌜ r ≡ lineAt (now (s .entry)) (c .at) ⌝ }
+pub fn next_line(s: &[u8], cursor: Cursor) -> Line
+    ensures { λ r. ⌜ r ≡ lineAt (now (s .entry)) (cursor .at) ⌝ }
 {
-    let at = c.at;
+    let at = cursor.at;
     if s.len() <= at {
         return Line::None;
     }
@@ -287,11 +287,11 @@ pub fn next_number(reader: Reader, l: &[u8], at: usize) -> Taken
 }
 
 // The number of the line at a cursor, which has nothing else, in whatever form; the line is passed also when it is refused.
-fn any_literal(reader: Reader, s: &[u8], c: Cursor) -> Literal
-    ensures { λ r. ⌜ r ≡ literalAt reader (now (s .entry)) c ⌝ }
+fn any_literal(reader: Reader, s: &[u8], cursor: Cursor) -> Literal
+    ensures { λ r. ⌜ r ≡ literalAt reader (now (s .entry)) cursor ⌝ }
 {
-    let Line::At { start, end, next } = next_line(s, c) else {
-        return Literal::Refused { next: c };
+    let Line::At { start, end, next } = next_line(s, cursor) else {
+        return Literal::Refused { next: cursor };
     };
     let l = &s[start..end];
     let taken = next_number(reader, l, 0);
@@ -311,11 +311,11 @@ fn any_literal(reader: Reader, s: &[u8], c: Cursor) -> Literal
 }
 
 // The number of the line at a cursor: nearly always plain digits alone.
-pub fn take_literal(reader: Reader, s: &[u8], c: Cursor) -> Literal
-    ensures { λ r. ⌜ r ≡ literalAt reader (now (s .entry)) c ⌝ }
+pub fn take_literal(reader: Reader, s: &[u8], cursor: Cursor) -> Literal
+    ensures { λ r. ⌜ r ≡ literalAt reader (now (s .entry)) cursor ⌝ }
 {
-    let Plain::Got { value, next } = plain_number(s, c.at, 10) else {
-        return any_literal(reader, s, c);
+    let Plain::Got { value, next } = plain_number(s, cursor.at, 10) else {
+        return any_literal(reader, s, cursor);
     };
     Literal::Got {
         value: value,

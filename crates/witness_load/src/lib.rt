@@ -29,10 +29,10 @@ use witness_text::SymbolLine;
 use witness_text::TakenLatch;
 
 // The cursor after n lines, or at the end where there are fewer.
-fn pass_lines(s: &[u8], c: Cursor, n: usize) -> Cursor
-    ensures { λ r. ⌜ linesFrom (now (s .entry)) r ≡ drop n (linesFrom (now (s .entry)) c) ⌝ }
+fn pass_lines(s: &[u8], cursor: Cursor, n: usize) -> Cursor
+    ensures { λ r. ⌜ linesFrom (now (s .entry)) r ≡ drop n (linesFrom (now (s .entry)) cursor) ⌝ }
 {
-    let mut p = c;
+    let mut p = cursor;
     let mut i = 0;
     while i < n {
         let Line::At { start, end, next } = text::next_line(s, p) else {
@@ -53,11 +53,11 @@ fn store_pair(out: &mut [u64], at: usize, x: u64, y: u64)
 }
 
 // Next literal and reset of the latches of the n lines from a cursor on, stored from a place on.
-fn load_latches(s: &[u8], c: Cursor, n: usize, out: &mut [u64], at: usize) -> Place
+fn load_latches(s: &[u8], cursor: Cursor, n: usize, out: &mut [u64], at: usize) -> Place
     requires { ⌜ at + 2 * n ≤ length (now out) ⌝ }
-    ensures { λ r. ⌜ LoadsSection latchLine storedWords (now (s .entry)) c n (now (out .entry)) at (now (out .exit)) r ⌝ }
+    ensures { λ r. ⌜ LoadsSection latchLine storedWords (now (s .entry)) cursor n (now (out .entry)) at (now (out .exit)) r ⌝ }
 {
-    let mut p = c;
+    let mut p = cursor;
     let mut i = 0;
     while i < n {
         let TakenLatch::Got { latch, next } = witness_text::take_latch(s, p) else {
@@ -71,11 +71,11 @@ fn load_latches(s: &[u8], c: Cursor, n: usize, out: &mut [u64], at: usize) -> Pl
 }
 
 // The operands of the gates of the n lines from a cursor on, stored from a place on.
-fn load_gates(s: &[u8], c: Cursor, n: usize, out: &mut [u64], at: usize) -> Place
+fn load_gates(s: &[u8], cursor: Cursor, n: usize, out: &mut [u64], at: usize) -> Place
     requires { ⌜ at + 2 * n ≤ length (now out) ⌝ }
-    ensures { λ r. ⌜ LoadsSection (gateLine Witness) operandWords (now (s .entry)) c n (now (out .entry)) at (now (out .exit)) r ⌝ }
+    ensures { λ r. ⌜ LoadsSection (gateLine Witness) operandWords (now (s .entry)) cursor n (now (out .entry)) at (now (out .exit)) r ⌝ }
 {
-    let mut p = c;
+    let mut p = cursor;
     let mut i = 0;
     while i < n {
         let TakenGate::Got { gate, next } = circuit_lines::take_gate(Reader::Witness, s, p) else {
@@ -89,39 +89,39 @@ fn load_gates(s: &[u8], c: Cursor, n: usize, out: &mut [u64], at: usize) -> Plac
 }
 
 // The literals of the n lines from a cursor on, stored from a place on.
-fn load_literals(s: &[u8], c: Cursor, n: usize, out: &mut [u64], at: usize) -> Place
+fn load_literals(s: &[u8], cursor: Cursor, n: usize, out: &mut [u64], at: usize) -> Place
     requires { ⌜ at + n ≤ length (now out) ⌝ }
-    ensures { λ r. ⌜ LoadsSection (literalLine Witness) literalWord (now (s .entry)) c n (now (out .entry)) at (now (out .exit)) r ⌝ }
+    ensures { λ r. ⌜ LoadsSection (literalLine Witness) literalWord (now (s .entry)) cursor n (now (out .entry)) at (now (out .exit)) r ⌝ }
 {
     let end = at + n;
-    circuit_lines::take_literals(Reader::Witness, s, c, &mut out[at..end])
+    circuit_lines::take_literals(Reader::Witness, s, cursor, &mut out[at..end])
 }
 
 // Outputs, bads, constraints and gates from a cursor on, stored from a place on, and the cursor after them.
-fn load_rest(s: &[u8], c: Cursor, n: AagCounts, out: &mut [u64], at: usize) -> Cursor
-    requires { ⌜ at + restRoom n ≤ length (now out) ⌝ }
-    ensures { λ r. ⌜ LoadsRest (now (s .entry)) c n (now (out .entry)) at (now (out .exit)) r ⌝ }
+fn load_rest(s: &[u8], cursor: Cursor, counts: AagCounts, out: &mut [u64], at: usize) -> Cursor
+    requires { ⌜ at + restRoom counts ≤ length (now out) ⌝ }
+    ensures { λ r. ⌜ LoadsRest (now (s .entry)) cursor counts (now (out .entry)) at (now (out .exit)) r ⌝ }
 {
-    let count = n.outputs + n.bads + n.constraints;
-    let Place::At(gates) = load_literals(s, c, count, out, at) else {
-        return c;
+    let count = counts.outputs + counts.bads + counts.constraints;
+    let Place::At(gates) = load_literals(s, cursor, count, out, at) else {
+        return cursor;
     };
-    let Place::At(end) = load_gates(s, gates, n.gates, out, at + count) else {
-        return c;
+    let Place::At(end) = load_gates(s, gates, counts.gates, out, at + count) else {
+        return cursor;
     };
     end
 }
 
 // The literals of all sections but the inputs from a cursor on, stored from a place on, and the cursor after them.
-fn load_body(s: &[u8], c: Cursor, n: AagCounts, out: &mut [u64], at: usize) -> Cursor
-    requires { ⌜ at + bodyRoom n ≤ length (now out) ⌝ }
-    ensures { λ r. ⌜ LoadsBody (now (s .entry)) c n (now (out .entry)) at (now (out .exit)) r ⌝ }
+fn load_body(s: &[u8], cursor: Cursor, counts: AagCounts, out: &mut [u64], at: usize) -> Cursor
+    requires { ⌜ at + bodyRoom counts ≤ length (now out) ⌝ }
+    ensures { λ r. ⌜ LoadsBody (now (s .entry)) cursor counts (now (out .entry)) at (now (out .exit)) r ⌝ }
 {
-    let latches = pass_lines(s, c, n.inputs);
-    let Place::At(rest) = load_latches(s, latches, n.latches, out, at) else {
-        return c;
+    let latches = pass_lines(s, cursor, counts.inputs);
+    let Place::At(rest) = load_latches(s, latches, counts.latches, out, at) else {
+        return cursor;
     };
-    load_rest(s, rest, n, out, at + 2 * n.latches)
+    load_rest(s, rest, counts, out, at + 2 * counts.latches)
 }
 
 fn least(a: usize, b: usize) -> usize
@@ -134,13 +134,13 @@ fn least(a: usize, b: usize) -> usize
 }
 
 // Two words of an input or a latch; the other kinds have none.
-fn store_leaf(n: AagCounts, kind: Kind, index: usize, x: u64, y: u64, out: &mut [u64])
-    requires { ⌜ (index < countOf n kind) × (length (now out) ≡ leafWords n) ⌝ }
-    ensures { λ _. ⌜ now (out .exit) ≡ withWords n kind index (x ∷ y ∷ []) (now (out .entry)) ⌝ }
+fn store_leaf(counts: AagCounts, kind: Kind, index: usize, x: u64, y: u64, out: &mut [u64])
+    requires { ⌜ (index < countOf counts kind) × (length (now out) ≡ leafWords counts) ⌝ }
+    ensures { λ _. ⌜ now (out .exit) ≡ withWords counts kind index (x ∷ y ∷ []) (now (out .entry)) ⌝ }
 {
     match kind {
         Kind::Input => store_pair(out, 2 * index, x, y),
-        Kind::Latch => store_pair(out, 2 * (n.inputs + index), x, y),
+        Kind::Latch => store_pair(out, 2 * (counts.inputs + index), x, y),
         Kind::Output => {}
         Kind::Bad => {}
         Kind::Constraint => {}
@@ -148,25 +148,25 @@ fn store_leaf(n: AagCounts, kind: Kind, index: usize, x: u64, y: u64, out: &mut 
 }
 
 // Stores where the name of a symbol line stands; the line is from one place of the text to another. False where it is refused.
-fn name_line(s: &[u8], start: usize, end: usize, n: AagCounts, out: &mut [u64]) -> bool
-    requires { ⌜ (0 < start) × (start ≤ end) × (end ≤ length (now s)) × (length (now out) ≡ leafWords n) ⌝ }
-    ensures { λ r. ⌜ NamesLine (now (s .entry)) (part (now (s .entry)) start end) n (now (out .entry)) (now (out .exit)) r ⌝ }
+fn name_line(s: &[u8], start: usize, end: usize, counts: AagCounts, out: &mut [u64]) -> bool
+    requires { ⌜ (0 < start) × (start ≤ end) × (end ≤ length (now s)) × (length (now out) ≡ leafWords counts) ⌝ }
+    ensures { λ r. ⌜ NamesLine (now (s .entry)) (part (now (s .entry)) start end) counts (now (out .entry)) (now (out .exit)) r ⌝ }
 {
     let l = &s[start..end];
-    let SymbolLine::Named { kind, index, name } = witness_text::symbol_line(l, n) else {
+    let SymbolLine::Named { kind, index, name } = witness_text::symbol_line(l, counts) else {
         return false;
     };
     let at = start + least(name, end - start);
-    store_leaf(n, kind, index, at as u64, (end - at) as u64, out);
+    store_leaf(counts, kind, index, at as u64, (end - at) as u64, out);
     true
 }
 
 // The names of the symbols from a cursor on, up to the line `c` or the end.
-fn name_leaves(s: &[u8], c: Cursor, n: AagCounts, out: &mut [u64])
-    requires { ⌜ (0 < c .at) × (now out ≡ zeros (leafWords n)) ⌝ }
-    ensures { λ _. ⌜ LoadsNames (now (s .entry)) c n (now (out .exit)) ⌝ }
+fn name_leaves(s: &[u8], cursor: Cursor, counts: AagCounts, out: &mut [u64])
+    requires { ⌜ (0 < cursor .at) × (now out ≡ zeros (leafWords counts)) ⌝ }
+    ensures { λ _. ⌜ LoadsNames (now (s .entry)) cursor counts (now (out .exit)) ⌝ }
 {
-    let mut p = c;
+    let mut p = cursor;
     loop {
         let Line::At { start, end, next } = text::next_line(s, p) else {
             return;
@@ -174,7 +174,7 @@ fn name_leaves(s: &[u8], c: Cursor, n: AagCounts, out: &mut [u64])
         if witness_text::ends_symbols(&s[start..end]) {
             return;
         }
-        if name_line(s, start, end, n, out) {
+        if name_line(s, start, end, counts, out) {
             p = next;
         } else {
             return;
@@ -183,45 +183,45 @@ fn name_leaves(s: &[u8], c: Cursor, n: AagCounts, out: &mut [u64])
 }
 
 // The names of inputs and latches, as places in the text; all words are written.
-fn load_names(s: &[u8], c: Cursor, n: AagCounts, out: &mut [u64])
-    requires { ⌜ (0 < c .at) × (length (now out) ≡ leafWords n) ⌝ }
-    ensures { λ _. ⌜ LoadsNames (now (s .entry)) c n (now (out .exit)) ⌝ }
+fn load_names(s: &[u8], cursor: Cursor, counts: AagCounts, out: &mut [u64])
+    requires { ⌜ (0 < cursor .at) × (length (now out) ≡ leafWords counts) ⌝ }
+    ensures { λ _. ⌜ LoadsNames (now (s .entry)) cursor counts (now (out .exit)) ⌝ }
 {
     lists::clear(out);
-    name_leaves(s, c, n, out);
+    name_leaves(s, cursor, counts, out);
 }
 
 // The sections of a text with the counts n that is accepted, in front of the words.
-pub fn load(s: &[u8], n: AagCounts, words: &mut [u64])
-    requires { ⌜ Loadable (now s) n (now words) ⌝ }
-    ensures { λ _. ⌜ LoadsText (now (s .entry)) n (now (words .entry)) (now (words .exit)) ⌝ }
+pub fn load(s: &[u8], known: AagCounts, words: &mut [u64])
+    requires { ⌜ Loadable (now s) known (now words) ⌝ }
+    ensures { λ _. ⌜ LoadsText (now (s .entry)) known (now (words .entry)) (now (words .exit)) ⌝ }
 {
     let Header::Got { counts, next } = witness_text::take_header(s) else {
         return;
     };
-    let names = 2 * (n.inputs + n.latches);
-    let c = load_body(s, next, n, words, names);
-    load_names(s, c, n, &mut words[..names]);
+    let names = 2 * (known.inputs + known.latches);
+    let c = load_body(s, next, known, words, names);
+    load_names(s, c, known, &mut words[..names]);
 }
 
 // Whether so many words are enough for sections with the counts n. The counts of outputs, bads and constraints are not added, since their sum may pass 2^64.
-fn has_room(n: AagCounts, size: usize) -> bool
-    requires { ⌜ counted limited n ≡ true ⌝ }
-    ensures { λ r. ⌜ r ≡ leb (leafWords n + bodyRoom n) size ⌝ }
+fn has_room(counts: AagCounts, size: usize) -> bool
+    requires { ⌜ counted limited counts ≡ true ⌝ }
+    ensures { λ r. ⌜ r ≡ leb (leafWords counts + bodyRoom counts) size ⌝ }
 {
-    let fixed = 2 * n.inputs + 4 * n.latches + 2 * n.gates;
+    let fixed = 2 * counts.inputs + 4 * counts.latches + 2 * counts.gates;
     if size < fixed {
         return false;
     }
     let after_fixed = size - fixed;
-    if after_fixed < n.outputs {
+    if after_fixed < counts.outputs {
         return false;
     }
-    let after_outputs = after_fixed - n.outputs;
-    if after_outputs < n.bads {
+    let after_outputs = after_fixed - counts.outputs;
+    if after_outputs < counts.bads {
         return false;
     }
-    n.constraints <= after_outputs - n.bads
+    counts.constraints <= after_outputs - counts.bads
 }
 
 // Reads a text as a witness, or as the model where `witness` is false, and loads its sections in front of the words.

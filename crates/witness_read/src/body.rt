@@ -38,39 +38,39 @@ fn literal_holds(most: u64, l: u64) -> bool
 }
 
 // Whether a latch is that of variable k, with literals in range.
-fn latch_numbered(most: u64, k: u64, q: Latch) -> bool
+fn latch_numbered(most: u64, k: u64, latch: Latch) -> bool
     requires { ⌜ (most ≤ 2000000) × (k ≤ 2000000) ⌝ }
-    ensures { λ r. ⌜ r ≡ latchNumbered most k q ⌝ }
+    ensures { λ r. ⌜ r ≡ latchNumbered most k latch ⌝ }
 {
-    if q.current != 2 * k {
+    if latch.current != 2 * k {
         return false;
     }
-    if literal_holds(most, q.next) {
-        return literal_holds(most, q.reset);
+    if literal_holds(most, latch.next) {
+        return literal_holds(most, latch.reset);
     }
     false
 }
 
 // Whether a gate is that of variable k, with smaller operands.
-fn gate_numbered(k: u64, g: Gate) -> bool
+fn gate_numbered(k: u64, gate: Gate) -> bool
     requires { ⌜ k ≤ 2000000 ⌝ }
-    ensures { λ r. ⌜ r ≡ gateNumbered k g ⌝ }
+    ensures { λ r. ⌜ r ≡ gateNumbered k gate ⌝ }
 {
-    if g.output != 2 * k {
+    if gate.output != 2 * k {
         return false;
     }
-    if k <= g.left / 2 {
+    if k <= gate.left / 2 {
         return false;
     }
-    g.right / 2 < k
+    gate.right / 2 < k
 }
 
 // The inputs: n lines, from variable 1 on.
-fn check_inputs(s: &[u8], c: Cursor, n: usize) -> Checked
+fn check_inputs(s: &[u8], cursor: Cursor, n: usize) -> Checked
     requires { ⌜ n ≤ 2000000 ⌝ }
-    ensures { λ r. ⌜ Checks (literalLine Reader.Witness) (allFrom defines 1) (now (s .entry)) c n r ⌝ }
+    ensures { λ r. ⌜ Checks (literalLine Reader.Witness) (allFrom defines 1) (now (s .entry)) cursor n r ⌝ }
 {
-    let mut p = c;
+    let mut p = cursor;
     let mut fine = true;
     let mut i: usize = 0;
     while i < n {
@@ -89,11 +89,11 @@ fn check_inputs(s: &[u8], c: Cursor, n: usize) -> Checked
 }
 
 // The latches: n lines, from variable first + 1 on.
-fn check_latches(s: &[u8], c: Cursor, n: usize, first: usize, most: u64) -> Checked
+fn check_latches(s: &[u8], cursor: Cursor, n: usize, first: usize, most: u64) -> Checked
     requires { ⌜ (most ≤ 2000000) × (first + n ≤ 2000000) ⌝ }
-    ensures { λ r. ⌜ Checks latchLine (allFrom (latchNumbered most) (first + 1)) (now (s .entry)) c n r ⌝ }
+    ensures { λ r. ⌜ Checks latchLine (allFrom (latchNumbered most) (first + 1)) (now (s .entry)) cursor n r ⌝ }
 {
-    let mut p = c;
+    let mut p = cursor;
     let mut fine = true;
     let mut i: usize = 0;
     while i < n {
@@ -112,11 +112,11 @@ fn check_latches(s: &[u8], c: Cursor, n: usize, first: usize, most: u64) -> Chec
 }
 
 // Outputs, bads or constraints: n lines.
-fn check_literals(s: &[u8], c: Cursor, n: usize, most: u64) -> Checked
+fn check_literals(s: &[u8], cursor: Cursor, n: usize, most: u64) -> Checked
     requires { ⌜ most ≤ 2000000 ⌝ }
-    ensures { λ r. ⌜ Checks (literalLine Reader.Witness) (all (literal most)) (now (s .entry)) c n r ⌝ }
+    ensures { λ r. ⌜ Checks (literalLine Reader.Witness) (all (literal most)) (now (s .entry)) cursor n r ⌝ }
 {
-    let mut p = c;
+    let mut p = cursor;
     let mut fine = true;
     let mut i: usize = 0;
     while i < n {
@@ -134,11 +134,11 @@ fn check_literals(s: &[u8], c: Cursor, n: usize, most: u64) -> Checked
 }
 
 // The gates: n lines, from variable first + 1 on.
-fn check_gates(s: &[u8], c: Cursor, n: usize, first: usize) -> Checked
+fn check_gates(s: &[u8], cursor: Cursor, n: usize, first: usize) -> Checked
     requires { ⌜ first + n ≤ 2000000 ⌝ }
-    ensures { λ r. ⌜ Checks (gateLine Reader.Witness) (allFrom gateNumbered (first + 1)) (now (s .entry)) c n r ⌝ }
+    ensures { λ r. ⌜ Checks (gateLine Reader.Witness) (allFrom gateNumbered (first + 1)) (now (s .entry)) cursor n r ⌝ }
 {
-    let mut p = c;
+    let mut p = cursor;
     let mut fine = true;
     let mut i: usize = 0;
     while i < n {
@@ -163,19 +163,19 @@ fn wide(x: usize) -> u64
 }
 
 // Inputs and latches.
-fn check_leaves(s: &[u8], c: Cursor, n: AagCounts) -> Checked
-    requires { ⌜ counted limited n ≡ true ⌝ }
-    ensures { λ r. ⌜ ChecksLeaves (now (s .entry)) c n r ⌝ }
+fn check_leaves(s: &[u8], cursor: Cursor, counts: AagCounts) -> Checked
+    requires { ⌜ counted limited counts ≡ true ⌝ }
+    ensures { λ r. ⌜ ChecksLeaves (now (s .entry)) cursor counts r ⌝ }
 {
-    let Checked::Done { next: p, fine: a } = check_inputs(s, c, n.inputs) else {
+    let Checked::Done { next: p, fine: a } = check_inputs(s, cursor, counts.inputs) else {
         return Checked::Bad;
     };
     let Checked::Done { next: q, fine: b } = check_latches(
         s,
         p,
-        n.latches,
-        n.inputs,
-        wide(n.max_variable),
+        counts.latches,
+        counts.inputs,
+        wide(counts.max_variable),
     ) else {
         return Checked::Bad;
     };
@@ -186,18 +186,18 @@ fn check_leaves(s: &[u8], c: Cursor, n: AagCounts) -> Checked
 }
 
 // Outputs, bads and constraints.
-fn check_properties(s: &[u8], c: Cursor, n: AagCounts) -> Checked
-    requires { ⌜ counted limited n ≡ true ⌝ }
-    ensures { λ r. ⌜ ChecksProperties (now (s .entry)) c n r ⌝ }
+fn check_properties(s: &[u8], cursor: Cursor, counts: AagCounts) -> Checked
+    requires { ⌜ counted limited counts ≡ true ⌝ }
+    ensures { λ r. ⌜ ChecksProperties (now (s .entry)) cursor counts r ⌝ }
 {
-    let most = wide(n.max_variable);
-    let Checked::Done { next: p, fine: a } = check_literals(s, c, n.outputs, most) else {
+    let most = wide(counts.max_variable);
+    let Checked::Done { next: p, fine: a } = check_literals(s, cursor, counts.outputs, most) else {
         return Checked::Bad;
     };
-    let Checked::Done { next: q, fine: b } = check_literals(s, p, n.bads, most) else {
+    let Checked::Done { next: q, fine: b } = check_literals(s, p, counts.bads, most) else {
         return Checked::Bad;
     };
-    let Checked::Done { next: e, fine: d } = check_literals(s, q, n.constraints, most) else {
+    let Checked::Done { next: e, fine: d } = check_literals(s, q, counts.constraints, most) else {
         return Checked::Bad;
     };
     Checked::Done {
@@ -207,17 +207,17 @@ fn check_properties(s: &[u8], c: Cursor, n: AagCounts) -> Checked
 }
 
 // All sections.
-pub fn check_body(s: &[u8], c: Cursor, n: AagCounts) -> Checked
-    requires { ⌜ counted limited n ≡ true ⌝ }
-    ensures { λ r. ⌜ ChecksBody (now (s .entry)) c n r ⌝ }
+pub fn check_body(s: &[u8], cursor: Cursor, counts: AagCounts) -> Checked
+    requires { ⌜ counted limited counts ≡ true ⌝ }
+    ensures { λ r. ⌜ ChecksBody (now (s .entry)) cursor counts r ⌝ }
 {
-    let Checked::Done { next: p, fine: a } = check_leaves(s, c, n) else {
+    let Checked::Done { next: p, fine: a } = check_leaves(s, cursor, counts) else {
         return Checked::Bad;
     };
-    let Checked::Done { next: q, fine: b } = check_properties(s, p, n) else {
+    let Checked::Done { next: q, fine: b } = check_properties(s, p, counts) else {
         return Checked::Bad;
     };
-    let Checked::Done { next: e, fine: d } = check_gates(s, q, n.gates, n.inputs + n.latches) else {
+    let Checked::Done { next: e, fine: d } = check_gates(s, q, counts.gates, counts.inputs + counts.latches) else {
         return Checked::Bad;
     };
     Checked::Done {

@@ -44,14 +44,14 @@ pub enum NextSymbol {
 }
 
 // The sections from a cursor on. All lines are looked at before 11, since a bad line, symbol or comment counts more.
-fn read_sections(s: &[u8], c: Cursor, n: AagCounts, witness: bool) -> ReadAag
-    requires { ⌜ (counted limited n ≡ true) × (withoutLiveness n ≡ true) ⌝ }
-    ensures { λ r. ⌜ r ≡ countsRead (sectionsOf witness n (linesFrom (now (s .entry)) c)) ⌝ }
+fn read_sections(s: &[u8], cursor: Cursor, counts: AagCounts, witness: bool) -> ReadAag
+    requires { ⌜ (counted limited counts ≡ true) × (withoutLiveness counts ≡ true) ⌝ }
+    ensures { λ r. ⌜ r ≡ countsRead (sectionsOf witness counts (linesFrom (now (s .entry)) cursor)) ⌝ }
 {
-    let Checked::Done { next, fine } = body::check_body(s, c, n) else {
+    let Checked::Done { next, fine } = body::check_body(s, cursor, counts) else {
         return ReadAag::Refused(8);
     };
-    let symbols = tail::check_tail(s, next, n);
+    let symbols = tail::check_tail(s, next, counts);
     match symbols {
         Symbols::Refused(reason) => ReadAag::Refused(reason),
         Symbols::Done(comments) => {
@@ -59,7 +59,7 @@ fn read_sections(s: &[u8], c: Cursor, n: AagCounts, witness: bool) -> ReadAag
                 return ReadAag::Refused(10);
             }
             if fine {
-                return ReadAag::Got(n);
+                return ReadAag::Got(counts);
             }
             ReadAag::Refused(11)
         }
@@ -67,16 +67,16 @@ fn read_sections(s: &[u8], c: Cursor, n: AagCounts, witness: bool) -> ReadAag
 }
 
 // What follows a header, from a cursor on.
-fn read_body(s: &[u8], c: Cursor, n: AagCounts, witness: bool) -> ReadAag
-    ensures { λ r. ⌜ r ≡ countsRead (afterHeader limited witness (linesFrom (now (s .entry)) c) n) ⌝ }
+fn read_body(s: &[u8], cursor: Cursor, counts: AagCounts, witness: bool) -> ReadAag
+    ensures { λ r. ⌜ r ≡ countsRead (afterHeader limited witness (linesFrom (now (s .entry)) cursor) counts) ⌝ }
 {
-    if !witness_text::counts_hold(n) {
+    if !witness_text::counts_hold(counts) {
         return ReadAag::Refused(5);
     }
-    if !witness_text::no_liveness(n) {
+    if !witness_text::no_liveness(counts) {
         return ReadAag::Refused(6);
     }
-    read_sections(s, c, n, witness)
+    read_sections(s, cursor, counts, witness)
 }
 
 // Reads a text as a witness, or as the model where `witness` is false: the counts of its sections, or the number of the first reason.

@@ -108,28 +108,28 @@ pub fn take_header(s: &[u8]) -> Header
 }
 
 // Whether the counts keep the limits of reason 5. The sum of I, L and A is never made, since it may pass 2^64.
-pub fn counts_hold(n: AagCounts) -> bool
-    ensures { λ r. ⌜ r ≡ counted limited n ⌝ }
+pub fn counts_hold(counts: AagCounts) -> bool
+    ensures { λ r. ⌜ r ≡ counted limited counts ⌝ }
 {
-    if 2000000 < n.max_variable {
+    if 2000000 < counts.max_variable {
         return false;
     }
-    if n.max_variable < n.inputs {
+    if counts.max_variable < counts.inputs {
         return false;
     }
-    let after_inputs = n.max_variable - n.inputs;
-    if after_inputs < n.latches {
+    let after_inputs = counts.max_variable - counts.inputs;
+    if after_inputs < counts.latches {
         return false;
     }
-    after_inputs - n.latches == n.gates
+    after_inputs - counts.latches == counts.gates
 }
 
 // Whether J and F are 0.
-pub fn no_liveness(n: AagCounts) -> bool
-    ensures { λ r. ⌜ r ≡ withoutLiveness n ⌝ }
+pub fn no_liveness(counts: AagCounts) -> bool
+    ensures { λ r. ⌜ r ≡ withoutLiveness counts ⌝ }
 {
-    if n.justice == 0 {
-        return n.fairness == 0;
+    if counts.justice == 0 {
+        return counts.fairness == 0;
     }
     false
 }
@@ -152,10 +152,10 @@ fn latch_line(l: &[u8]) -> ReadLatch
 }
 
 // The latch of the line at a cursor.
-pub fn take_latch(s: &[u8], c: Cursor) -> TakenLatch
-    ensures { λ r. ⌜ TakesLatch (now (s .entry)) c r ⌝ }
+pub fn take_latch(s: &[u8], cursor: Cursor) -> TakenLatch
+    ensures { λ r. ⌜ TakesLatch (now (s .entry)) cursor r ⌝ }
 {
-    let Line::At { start, end, next } = text::next_line(s, c) else {
+    let Line::At { start, end, next } = text::next_line(s, cursor) else {
         return TakenLatch::Bad;
     };
     let ReadLatch::Got(latch) = latch_line(&s[start..end]) else {
@@ -175,15 +175,15 @@ pub fn ends_symbols(l: &[u8]) -> bool
 }
 
 // How many of a kind there are.
-pub fn count_of(n: AagCounts, kind: Kind) -> usize
-    ensures { λ r. ⌜ r ≡ countOf n kind ⌝ }
+pub fn count_of(counts: AagCounts, kind: Kind) -> usize
+    ensures { λ r. ⌜ r ≡ countOf counts kind ⌝ }
 {
     match kind {
-        Kind::Input => n.inputs,
-        Kind::Latch => n.latches,
-        Kind::Output => n.outputs,
-        Kind::Bad => n.bads,
-        Kind::Constraint => n.constraints,
+        Kind::Input => counts.inputs,
+        Kind::Latch => counts.latches,
+        Kind::Output => counts.outputs,
+        Kind::Bad => counts.bads,
+        Kind::Constraint => counts.constraints,
     }
 }
 
@@ -215,8 +215,8 @@ fn first_space(l: &[u8]) -> usize
 }
 
 // Takes a symbol line apart into kind, index and name, or refuses it.
-pub fn symbol_line(l: &[u8], n: AagCounts) -> SymbolLine
-    ensures { λ r. ⌜ symbolAnswer (now (l .entry)) r ≡ symbolOf n (now (l .entry)) ⌝ }
+pub fn symbol_line(l: &[u8], counts: AagCounts) -> SymbolLine
+    ensures { λ r. ⌜ symbolAnswer (now (l .entry)) r ≡ symbolOf counts (now (l .entry)) ⌝ }
 {
     let end = first_space(l);
     if l.len() <= end {
@@ -232,7 +232,7 @@ pub fn symbol_line(l: &[u8], n: AagCounts) -> SymbolLine
         return SymbolLine::Refused;
     };
     let index = lists::index(v);
-    if index < count_of(n, kind) {
+    if index < count_of(counts, kind) {
         return SymbolLine::Named {
             kind: kind,
             index: index,

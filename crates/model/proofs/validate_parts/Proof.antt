@@ -11,7 +11,7 @@ use Rattle.model.proofs.validate_parts.Tie as tie
 
 -- the record whose parts are given
 abbrev model : tie.Start → AigerTransition
-model s = recordFrom (s .args .n) (s .args .inputs .now) (s .args .latches) (s .args .outputs .now)
+model s = recordFrom (s .args .counts) (s .args .inputs .now) (s .args .latches) (s .args .outputs .now)
 
 returns : tie.Need-returns
 returns c =

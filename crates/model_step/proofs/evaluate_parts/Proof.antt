@@ -14,7 +14,7 @@ use Rattle.model_step.proofs.evaluate_parts.Tie as tie
 
 -- the record whose parts are given
 abbrev model : tie.Start → AigerTransition
-model s = recordFrom (s .args .n) (s .args .inputs .now) (s .args .latches) (s .args .outputs .now)
+model s = recordFrom (s .args .counts) (s .args .inputs .now) (s .args .latches) (s .args .outputs .now)
 
 -- the latches are an array
 eight : (s : tie.Start) → length (s .args .latches) ≡ 8
@@ -70,7 +70,7 @@ slice-aggregate-run c =
     let t = c .before .before .before .before .before .before .before in
     let v = t .before .before .before .before in
     let work = v .validate-parts .last .1 .1 .1 .1 .1 .0 in
-    sym (length-take-le (v .before .before .before .before .before .before .args .n .«max_variable» + 1) work (omega (arith, step-room (valid t), v .validate-parts .kept .1 .1 .1 .1 .1 .0)))
+    sym (length-take-le (v .before .before .before .before .before .before .args .counts .«max_variable» + 1) work (omega (arith, step-room (valid t), v .validate-parts .kept .1 .1 .1 .1 .1 .0)))
 
 run-requires : tie.Need-run-requires
 run-requires c κs =
@@ -87,7 +87,7 @@ returns-4 c =
     let t = e .before .before in
     let v = t .before .before .before .before in
     let s = v .before .before .before .before .before .before in
-    let words = s .args .n .«max_variable» + 1 in
+    let words = s .args .counts .«max_variable» + 1 in
     let work = v .validate-parts .last .1 .1 .1 .1 .1 .0 in
     let vals = r .run .last .1 .1 .1 .1 .1 .0 in
     let n : length (vals ++ drop words work) ≡ length (s .args .work .now) =

@@ -13,10 +13,10 @@ store-pair-requires : tie.Need-store-pair-requires
 store-pair-requires c κs = search input-fits
 
 add-store-pair : tie.Need-add-store-pair
-add-store-pair c = let f : 2 * (c .before .before .before .before .before .args .n .inputs + c .before .before .before .before .before .args .index) + 1 < length (c .before .before .before .before .before .args .out .now) = search latch-fits in omega arith
+add-store-pair c = let f : 2 * (c .before .before .before .before .before .args .counts .inputs + c .before .before .before .before .before .args .index) + 1 < length (c .before .before .before .before .before .args .out .now) = search latch-fits in omega arith
 
 mul-store-pair-2 : tie.Need-mul-store-pair-2
-mul-store-pair-2 c = let f : 2 * (c .before .before .before .before .before .args .n .inputs + c .before .before .before .before .before .args .index) + 1 < length (c .before .before .before .before .before .args .out .now) = search latch-fits in omega arith
+mul-store-pair-2 c = let f : 2 * (c .before .before .before .before .before .args .counts .inputs + c .before .before .before .before .before .args .index) + 1 < length (c .before .before .before .before .before .args .out .now) = search latch-fits in omega arith
 
 store-pair-requires-2 : tie.Need-store-pair-requires-2
 store-pair-requires-2 c κs = search latch-fits
