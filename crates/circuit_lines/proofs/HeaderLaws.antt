@@ -19,11 +19,11 @@ use Rattle.text.proofs.LiteralLaws.{numbersFrom}
 use Rattle.circuit_lines.specs.declared.Numbers.{Numbers}
 use Rattle.circuit_lines.specs.SectionLines.{headerNumbers, firstNumbers}
 use Rattle.circuit_lines.specs.Inner.{atMost, Stores}
-use Rattle.circuit_lines.specs.Places.{TakesHeader}
+use Rattle.circuit_lines.specs.Places.{TakesHeaderNumbers}
 use Rattle.text.specs.declared.Field.the-variants as field
 use Rattle.text.specs.declared.Line.the-variants as line
 use Rattle.circuit_lines.specs.declared.Numbers.the-variants as count
-use Rattle.circuit_lines.specs.declared.Header.the-variants as header
+use Rattle.circuit_lines.specs.declared.HeaderCount.the-variants as header
 
 -- ---- header_line
 
@@ -44,18 +44,18 @@ module _ (reader : Reader) (l : Bytes) (o₀ : List ℕ) (f : Field) (q : f ≡ 
     pub after-word : w ≡ true → (o : List ℕ) (r : Numbers) → Stores o₀ o (numbersFrom reader l e) r → Stores o₀ o (headerNumbers reader l) r
     after-word k o r s = rw (by-word true k) s
 
--- ---- take_header
+-- ---- take_header_numbers
 
 module _ (reader : Reader) (s : Bytes) (o₀ : List ℕ) (r : Line) (q : r ≡ lineAt s 0) where
-  pub header-missing : r ≡ line.None → TakesHeader reader s o₀ o₀ header.Refused
+  pub header-missing : r ≡ line.None → TakesHeaderNumbers reader s o₀ o₀ header.Refused
   header-missing k = ap (λ (ls : List Bytes). atMost (length o₀) (firstNumbers reader ls)) (lines-none s 0 r q k)
 
   module _ (a e : ℕ) (n : Cursor) (k : r ≡ line.At a e n) (o : List ℕ) (x : Numbers) (p : Stores o₀ o (headerNumbers reader (part s a e)) x) where
     first : firstNumbers reader (linesOf s) ≡ headerNumbers reader (part s a e)
     first = ap (firstNumbers reader) (lines-some s 0 r q a e n k)
 
-    pub header-bad : x ≡ count.Refused → TakesHeader reader s o₀ o header.Refused
+    pub header-bad : x ≡ count.Refused → TakesHeaderNumbers reader s o₀ o header.Refused
     header-bad u = rw first (rw u at p)
 
-    pub header-got : (m : ℕ) → x ≡ count.Got m → TakesHeader reader s o₀ o (header.Got m n)
+    pub header-got : (m : ℕ) → x ≡ count.Got m → TakesHeaderNumbers reader s o₀ o (header.Got m n)
     header-got m u = record { stored = rw first (rw u at p); rest = ap (drop 1) (lines-some s 0 r q a e n k) }

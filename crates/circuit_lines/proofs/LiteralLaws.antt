@@ -16,7 +16,7 @@ use Rattle.aiger.proofs.SectionLaws.{sectionOf, Storing, storing-none, storing-
 use Rattle.circuit_lines.specs.SectionLines.{literalLine}
 use Rattle.circuit_lines.specs.Places.{linesFrom, Takes}
 use Rattle.text.specs.declared.Literal.the-variants as literal
-use Rattle.circuit_lines.specs.declared.Place.the-variants as place
+use Rattle.circuit_lines.specs.declared.SectionEnd.the-variants as section-end
 
 -- ---- one literal
 
@@ -53,10 +53,10 @@ module _ (reader : Reader) (s : Bytes) (c : Cursor) (o₀ : List ℕ) where
           storing-more (literalLine reader) (length o₀) (linesFrom s c) o₀ o i (linesFrom s p) k (omega (arith, k .grown .same)) h v (linesFrom s n)
           (literal-one reader s p t q v n u)
 
-      pub literals-bad : (n : Cursor) → t ≡ literal.Refused n → Takes (literalLine reader) s c (length o₀) place.Bad o
+      pub literals-bad : (n : Cursor) → t ≡ literal.Refused n → Takes (literalLine reader) s c (length o₀) section-end.Bad o
       literals-bad n u =
           storing-bad (literalLine reader) (length o₀) (linesFrom s c) o₀ o i (linesFrom s p) k (omega (arith, k .grown .same))
           (literal-bad reader s p t q n u)
 
-    pub literals-done : length o ≤ i → Takes (literalLine reader) s c (length o₀) (place.At p) o
+    pub literals-done : length o ≤ i → Takes (literalLine reader) s c (length o₀) (section-end.At p) o
     literals-done h = storing-all (literalLine reader) (length o₀) (linesFrom s c) o₀ o i (linesFrom s p) k refl (omega (arith, k .grown .same))

@@ -4,7 +4,7 @@ ghost use lib.ListN.{length, drop};
 ghost use Rattle.text.specs.Fields.{fieldsOf};
 ghost use Rattle.text.specs.Literals.{numbersOf};
 ghost use Rattle.circuit_lines.specs.SectionLines.{headerNumbers, literalLine, gateLine};
-ghost use Rattle.circuit_lines.specs.Places.{TakesHeader, Takes, TakesGate, TakesPlain};
+ghost use Rattle.circuit_lines.specs.Places.{TakesHeaderNumbers, Takes, TakesGate, TakesPlain};
 ghost use Rattle.circuit_lines.specs.Inner.{Stores, gateAnswer};
 use aiger::Gate;
 use text::Cursor;
@@ -16,7 +16,7 @@ use text::Reader;
 use text::Taken;
 
 // The place after a section, or that a line of it is missing or bad.
-pub enum Place {
+pub enum SectionEnd {
     At(Cursor),
     Bad,
 }
@@ -33,7 +33,7 @@ pub enum Numbers {
 }
 
 // How many numbers the header has, and the place of the lines after it.
-pub enum Header {
+pub enum HeaderCount {
     Got { count: usize, next: Cursor },
     Refused,
 }
@@ -88,16 +88,16 @@ fn header_line(reader: Reader, l: &[u8], out: &mut [u64]) -> Numbers
 }
 
 // The numbers of a text's header, its first line, in front of `out`.
-pub fn take_header(reader: Reader, s: &[u8], out: &mut [u64]) -> Header
-    ensures { λ r. ⌜ TakesHeader reader (now (s .entry)) (now (out .entry)) (now (out .exit)) r ⌝ }
+pub fn take_header_numbers(reader: Reader, s: &[u8], out: &mut [u64]) -> HeaderCount
+    ensures { λ r. ⌜ TakesHeaderNumbers reader (now (s .entry)) (now (out .entry)) (now (out .exit)) r ⌝ }
 {
     let Line::At { start, end, next } = text::next_line(s, Cursor { at: 0 }) else {
-        return Header::Refused;
+        return HeaderCount::Refused;
     };
     let Numbers::Got(count) = header_line(reader, &s[start..end], out) else {
-        return Header::Refused;
+        return HeaderCount::Refused;
     };
-    Header::Got {
+    HeaderCount::Got {
         count: count,
         next: next,
     }
@@ -181,18 +181,18 @@ pub fn take_gate(reader: Reader, s: &[u8], cursor: Cursor) -> TakenGate
 }
 
 // One number from each of the lines from a cursor on, as many as `out` is long.
-pub fn take_literals(reader: Reader, s: &[u8], cursor: Cursor, out: &mut [u64]) -> Place
+pub fn take_literals(reader: Reader, s: &[u8], cursor: Cursor, out: &mut [u64]) -> SectionEnd
     ensures { λ r. ⌜ Takes (literalLine reader) (now (s .entry)) cursor (length (now (out .entry))) r (now (out .exit)) ⌝ }
 {
     let mut p = cursor;
     let mut i = 0;
     while i < out.len() {
         let Literal::Got { value, next } = text::take_literal(reader, s, p) else {
-            return Place::Bad;
+            return SectionEnd::Bad;
         };
         out[i] = value;
         p = next;
         i += 1;
     }
-    Place::At(p)
+    SectionEnd::At(p)
 }

@@ -11,7 +11,7 @@ use Rattle.lists.specs.Words.{wordsOf}
 use Rattle.lists.proofs.PartLaws.{Grown, grown-more, put-length}
 use Rattle.lists.proofs.RestLaws.{take-next}
 use Rattle.lists.proofs.WordLaws.{words-append, words-next}
-use Rattle.cnf.specs.declared.Table.{Table}
+use Rattle.cnf.specs.declared.ClauseCounts.{ClauseCounts}
 use Rattle.cnf.specs.Clauses.{Clause, literalsOf, pairsFrom, returned}
 use Rattle.cnf.specs.Simplified.{simplified}
 use Rattle.cnf.specs.Appending.{Room, Stored, Holding, Appends, Space}
@@ -19,7 +19,7 @@ use Rattle.cnf.proofs.ReturnedLaws.{pairs-length, literals-more, pairs-
 
 -- ---- none, and one after the other
 
-pub appends-none : (at : Table) (pairs words : List ℕ) → Appends [] at pairs words at pairs words
+pub appends-none : (at : ClauseCounts) (pairs words : List ℕ) → Appends [] at pairs words at pairs words
 appends-none at pairs words =
     record {
       holds = λ pairs₀ words₀ cs h. rw (append-nil cs) h;
@@ -27,7 +27,7 @@ appends-none at pairs words =
       literals = omega arith;
     }
 
-module _ (xs ys : List (List ℕ)) (a₁ a₂ a₃ : Table) (p₁ w₁ p₂ w₂ p₃ w₃ : List ℕ) where
+module _ (xs ys : List (List ℕ)) (a₁ a₂ a₃ : ClauseCounts) (p₁ w₁ p₂ w₂ p₃ w₃ : List ℕ) where
   pub appends-then : Appends xs a₁ p₁ w₁ a₂ p₂ w₂ → Appends ys a₂ p₂ w₂ a₃ p₃ w₃ → Appends (xs ++ ys) a₁ p₁ w₁ a₃ p₃ w₃
   appends-then f g =
       record {
@@ -49,7 +49,7 @@ same-words (x ∷ xs) (y ∷ ys) e =
     let t : map simplified xs ≡ map simplified ys = cc in
     rw (h, same-words xs ys t)
 
-module _ (xs ys : List (List ℕ)) (at : Table) (pairs words : List ℕ) (at' : Table) (pairs' words' : List ℕ) where
+module _ (xs ys : List (List ℕ)) (at : ClauseCounts) (pairs words : List ℕ) (at' : ClauseCounts) (pairs' words' : List ℕ) where
   pub appends-same : map simplified xs ≡ map simplified ys → Appends xs at pairs words at' pairs' words' → Appends ys at pairs words at' pairs' words'
   appends-same e g =
       let n : length xs ≡ length ys = sym (length-map xs simplified) ∙ ap length e ∙ length-map ys simplified in
@@ -61,7 +61,7 @@ module _ (xs ys : List (List ℕ)) (at : Table) (pairs words : List ℕ) (at' : 
 
 -- ---- one clause
 
-module _ (ls : List ℕ) (at : Table) (pairs words : List ℕ) where
+module _ (ls : List ℕ) (at : ClauseCounts) (pairs words : List ℕ) where
   pub appends-dropped : simplified ls ≡ [] → Appends (ls ∷ []) at pairs words at pairs words
   appends-dropped e =
       record {
@@ -70,15 +70,15 @@ module _ (ls : List ℕ) (at : Table) (pairs words : List ℕ) where
         literals = omega arith;
       }
 
--- the table with a clause of n words more
-abbrev pub counted : Table → ℕ → Table
+-- the counts with a clause of n words more
+abbrev pub counted : ClauseCounts → ℕ → ClauseCounts
 counted at n = record { clauses = at .clauses + 1; literals = at .literals + n }
 
 -- there is no room for a clause of n words more
-abbrev pub Full : Table → ℕ → List ℕ → List ℕ → Type 0
+abbrev pub Full : ClauseCounts → ℕ → List ℕ → List ℕ → Type 0
 Full at n pairs words = (length pairs < 2 * at .clauses + 2) ⊎ (length words < at .literals + n)
 
-module _ (p₀ w₀ : List ℕ) (cs : List Clause) (at : Table) (pairs words : List ℕ) (h : Holding p₀ w₀ cs at pairs words) (c : Clause) where
+module _ (p₀ w₀ : List ℕ) (cs : List Clause) (at : ClauseCounts) (pairs words : List ℕ) (h : Holding p₀ w₀ cs at pairs words) (c : Clause) where
   more-clauses : length (cs ++ c ∷ []) ≡ length cs + 1
   more-clauses = length-append cs (c ∷ [])
 
@@ -131,7 +131,7 @@ module _ (p₀ w₀ : List ℕ) (cs : List Clause) (at : Table) (pairs words : L
               record { pairsAre = pairs-grown (old .pairsAre); wordsAre = words-grown (old .wordsAre) };
         }
 
-module _ (ls : List ℕ) (c : Clause) (e : simplified ls ≡ c ∷ []) (short : length c ≤ 1024) (at : Table) (pairs words : List ℕ) where
+module _ (ls : List ℕ) (c : Clause) (e : simplified ls ≡ c ∷ []) (short : length c ≤ 1024) (at : ClauseCounts) (pairs words : List ℕ) where
   pub appends-full : Full at (length c) pairs words → Appends (ls ∷ []) at pairs words (counted at (length c)) pairs words
   appends-full f =
       record {
@@ -151,13 +151,13 @@ module _ (ls : List ℕ) (c : Clause) (e : simplified ls ≡ c ∷ []) (short : 
 
 -- ---- loops: the lists of the first i items were appended
 
-module _ {A : Type 0} (f : A → List (List ℕ)) (items : List A) (i : ℕ) (a₁ a₂ a₃ : Table) (p₁ w₁ p₂ w₂ p₃ w₃ : List ℕ) where
+module _ {A : Type 0} (f : A → List (List ℕ)) (items : List A) (i : ℕ) (a₁ a₂ a₃ : ClauseCounts) (p₁ w₁ p₂ w₂ p₃ w₃ : List ℕ) where
   pub appends-item : (d : A) → i < length items → Appends (wordsOf f (take i items)) a₁ p₁ w₁ a₂ p₂ w₂
       → Appends (f (getD items i d)) a₂ p₂ w₂ a₃ p₃ w₃ → Appends (wordsOf f (take (i + 1) items)) a₁ p₁ w₁ a₃ p₃ w₃
   appends-item d h g k =
       rw (words-next f items i d h) (appends-then (wordsOf f (take i items)) (f (getD items i d)) a₁ a₂ a₃ p₁ w₁ p₂ w₂ p₃ w₃ g k)
 
-module _ (lists : List (List ℕ)) (i : ℕ) (a₁ a₂ a₃ : Table) (p₁ w₁ p₂ w₂ p₃ w₃ : List ℕ) where
+module _ (lists : List (List ℕ)) (i : ℕ) (a₁ a₂ a₃ : ClauseCounts) (p₁ w₁ p₂ w₂ p₃ w₃ : List ℕ) where
   pub appends-next : (d : List ℕ) → i < length lists → Appends (take i lists) a₁ p₁ w₁ a₂ p₂ w₂
       → Appends (getD lists i d ∷ []) a₂ p₂ w₂ a₃ p₃ w₃ → Appends (take (i + 1) lists) a₁ p₁ w₁ a₃ p₃ w₃
   appends-next d h g k = rw (take-next lists i d h) (appends-then (take i lists) (getD lists i d ∷ []) a₁ a₂ a₃ p₁ w₁ p₂ w₂ p₃ w₃ g k)
@@ -165,22 +165,22 @@ module _ (lists : List (List ℕ)) (i : ℕ) (a₁ a₂ a₃ : Table) (p₁ w₁
   pub appends-end : length lists ≤ i → Appends (take i lists) a₁ p₁ w₁ a₂ p₂ w₂ → Appends lists a₁ p₁ w₁ a₂ p₂ w₂
   appends-end h g = rw (take-all i lists h) at g
 
--- ---- from an empty table on
+-- ---- from the first clause on
 
-abbrev pub empty : Table
+abbrev pub empty : ClauseCounts
 empty = record { clauses = 0; literals = 0 }
 
 pub holding-none : (pairs words : List ℕ) → Holding pairs words [] empty pairs words
 holding-none pairs words =
     record { clauses = refl; literals = refl; samePairs = refl; sameWords = refl; stored = λ r. record { pairsAre = refl; wordsAre = refl } }
 
-module _ (lists : List (List ℕ)) (pairs words : List ℕ) (at : Table) (pairs' words' : List ℕ) where
+module _ (lists : List (List ℕ)) (pairs words : List ℕ) (at : ClauseCounts) (pairs' words' : List ℕ) where
   pub appends-start : Appends lists empty pairs words at pairs' words' → Holding pairs words (wordsOf simplified lists) at pairs' words'
   appends-start g = g .holds pairs words [] (holding-none pairs words)
 
--- ---- what a caller has: the table tells whether there is room, and then the clauses stand in the buffers
+-- ---- what a caller has: the counts tell whether there is room, and then the clauses stand in the buffers
 
-module _ (cs : List Clause) (pairs words : List ℕ) (at : Table) (pairs' words' : List ℕ) (h : Holding pairs words cs at pairs' words') where
+module _ (cs : List Clause) (pairs words : List ℕ) (at : ClauseCounts) (pairs' words' : List ℕ) (h : Holding pairs words cs at pairs' words') where
   pub holding-room : 2 * at .clauses ≤ length pairs → at .literals ≤ length words → Room cs pairs words
   holding-room k m = record { pairsFit = omega (arith, h .clauses); wordsFit = omega (arith, h .literals) }
 
@@ -201,15 +201,15 @@ module _ (cs : List Clause) (pairs words : List ℕ) (at : Table) (pairs' words'
     pub holding-returned : returned (at .clauses) pairs' words' ≡ cs
     holding-returned = rw (h .clauses, holding-pairs, holding-words) (returned-back cs pairs words)
 
--- ---- the space that the table needs for counting
+-- ---- the space that counting needs
 
-pub space-less : (at : Table) (m n : ℕ) → m ≤ n → Space at n → Space at m
+pub space-less : (at : ClauseCounts) (m n : ℕ) → m ≤ n → Space at n → Space at m
 space-less at m n h s = record { clauses = omega (arith, s .clauses); literals = omega (arith, s .literals) }
 
 pub space-empty : (n : ℕ) → n ≤ 2 ^ 40 → Space empty n
 space-empty n h = record { clauses = omega arith; literals = omega arith }
 
-module _ (lists : List (List ℕ)) (at : Table) (pairs words : List ℕ) (at' : Table) (pairs' words' : List ℕ) (g : Appends lists at pairs words at' pairs' words') where
+module _ (lists : List (List ℕ)) (at : ClauseCounts) (pairs words : List ℕ) (at' : ClauseCounts) (pairs' words' : List ℕ) (g : Appends lists at pairs words at' pairs' words') where
   pub space-after : (n : ℕ) → Space at (length lists + n) → Space at' n
   space-after n s = record { clauses = omega (arith, s .clauses, g .clauses); literals = omega (arith, s .literals, g .literals) }
 
@@ -218,7 +218,7 @@ module _ (lists : List (List ℕ)) (at : Table) (pairs words : List ℕ) (at' : 
   space-left m n h s = space-after m (space-less at (length lists + m) n h s)
 
 -- in a loop over lists, one clause more
-pub space-next : (lists : List (List ℕ)) (i : ℕ) (at : Table) (pairs words : List ℕ) (at' : Table) (pairs' words' : List ℕ)
+pub space-next : (lists : List (List ℕ)) (i : ℕ) (at : ClauseCounts) (pairs words : List ℕ) (at' : ClauseCounts) (pairs' words' : List ℕ)
     → i < length lists → Appends (take i lists) at pairs words at' pairs' words' → Space at (length lists) → Space at' 1
 space-next lists i at pairs words at' pairs' words' h g s =
     space-left (take i lists) at pairs words at' pairs' words' g 1 (length lists) (rw (length-take-le i lists (omega arith)) (omega arith)) s

@@ -10,7 +10,7 @@ use lib.ListN.{length, set}
 use Rattle.lists.specs.Parts.{put}
 use Rattle.lists.proofs.BoolLaws.{true-false}
 use Rattle.lists.proofs.PartLaws.{put-none, put-one, put-two, put-three}
-use Rattle.cnf.specs.declared.Table.{Table}
+use Rattle.cnf.specs.declared.ClauseCounts.{ClauseCounts}
 use Rattle.cnf.specs.Clauses.{Clause}
 use Rattle.cnf.specs.Simplified.{cnfWord, simplified}
 use Rattle.cnf.specs.Appending.{Appends, Pushes, Opens}
@@ -22,7 +22,7 @@ word-narrow l h k = omega (arith, word-number l h)
 
 -- ---- the pair
 
-module _ (at : Table) (n : ℕ) (pairs : List ℕ) (room : ℕ) where
+module _ (at : ClauseCounts) (n : ℕ) (pairs : List ℕ) (room : ℕ) where
   pub opens-full-pairs : length pairs < 2 * at .clauses + 2 → Opens at n pairs room false pairs
   opens-full-pairs h = record { whenOpen = λ e. true-false e refl; whenFull = λ e. (inl h, refl) }
 
@@ -39,14 +39,14 @@ module _ (at : Table) (n : ℕ) (pairs : List ℕ) (room : ℕ) where
 
 -- ---- the words
 
-module _ (c : Clause) (short : length c ≤ 1024) (at : Table) (pairs words : List ℕ) (r : Bool) (pairs' : List ℕ) (o : Opens at (length c) pairs (length words) r pairs') where
+module _ (c : Clause) (short : length c ≤ 1024) (at : ClauseCounts) (pairs words : List ℕ) (r : Bool) (pairs' : List ℕ) (o : Opens at (length c) pairs (length words) r pairs') where
   pub pushes-full : r ≡ false → Pushes c at pairs words (counted at (length c)) pairs' words
   pushes-full h ls e = let f = o .whenFull h in rw (f .1) (appends-full ls c e short at pairs words (f .0))
 
   pub pushes-stored : r ≡ true → (words' : List ℕ) → words' ≡ put words (at .literals) c → Pushes c at pairs words (counted at (length c)) pairs' words'
   pushes-stored h words' w ls e = let f = o .whenOpen h in rw (f .2, w) (appends-stored ls c e short at pairs words (f .0) (f .1))
 
-module _ (at : Table) (pairs words : List ℕ) (r : Bool) (pairs' : List ℕ) (o : Opens at 0 pairs (length words) r pairs') where
+module _ (at : ClauseCounts) (pairs words : List ℕ) (r : Bool) (pairs' : List ℕ) (o : Opens at 0 pairs (length words) r pairs') where
   pub pushes-none : (b : Bool) → r ≡ b → Pushes [] at pairs words (record { clauses = at .clauses + 1; literals = at .literals }) pairs' words
   pushes-none true h ls e =
       rw add-zero at (pushes-stored [] (omega arith) at pairs words r pairs' o h words (sym (put-none words (at .literals))) ls e)
@@ -54,7 +54,7 @@ module _ (at : Table) (pairs words : List ℕ) (r : Bool) (pairs' : List ℕ) (o
 
 -- ---- a clause with other literals that becomes the same
 
-module _ (ls ms : List ℕ) (same : simplified ls ≡ simplified ms) (at : Table) (pairs words : List ℕ) (at' : Table) (pairs' words' : List ℕ) where
+module _ (ls ms : List ℕ) (same : simplified ls ≡ simplified ms) (at : ClauseCounts) (pairs words : List ℕ) (at' : ClauseCounts) (pairs' words' : List ℕ) where
   pub appends-same : Appends (ms ∷ []) at pairs words at' pairs' words' → Appends (ls ∷ []) at pairs words at' pairs' words'
   appends-same g =
       record {
@@ -68,7 +68,7 @@ module _ (ls ms : List ℕ) (same : simplified ls ≡ simplified ms) (at : Table
 pub word-fits : (r l : ℕ) → r ≡ cnfWord l → 2 ≤ l → l < 2 ^ 32 → r < 2 ^ 32
 word-fits r l e h k = rw e (word-narrow l h k)
 
-module _ (at : Table) (pairs words : List ℕ) (r : Bool) (pairs' : List ℕ) (h : r ≡ true) where
+module _ (at : ClauseCounts) (pairs words : List ℕ) (r : Bool) (pairs' : List ℕ) (h : r ≡ true) where
   pub pushes-one : Opens at 1 pairs (length words) r pairs' → (a x : ℕ) → x ≡ cnfWord a
       → Pushes (cnfWord a ∷ []) at pairs words (counted at 1) pairs' (set words (at .literals) x)
   pushes-one o a x e =

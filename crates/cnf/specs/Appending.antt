@@ -1,4 +1,4 @@
--- For the contracts of the functions that append clauses to a table in two lent buffers.
+-- For the contracts of the functions that append clauses in two lent buffers.
 use Prim.Native.Nat.{ℕ, _+_, _*_, _≤_, _<_, _^_}
 use mathlib.Core.Bool.{Bool, false, true}
 use mathlib.Core.Logic.{_⊎_}
@@ -11,7 +11,7 @@ use Rattle.lists.specs.Tests.{Each}
 use Rattle.lists.specs.Words.{wordsOf}
 use Rattle.cnf.specs.declared.Simple.{Simple}
 use Rattle.cnf.specs.declared.Simple.the-variants.{Dropped, Kept}
-use Rattle.cnf.specs.declared.Table.{Table}
+use Rattle.cnf.specs.declared.ClauseCounts.{ClauseCounts}
 use Rattle.cnf.specs.Clauses.{Clause, literalsOf, pairsFrom}
 use Rattle.cnf.specs.Simplified.{cnfWord, withoutFalse, bothSigns, simplified}
 
@@ -25,8 +25,8 @@ pub record Stored (cs : List Clause) (pairs₀ words₀ pairs words : List ℕ) 
   pub pairsAre : pairs ≡ front pairs₀ (pairsFrom 0 cs)
   pub wordsAre : words ≡ front words₀ (literalsOf cs)
 
--- the table counts the clauses so far, and they stand in the buffers where there is room for all of them
-pub record Holding (pairs₀ words₀ : List ℕ) (cs : List Clause) (at : Table) (pairs words : List ℕ) : Type 0 where
+-- the clauses so far are counted, and they stand in the buffers where there is room for all of them
+pub record Holding (pairs₀ words₀ : List ℕ) (cs : List Clause) (at : ClauseCounts) (pairs words : List ℕ) : Type 0 where
   pub clauses : at .clauses ≡ length cs
   pub literals : at .literals ≡ length (literalsOf cs)
   pub samePairs : length pairs ≡ length pairs₀
@@ -34,13 +34,13 @@ pub record Holding (pairs₀ words₀ : List ℕ) (cs : List Clause) (at : Table
   pub stored : Room cs pairs₀ words₀ → Stored cs pairs₀ words₀ pairs words
 
 -- the clauses of these lists of literals were appended, whatever stood there before
-pub record Appends (lists : List (List ℕ)) (at : Table) (pairs words : List ℕ) (at' : Table) (pairs' words' : List ℕ) : Type 0 where
+pub record Appends (lists : List (List ℕ)) (at : ClauseCounts) (pairs words : List ℕ) (at' : ClauseCounts) (pairs' words' : List ℕ) : Type 0 where
   pub holds : (pairs₀ words₀ : List ℕ) (cs : List Clause) → Holding pairs₀ words₀ cs at pairs words → Holding pairs₀ words₀ (cs ++ wordsOf simplified lists) at' pairs' words'
   pub clauses : at' .clauses ≤ at .clauses + length lists
   pub literals : at' .literals ≤ at .literals + 1024 * length lists
 
--- the table can count so many clauses more
-pub record Space (at : Table) (n : ℕ) : Type 0 where
+-- so many clauses more can be counted
+pub record Space (at : ClauseCounts) (n : ℕ) : Type 0 where
   pub clauses : at .clauses + n ≤ 2 ^ 40
   pub literals : at .literals + 1024 * n ≤ 2 ^ 60
 
@@ -66,11 +66,11 @@ pub record Simplifies (words : List ℕ) (r : Simple) (list : List ℕ) : Type 0
   pub whenKept : (k : ℕ) → r ≡ Kept k → KeptAs words k list
 
 -- the clause was appended, whatever literals it is the clause of
-abbrev pub Pushes : Clause → Table → List ℕ → List ℕ → Table → List ℕ → List ℕ → Type 0
+abbrev pub Pushes : Clause → ClauseCounts → List ℕ → List ℕ → ClauseCounts → List ℕ → List ℕ → Type 0
 Pushes c at pairs words at' pairs' words' = (ls : List ℕ) → simplified ls ≡ c ∷ [] → Appends (ls ∷ []) at pairs words at' pairs' words'
 
 -- the clause of the literals whose words filled the list was appended, whatever they are
-abbrev pub PushesFilled : List ℕ → ℕ → Table → List ℕ → List ℕ → Table → List ℕ → List ℕ → Type 0
+abbrev pub PushesFilled : List ℕ → ℕ → ClauseCounts → List ℕ → List ℕ → ClauseCounts → List ℕ → List ℕ → Type 0
 PushesFilled list n at pairs words at' pairs' words' = (ls : List ℕ) → Filled ls list n → Appends (ls ∷ []) at pairs words at' pairs' words'
 
 -- the words have 32 bits
@@ -78,6 +78,6 @@ abbrev pub NarrowWords : List ℕ → Type 0
 NarrowWords ws = Each (λ w. w < 2 ^ 32) ws
 
 -- the pair of a clause of n words was written, where there is room for it and, in a buffer of `room` words, for the clause's
-pub record Opens (at : Table) (n : ℕ) (pairs : List ℕ) (room : ℕ) (r : Bool) (pairs' : List ℕ) : Type 0 where
+pub record Opens (at : ClauseCounts) (n : ℕ) (pairs : List ℕ) (room : ℕ) (r : Bool) (pairs' : List ℕ) : Type 0 where
   pub whenOpen : r ≡ true → (2 * at .clauses + 2 ≤ length pairs) × (at .literals + n ≤ room) × (pairs' ≡ put pairs (2 * at .clauses) (at .literals ∷ n ∷ []))
   pub whenFull : r ≡ false → ((length pairs < 2 * at .clauses + 2) ⊎ (room < at .literals + n)) × (pairs' ≡ pairs)

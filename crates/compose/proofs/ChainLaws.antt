@@ -21,7 +21,7 @@ use Rattle.compose_gather.specs.declared.Checked.{Checked}
 use Rattle.compose_gather.specs.declared.Checked.the-variants as checked
 use Rattle.compose_gather.specs.Counts.{CountsListed, ChecksAll}
 use Rattle.compose_gather.specs.Checking.{addedCounts, SmallSums, totalsFrom, checkedFrom, noneYet}
-use Rattle.compose_layout.specs.declared.Places.{Places}
+use Rattle.compose_layout.specs.declared.Layout.{Layout}
 use Rattle.compose_layout.specs.declared.Laid.{Laid}
 use Rattle.compose_layout.specs.declared.Laid.the-variants as laid
 use Rattle.compose_layout.specs.Laid.{Fitting, LaidOut, CanLay, Lays}
@@ -48,7 +48,7 @@ module _ (mc : AagCounts) (t : Totals) (buffer : Bytes) (pairs work work' : List
   pub fitting-wrong : x ≡ laid.Wrong → ComposesFitting mc t buffer pairs work out out (composed.Refused 16)
   fitting-wrong e = record { each = λ m ws f. refuses out (composeSections (length out) m ws) 16 (wrong-literal (length out) m ws (subst (LaidOut buffer pairs m ws work') e (l m ws f))) }
 
-  module _ (at : Places) (e : x ≡ laid.At at) where
+  module _ (at : Layout) (e : x ≡ laid.At at) where
     right : (m : Sections) (ws : List Sections) → Fitting mc t buffer pairs work m ws → LaidRight mc t buffer pairs work' at m ws
     right m ws f =
         let o : LaidOut buffer pairs m ws work' (laid.At at) = subst (LaidOut buffer pairs m ws work') e (l m ws f) in

@@ -20,7 +20,7 @@ use Rattle.compose_joint.proofs.AmountLaws.{leaf-count-most}
 use Rattle.compose_joint.proofs.GateLaws.{composed-gates-most}
 use Rattle.compose_gather.specs.declared.Totals.{Totals}
 use Rattle.compose_gather.specs.Checking.{FewInOrder}
-use Rattle.compose_layout.specs.declared.Places.{Places}
+use Rattle.compose_layout.specs.declared.Layout.{Layout}
 use Rattle.compose_layout.specs.Laid.{Some}
 use Rattle.compose_merge.specs.declared.Merged.{Merged}
 use Rattle.compose_merge.specs.declared.Merging.{Merging}
@@ -34,7 +34,7 @@ use Rattle.compose.specs.declared.Composed.the-variants as composed
 use Rattle.compose.specs.Steps.{Answers, TestsSafety, allSafe, Measures, Writes, LaidRight, LaidSome, ComposesLaid}
 use Rattle.compose.proofs.ChainLaws.{refuses, answers-same}
 
-module _ (buffer : Bytes) (pairs work : List ℕ) (at : Places) (c : Merged) (t : Totals) where
+module _ (buffer : Bytes) (pairs work : List ℕ) (at : Layout) (c : Merged) (t : Totals) where
   -- the whole text is printed
   whole-text : (o : Bytes) (from : ℕ) (o' : Bytes) (r : ℕ) → PrintsText fromHeader buffer pairs work at c t o from o' r → (m : Sections) (ws : List Sections)
       → Printable buffer pairs work at c t m ws → Prints o from (printed (composed m ws)) o' r
@@ -80,7 +80,7 @@ module _ (buffer : Bytes) (pairs work : List ℕ) (at : Places) (c : Merged) (t 
 
 -- ---- merging and 19
 
-module _ (mc : AagCounts) (t : Totals) (buffer : Bytes) (pairs work : List ℕ) (at : Places) where
+module _ (mc : AagCounts) (t : Totals) (buffer : Bytes) (pairs work : List ℕ) (at : Layout) where
   pub laid-can : LaidSome mc t buffer pairs work at → Some (Mergeable mc t at work)
   laid-can k = ready-can mc t buffer pairs work work (k .m) (k .ws) at (k .holds .fitting) (k .holds .ready)
 

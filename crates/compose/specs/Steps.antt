@@ -17,7 +17,7 @@ use Rattle.compose_spec.specs.Calling.{readAll, composeSections, textsIn, compo
 use Rattle.compose_gather.specs.declared.Totals.{Totals}
 use Rattle.compose_gather.specs.Checking.{FewInOrder}
 use Rattle.compose_gather.specs.Gathered.{Readable}
-use Rattle.compose_layout.specs.declared.Places.{Places}
+use Rattle.compose_layout.specs.declared.Layout.{Layout}
 use Rattle.compose_layout.specs.Laid.{Fitting, Ready, Some}
 use Rattle.text_print.specs.Prints.{capped}
 use Rattle.compose_merge.specs.declared.Merged.{Merged}
@@ -72,23 +72,23 @@ pub record ComposesFitting (mc : AagCounts) (t : Totals) (buffer : Bytes) (pairs
   pub each : (m : Sections) (ws : List Sections) → Fitting mc t buffer pairs work m ws → Answers out (composeSections (length out) m ws) out' r
 
 -- all is laid out, and 16 does not apply
-pub record LaidRight (mc : AagCounts) (t : Totals) (buffer : Bytes) (pairs work : List ℕ) (at : Places) (m : Sections) (ws : List Sections) : Type 0 where
+pub record LaidRight (mc : AagCounts) (t : Totals) (buffer : Bytes) (pairs work : List ℕ) (at : Layout) (m : Sections) (ws : List Sections) : Type 0 where
   pub fitting : Fitting mc t buffer pairs work m ws
   pub right : all (mapsRight m) ws ≡ true
   pub ready : Ready buffer pairs m ws at work
 
-abbrev pub LaidSome : AagCounts → Totals → Bytes → List ℕ → List ℕ → Places → Type 0
+abbrev pub LaidSome : AagCounts → Totals → Bytes → List ℕ → List ℕ → Layout → Type 0
 LaidSome mc t buffer pairs work at = Some (LaidRight mc t buffer pairs work at)
 
 -- the length of the text is counted, and nothing is written
-pub record Measures (buffer : Bytes) (pairs work : List ℕ) (at : Places) (c : Merged) (t : Totals) (out out' : Bytes) (r : ℕ) : Type 0 where
+pub record Measures (buffer : Bytes) (pairs work : List ℕ) (at : Layout) (c : Merged) (t : Totals) (out out' : Bytes) (r : ℕ) : Type 0 where
   pub same : out' ≡ out
   pub size : (m : Sections) (ws : List Sections) → Printable buffer pairs work at c t m ws → r ≡ capped (length (printed (composed m ws)))
 
 -- 20 of a composition that is merged
-pub record Writes (buffer : Bytes) (pairs work : List ℕ) (at : Places) (c : Merged) (t : Totals) (out out' : Bytes) (r : Composed) : Type 0 where
+pub record Writes (buffer : Bytes) (pairs work : List ℕ) (at : Layout) (c : Merged) (t : Totals) (out out' : Bytes) (r : Composed) : Type 0 where
   pub each : (m : Sections) (ws : List Sections) → Printable buffer pairs work at c t m ws → Answers out (printedWithin (length out) (composed m ws)) out' r
 
 -- 17 to 20
-pub record ComposesLaid (mc : AagCounts) (t : Totals) (buffer : Bytes) (pairs work : List ℕ) (at : Places) (out out' : Bytes) (r : Composed) : Type 0 where
+pub record ComposesLaid (mc : AagCounts) (t : Totals) (buffer : Bytes) (pairs work : List ℕ) (at : Layout) (out out' : Bytes) (r : Composed) : Type 0 where
   pub each : (m : Sections) (ws : List Sections) → LaidRight mc t buffer pairs work at m ws → Answers out (composeSections (length out) m ws) out' r

@@ -13,7 +13,7 @@ ghost use Rattle.compose.specs.Steps.{partEnd, firstRoom, TestsSafety, r
 use compose_gather::Checked;
 use compose_gather::Totals;
 use compose_layout::Laid;
-use compose_layout::Places;
+use compose_layout::Layout;
 use compose_merge::Merged;
 use compose_merge::Merging;
 use witness_read::ReadAag;
@@ -112,7 +112,7 @@ fn measure(
     pairs: &[u64],
     counts: &[u64],
     work: &[u64],
-    at: Places,
+    at: Layout,
     merged: Merged,
     totals: Totals,
     out: &mut [u8],
@@ -121,7 +121,16 @@ fn measure(
     requires { ⌜ CountsListed (now witnesses) (now pairs) (now counts) ⌝ }
     ensures { λ r. ⌜ Measures (now (witnesses .entry)) (now (pairs .entry)) (now (work .entry)) at merged totals (now (out .entry)) (now (out .exit)) r ⌝ }
 {
-    compose_print::print_composition(&mut out[..0], witnesses, pairs, counts, work, at, merged, totals)
+    compose_print::print_composition(
+        &mut out[..0],
+        witnesses,
+        pairs,
+        counts,
+        work,
+        at,
+        merged,
+        totals,
+    )
 }
 
 // The text of a merged composition, where it fits.
@@ -130,7 +139,7 @@ fn write_merged(
     pairs: &[u64],
     counts: &[u64],
     work: &[u64],
-    at: Places,
+    at: Layout,
     merged: Merged,
     totals: Totals,
     out: &mut [u8],
@@ -143,7 +152,16 @@ fn write_merged(
     if out.len() < size {
         return Composed::Refused(20);
     }
-    let end = compose_print::print_composition(out, witnesses, pairs, counts, work, at, merged, totals);
+    let end = compose_print::print_composition(
+        out,
+        witnesses,
+        pairs,
+        counts,
+        work,
+        at,
+        merged,
+        totals,
+    );
     Composed::Got(end)
 }
 
@@ -155,7 +173,7 @@ fn compose_laid(
     work: &mut [u64],
     model_counts: AagCounts,
     totals: Totals,
-    at: Places,
+    at: Layout,
     out: &mut [u8],
 ) -> Composed
     requires { ⌜ LaidSome «model_counts» totals (now witnesses) (now pairs) (now work) at ⌝ }
@@ -191,7 +209,16 @@ fn compose_fitting(
     let laid = compose_layout::lay(witnesses, pairs, counts, work, model_counts, totals);
     match laid {
         Laid::Wrong => Composed::Refused(16),
-        Laid::At(at) => compose_laid(witnesses, pairs, counts, work, model_counts, totals, at, out),
+        Laid::At(at) => compose_laid(
+            witnesses,
+            pairs,
+            counts,
+            work,
+            model_counts,
+            totals,
+            at,
+            out,
+        ),
     }
 }
 

@@ -130,7 +130,12 @@ pub fn word_count(counts: AagCounts) -> usize
     requires { ⌜ wordsFor counts < 18446744073709551616 ⌝ }
     ensures { λ r. ⌜ r ≡ wordsFor counts ⌝ }
 {
-    2 * counts.inputs + 4 * counts.latches + counts.outputs + counts.bads + counts.constraints + 2 * counts.gates
+    2 * counts.inputs
+        + 4 * counts.latches
+        + counts.outputs
+        + counts.bads
+        + counts.constraints
+        + 2 * counts.gates
 }
 
 // The place behind the words of a text; they end at another place or before it.

@@ -1,4 +1,4 @@
--- The numbers that the origin words get, with a table of the model's literals, are those of their entries at first appearance.
+-- The numbers that the origin words get, with the numbers assigned to the model's literals, are those of their entries at first appearance.
 use Prim.Native.Nat.{ℕ, suc, _+_, _*_, _/_, _%_, _<_}
 use mathlib.Core.Bool.{Bool, true, false, cond, or-false}
 use mathlib.Core.List.{List, [], _∷_, _++_, map}
@@ -38,7 +38,7 @@ abbrev entryFor : ℕ → Entry
 entryFor l = record { key = shared l; name = [] }
 
 module _ (n : ℕ) where
-  -- the word of an entry in the table: its number, or 0 where it was not seen
+  -- the word of an entry in the assigned numbers: its number, or 0 where it was not seen
   abbrev wordOf : List Entry → Entry → ℕ
   wordOf seen e = cond (any (sameEntry e) seen) (n + place sameEntry e seen) 0
 
@@ -79,17 +79,17 @@ module _ (n : ℕ) where
 
 -- a number is never 0
 module _ (n : ℕ) (some : 0 < n) (p : ModelLeaves) where
-  -- each word of the table is that of its literal
-  abbrev Table : List Entry → List ℕ → Type 0
-  Table seen table = (j : ℕ) → j < length table → getD table j 0 ≡ wordOf n seen (entryFor (2 * suc (p .before + j)))
+  -- each word of the assigned numbers is that of its literal
+  abbrev Assigned : List Entry → List ℕ → Type 0
+  Assigned seen assigned = (j : ℕ) → j < length assigned → getD assigned j 0 ≡ wordOf n seen (entryFor (2 * suc (p .before + j)))
 
-  -- the words behind those seen are numbered, whatever the table is
+  -- the words behind those seen are numbered, whatever the assigned numbers is
   abbrev Rest : List Entry → List ℕ → List Entry → Type 0
   Rest seen xs es =
-      (table : List ℕ) → length table ≡ p .count → Table seen table
-      → Numbered n (appearing sameEntry seen es) es (numberAll (p .before) (n + length seen) xs table)
+      (assigned : List ℕ) → length assigned ≡ p .count → Assigned seen assigned
+      → Numbered n (appearing sameEntry seen es) es (numberAll (p .before) (n + length seen) xs assigned)
 
-  module _ (e : Entry) (seen : List Entry) (x : ℕ) (xs : List ℕ) (es : List Entry) (rest : Rest (joined sameEntry e seen) xs es) (table : List ℕ) (long : length table ≡ p .count) (t : Table seen table) where
+  module _ (e : Entry) (seen : List Entry) (x : ℕ) (xs : List ℕ) (es : List Entry) (rest : Rest (joined sameEntry e seen) xs es) (assigned : List ℕ) (long : length assigned ≡ p .count) (t : Assigned seen assigned) where
     -- the first appearances in the end
     abbrev firsts : List Entry
     firsts = appearing sameEntry (joined sameEntry e seen) es
@@ -99,7 +99,7 @@ module _ (n : ℕ) (some : 0 < n) (p : ModelLeaves) where
     next = n + length seen
 
     -- a new entry has the next number
-    with-new : any (sameEntry e) seen ≡ false → (after : List ℕ) → length after ≡ p .count → Table (joined sameEntry e seen) after
+    with-new : any (sameEntry e) seen ≡ false → (after : List ℕ) → length after ≡ p .count → Assigned (joined sameEntry e seen) after
         → Numbered n firsts (e ∷ es) (withNumber next (numberAll (p .before) (suc next) xs after))
     with-new f after l u =
         one-more n e seen es next (numberAll (p .before) (suc next) xs after) (ap (λ (k : ℕ). n + k) (sym (place-outside sameEntry e seen f)))
@@ -107,83 +107,83 @@ module _ (n : ℕ) (some : 0 < n) (p : ModelLeaves) where
 
     -- a private entry
     number-alone : (w k : ℕ) → e .key ≡ alone w k → odd x ≡ true → any (sameEntry e) seen ≡ false
-        → Numbered n firsts (e ∷ es) (numberAll (p .before) next (x ∷ xs) table)
+        → Numbered n firsts (e ∷ es) (numberAll (p .before) next (x ∷ xs) assigned)
     number-alone w k is o f =
-        rw o (with-new f table long (λ j h. t j h ∙ sym (word-other n seen e (entryFor (2 * suc (p .before + j))) (ap (sameKey (shared (2 * suc (p .before + j)))) is))))
+        rw o (with-new f assigned long (λ j h. t j h ∙ sym (word-other n seen e (entryFor (2 * suc (p .before + j))) (ap (sameKey (shared (2 * suc (p .before + j)))) is))))
 
     module _ (is : e .key ≡ shared x) (o : odd x ≡ false) (within : OfKind p x) where
-      -- the word's place in the table
+      -- the word's place in the assigned numbers
       abbrev at : ℕ
       at = slot (p .before) x
 
-      -- the literal of the word's place in the table
+      -- the literal of the word's place in the assigned numbers
       literal-at : x ≡ 2 * suc (p .before + at)
       literal-at =
           let e′ : x % 2 ≡ 1 → ⊥ = eqb-false (x % 2) 1 o in
           let above : p .before < x / 2 = within .above in
           omega arith
 
-      -- it is in the table
-      inside : at < length table
+      -- it is in the assigned numbers
+      inside : at < length assigned
       inside = rw long (within .slot)
 
       -- the entry is that of the literal
       same-entry : sameEntry e (entryFor (2 * suc (p .before + at))) ≡ true
       same-entry = ap (λ (k : Key). sameKey k (shared (2 * suc (p .before + at)))) is ∙ eq-eqb x (2 * suc (p .before + at)) literal-at
 
-      -- the table has its word
-      word-here : getD table at 0 ≡ wordOf n seen e
+      -- the assigned numbers has its word
+      word-here : getD assigned at 0 ≡ wordOf n seen e
       word-here = t at inside ∙ sym (word-alike n seen e (entryFor (2 * suc (p .before + at))) same-entry)
 
-      -- one that was seen has the number in the table
-      number-seen : any (sameEntry e) seen ≡ true → Numbered n firsts (e ∷ es) (numberAll (p .before) next (x ∷ xs) table)
+      -- one that was seen has the number in the assigned numbers
+      number-seen : any (sameEntry e) seen ≡ true → Numbered n firsts (e ∷ es) (numberAll (p .before) next (x ∷ xs) assigned)
       number-seen f =
-          let is-number : getD table at 0 ≡ n + place sameEntry e seen = word-here ∙ rw f refl in
-          let found : eqb (getD table at 0) 0 ≡ false = ne-eqb (getD table at 0) 0 (λ z. omega arith) in
+          let is-number : getD assigned at 0 ≡ n + place sameEntry e seen = word-here ∙ rw f refl in
+          let found : eqb (getD assigned at 0) 0 ≡ false = ne-eqb (getD assigned at 0) 0 (λ z. omega arith) in
           let kept : joined sameEntry e seen ≡ seen = joined-has sameEntry e seen f in
           rw (o, found)
-          (one-more n e seen es (getD table at 0) (numberAll (p .before) next xs table) is-number
-          (subst (λ (a : ℕ). Numbered n firsts es (numberAll (p .before) a xs table)) (ap (λ (l : List Entry). n + length l) kept)
-          (rest table long (subst (λ (l : List Entry). Table l table) (sym kept) t))))
+          (one-more n e seen es (getD assigned at 0) (numberAll (p .before) next xs assigned) is-number
+          (subst (λ (a : ℕ). Numbered n firsts es (numberAll (p .before) a xs assigned)) (ap (λ (l : List Entry). n + length l) kept)
+          (rest assigned long (subst (λ (l : List Entry). Assigned l assigned) (sym kept) t))))
 
-      -- the table with the next number at its place
-      table-set : any (sameEntry e) seen ≡ false → Table (joined sameEntry e seen) (set table at next)
-      table-set f j h = go (eqb j at) refl
+      -- the assigned numbers with the next number at its place
+      assigned-set : any (sameEntry e) seen ≡ false → Assigned (joined sameEntry e seen) (set assigned at next)
+      assigned-set f j h = go (eqb j at) refl
         where
-          go : (q : Bool) → eqb j at ≡ q → getD (set table at next) j 0 ≡ wordOf n (joined sameEntry e seen) (entryFor (2 * suc (p .before + j)))
+          go : (q : Bool) → eqb j at ≡ q → getD (set assigned at next) j 0 ≡ wordOf n (joined sameEntry e seen) (entryFor (2 * suc (p .before + j)))
           go true g =
-              subst (λ (i : ℕ). getD (set table at next) i 0 ≡ wordOf n (joined sameEntry e seen) (entryFor (2 * suc (p .before + i)))) (sym (eqb-true j at g))
-              (getD-set-same table at next 0 inside ∙ ap (λ (k : ℕ). n + k) (sym (place-outside sameEntry e seen f)) ∙ sym (word-joined n seen e)
+              subst (λ (i : ℕ). getD (set assigned at next) i 0 ≡ wordOf n (joined sameEntry e seen) (entryFor (2 * suc (p .before + i)))) (sym (eqb-true j at g))
+              (getD-set-same assigned at next 0 inside ∙ ap (λ (k : ℕ). n + k) (sym (place-outside sameEntry e seen f)) ∙ sym (word-joined n seen e)
               ∙ word-alike n (joined sameEntry e seen) e (entryFor (2 * suc (p .before + at))) same-entry)
           go false g =
               let apart : j ≡ at → ⊥ = eqb-false j at g in
               let other : sameEntry (entryFor (2 * suc (p .before + j))) e ≡ false =
               ap (sameKey (shared (2 * suc (p .before + j)))) is ∙ ne-eqb (2 * suc (p .before + j)) x (λ z. apart (omega (arith, literal-at))) in
-              getD-set-other table at j next 0 apart ∙ t j (rw length-set at h) ∙ sym (word-other n seen e (entryFor (2 * suc (p .before + j))) other)
+              getD-set-other assigned at j next 0 apart ∙ t j (rw length-set at h) ∙ sym (word-other n seen e (entryFor (2 * suc (p .before + j))) other)
 
       -- one that is new has the next number
-      number-shared-new : any (sameEntry e) seen ≡ false → Numbered n firsts (e ∷ es) (numberAll (p .before) next (x ∷ xs) table)
+      number-shared-new : any (sameEntry e) seen ≡ false → Numbered n firsts (e ∷ es) (numberAll (p .before) next (x ∷ xs) assigned)
       number-shared-new f =
-          let empty : eqb (getD table at 0) 0 ≡ true = eq-eqb (getD table at 0) 0 (word-here ∙ rw f refl) in
-          rw (o, empty) (with-new f (set table at next) (length-set table at next ∙ long) (table-set f))
+          let empty : eqb (getD assigned at 0) 0 ≡ true = eq-eqb (getD assigned at 0) 0 (word-here ∙ rw f refl) in
+          rw (o, empty) (with-new f (set assigned at next) (length-set assigned at next ∙ long) (assigned-set f))
 
       -- either way
-      number-shared : (q : Bool) → any (sameEntry e) seen ≡ q → Numbered n firsts (e ∷ es) (numberAll (p .before) next (x ∷ xs) table)
+      number-shared : (q : Bool) → any (sameEntry e) seen ≡ q → Numbered n firsts (e ∷ es) (numberAll (p .before) next (x ∷ xs) assigned)
       number-shared true f = number-seen f
       number-shared false f = number-shared-new f
 
     -- an entry of either sort
-    number-one : (k : Key) → e .key ≡ k → Says p x k → New k (any (sameEntry e) seen) → Numbered n firsts (e ∷ es) (numberAll (p .before) next (x ∷ xs) table)
+    number-one : (k : Key) → e .key ≡ k → Says p x k → New k (any (sameEntry e) seen) → Numbered n firsts (e ∷ es) (numberAll (p .before) next (x ∷ xs) assigned)
     number-one (shared l) is h f = number-shared (is ∙ ap shared (sym (h .0))) (h .1 .0) (h .1 .1) (any (sameEntry e) seen) refl
     number-one (alone w k) is h f = number-alone w k is h f
 
   -- words that say the keys of entries get the numbers of the entries
   number-rest : (xs : List ℕ) (es seen : List Entry) → Both (λ x e. Says p x (e .key)) xs es → Fresh seen es → Rest seen xs es
-  number-rest [] [] seen h f table long t = record { numbers = refl; next = refl }
-  number-rest [] (e ∷ es) seen h f table long t = absurd h
-  number-rest (x ∷ xs) [] seen h f table long t = absurd h
-  number-rest (x ∷ xs) (e ∷ es) seen h f table long t =
-      number-one e seen x xs es (number-rest xs es (joined sameEntry e seen) (h .1) (f .1)) table long t (e .key) refl (h .0) (f .0)
+  number-rest [] [] seen h f assigned long t = record { numbers = refl; next = refl }
+  number-rest [] (e ∷ es) seen h f assigned long t = absurd h
+  number-rest (x ∷ xs) [] seen h f assigned long t = absurd h
+  number-rest (x ∷ xs) (e ∷ es) seen h f assigned long t =
+      number-one e seen x xs es (number-rest xs es (joined sameEntry e seen) (h .1) (f .1)) assigned long t (e .key) refl (h .0) (f .0)
 
 -- The origin words of a kind get the numbers of their entries, from n on.
 pub number-origins : (kind : Leaves) (m : Sections) (ws : List Sections) (n : ℕ) → 0 < n

@@ -14,26 +14,26 @@ use Rattle.compose_spec.specs.Sharing.{Shared, shareGates}
 use Rattle.compose_joint.specs.declared.Literals.the-variants as literals
 use Rattle.compose_joint.specs.Joint.{joint, listOf}
 
--- the numbers given, the table afterwards, and the next number
+-- the numbers given, the assigned numbers afterwards, and the next number
 pub record Numbers : Type 0 where
   pub numbers : List ℕ
-  pub table : List ℕ
+  pub assigned : List ℕ
   pub next : ℕ
 
 abbrev pub withNumber : ℕ → Numbers → Numbers
-withNumber x n = record { numbers = x ∷ n .numbers; table = n .table; next = n .next }
+withNumber x n = record { numbers = x ∷ n .numbers; assigned = n .assigned; next = n .next }
 
--- the table has a word for each input, or latch, of the model: its number, or 0 before it appears; `before` variables of the model stand in front
+-- the assigned numbers has a word for each input, or latch, of the model: its number, or 0 before it appears; `before` variables of the model stand in front
 abbrev pub slot : ℕ → ℕ → ℕ
 slot before l = l / 2 - before - 1
 
 -- Each origin word gets a number: an odd one is private, so a new one; an even one is a literal of the model, which has one number.
 abbrev pub numberAll : ℕ → ℕ → List ℕ → List ℕ → Numbers
-numberAll before next [] table = record { numbers = []; table = table; next = next }
-numberAll before next (x ∷ xs) table =
-    cond (odd x) (withNumber next (numberAll before (suc next) xs table))
-    (cond (eqb (getD table (slot before x) 0) 0) (withNumber next (numberAll before (suc next) xs (set table (slot before x) next)))
-    (withNumber (getD table (slot before x) 0) (numberAll before next xs table)))
+numberAll before next [] assigned = record { numbers = []; assigned = assigned; next = next }
+numberAll before next (x ∷ xs) assigned =
+    cond (odd x) (withNumber next (numberAll before (suc next) xs assigned))
+    (cond (eqb (getD assigned (slot before x) 0) 0) (withNumber next (numberAll before (suc next) xs (set assigned (slot before x) next)))
+    (withNumber (getD assigned (slot before x) 0) (numberAll before next xs assigned)))
 
 -- the composed variables of the joint variables, gates left out
 abbrev pub leafVars : Sections → List Sections → List ℕ

@@ -19,7 +19,7 @@ use Rattle.compose_gather.specs.Gathered.{wordTotal, LoadsAll, CanLoad, leafCou
 use Rattle.compose_origins.specs.declared.Origins.{Origins}
 use Rattle.compose_origins.specs.declared.Origins.the-variants as origin
 use Rattle.compose_origins.specs.Mapped.{CanMapAll, MapsAll}
-use Rattle.compose_layout.specs.declared.Places.{Places}
+use Rattle.compose_layout.specs.declared.Layout.{Layout}
 use Rattle.compose_layout.specs.declared.Lists.{Lists}
 use Rattle.compose_layout.specs.declared.Laid.{Laid}
 use Rattle.compose_layout.specs.declared.Laid.the-variants as laid
@@ -100,9 +100,9 @@ module _ (l : Lists) (mc : AagCounts) (t : Totals) (buffer : Bytes) (pairs work 
 -- ---- the latches' origins, and the places
 
 -- the lists and origins take at most so many words
-table-most : (m : Sections) (ws : List Sections) (l : Lists) (b table : ℕ)
-    → table ≡ wordTotal ws + knownLength (withInputs l (l .end) m ws ++ record { place = b; words = origins leaf.Latches m ws } ∷ []) → table ≤ 7 * sizes ws
-table-most m ws l b table e =
+assigned-most : (m : Sections) (ws : List Sections) (l : Lists) (b assigned : ℕ)
+    → assigned ≡ wordTotal ws + knownLength (withInputs l (l .end) m ws ++ record { place = b; words = origins leaf.Latches m ws } ∷ []) → assigned ≤ 7 * sizes ws
+assigned-most m ws l b assigned e =
     let n = amounts ws in
     omega (
       arith,
@@ -128,41 +128,41 @@ leaves-size : (ws : List Sections) (i q a : ℕ) → i ≡ totalOf inputCount ws
 leaves-size ws i q a e f g = omega (arith, e, f, g, amounts ws .all)
 
 -- so the regions behind them have room
-regions-room : (table s z im lm i q a len : ℕ) → table ≤ 7 * s → im + lm ≤ z → i + q + a ≤ s → 16 * (z + s) + 1024 ≤ len
-    → table + (im + lm) + (i + q + a + 1) + (4 * a + 1) + 2 * q + 2 * ((i + q + a) / 32 + 1) ≤ len
-regions-room table s z im lm i q a len h k n f = omega arith
+regions-room : (assigned s z im lm i q a len : ℕ) → assigned ≤ 7 * s → im + lm ≤ z → i + q + a ≤ s → 16 * (z + s) + 1024 ≤ len
+    → assigned + (im + lm) + (i + q + a + 1) + (4 * a + 1) + 2 * q + 2 * ((i + q + a) / 32 + 1) ≤ len
+regions-room assigned s z im lm i q a len h k n f = omega arith
 
 module _ (l : Lists) (mc : AagCounts) (t : Totals) (buffer : Bytes) (pairs work : List ℕ) (b : ℕ) (work' : List ℕ) (r : Origins)
     (g : MapsAll (modelBy leaf.Latches mc) leaf.Latches buffer pairs work b work' r) where
   pub latches-wrong : r ≡ origin.Wrong → GoesRight leaf.Latches mc t buffer pairs work (withInputs l (l .end)) b work' laid.Wrong
   latches-wrong e = record { goes = λ m ws k. leaves-wrong (withInputs l (l .end)) leaf.Latches (roomy-leaves l) mc t buffer pairs work b work' r g e m ws k }
 
-  module _ (table : ℕ) (e : r ≡ origin.Next table) where
+  module _ (assigned : ℕ) (e : r ≡ origin.Next assigned) where
     last : (m : Sections) (ws : List Sections) → Stage mc t buffer pairs work (withInputs l (l .end) m ws) b m ws
-        → Stage mc t buffer pairs work' (withInputs l (l .end) m ws ++ record { place = b; words = origins leaf.Latches m ws } ∷ []) table m ws
-    last m ws k = leaves-next (withInputs l (l .end)) leaf.Latches (roomy-leaves l) mc t buffer pairs work b work' r g table e m ws k
+        → Stage mc t buffer pairs work' (withInputs l (l .end) m ws ++ record { place = b; words = origins leaf.Latches m ws } ∷ []) assigned m ws
+    last m ws k = leaves-next (withInputs l (l .end)) leaf.Latches (roomy-leaves l) mc t buffer pairs work b work' r g assigned e m ws k
 
-    behind : (m : Sections) (ws : List Sections) → Stage mc t buffer pairs work (withInputs l (l .end) m ws) b m ws → table ≤ 7 * sizes ws
-    behind m ws k = table-most m ws l b table (last m ws k .to-is)
+    behind : (m : Sections) (ws : List Sections) → Stage mc t buffer pairs work (withInputs l (l .end) m ws) b m ws → assigned ≤ 7 * sizes ws
+    behind m ws k = assigned-most m ws l b assigned (last m ws k .to-is)
 
-    fits : (m : Sections) (ws : List Sections) → Stage mc t buffer pairs work (withInputs l (l .end) m ws) b m ws → PlacesFit l table mc t (length work')
+    fits : (m : Sections) (ws : List Sections) → Stage mc t buffer pairs work (withInputs l (l .end) m ws) b m ws → PlacesFit l assigned mc t (length work')
     fits m ws k =
         let f = last m ws k .fitting in
         record {
           fits =
-              regions-room table (sizes ws) (size m) (mc .inputs) (mc .latches) (t .inputs) (t .latches) (t .gates) (length work') (behind m ws k)
+              regions-room assigned (sizes ws) (size m) (mc .inputs) (mc .latches) (t .inputs) (t .latches) (t .gates) (length work') (behind m ws k)
               (model-size mc m (f .model)) (leaves-size ws (t .inputs) (t .latches) (t .gates) (f .totals .inputs) (f .totals .latches) (f .totals .gates)) (f .room);
         }
 
-    pub places-fit : Staged mc t buffer pairs work (withInputs l (l .end)) b → PlacesFit l table mc t (length work')
+    pub places-fit : Staged mc t buffer pairs work (withInputs l (l .end)) b → PlacesFit l assigned mc t (length work')
     places-fit s = fits (s .m) (s .ws) (s .holds)
 
-    pub latches-laid : (at : Places) → at ≡ placesOf l b table mc t → GoesRight leaf.Latches mc t buffer pairs work (withInputs l (l .end)) b work' (laid.At at)
+    pub latches-laid : (at : Layout) → at ≡ placesOf l b assigned mc t → GoesRight leaf.Latches mc t buffer pairs work (withInputs l (l .end)) b work' (laid.At at)
     latches-laid at f =
         record {
           goes = λ m ws k. (
-            leaves-right (withInputs l (l .end)) leaf.Latches (roomy-leaves l) mc t buffer pairs work b work' r g table e m ws k,
-            subst (λ (x : Places). Ready buffer pairs m ws x work') (sym f) (stage-ready l mc t buffer pairs work' b table m ws (last m ws k) (fits m ws k)),
+            leaves-right (withInputs l (l .end)) leaf.Latches (roomy-leaves l) mc t buffer pairs work b work' r g assigned e m ws k,
+            subst (λ (x : Layout). Ready buffer pairs m ws x work') (sym f) (stage-ready l mc t buffer pairs work' b assigned m ws (last m ws k) (fits m ws k)),
           );
         }
 

@@ -17,12 +17,12 @@ use Rattle.compose_layout.specs.Laid.{Has, Regions, Listed, Ready, Stage
 use Rattle.compose_layout.proofs.RoomLaws.{amounts}
 use Rattle.compose_layout.proofs.StageLaws.{literals-long}
 
-module _ (l : Lists) (mc : AagCounts) (t : Totals) (buffer : Bytes) (pairs work : List ℕ) (b table : ℕ) (m : Sections) (ws : List Sections)
-    (k : Stage mc t buffer pairs work (withInputs l (l .end) m ws ++ record { place = b; words = origins leaf.Latches m ws } ∷ []) table m ws) where
+module _ (l : Lists) (mc : AagCounts) (t : Totals) (buffer : Bytes) (pairs work : List ℕ) (b assigned : ℕ) (m : Sections) (ws : List Sections)
+    (k : Stage mc t buffer pairs work (withInputs l (l .end) m ws ++ record { place = b; words = origins leaf.Latches m ws } ∷ []) assigned m ws) where
   has : (a place : ℕ) (xs : List ℕ) → (place ≡ a) × Has work a xs → Has work place xs
   has a place xs h = subst (λ (j : ℕ). Has work j xs) (sym (h .0)) (h .1)
 
-  listed : Listed buffer pairs m ws (placesOf l b table mc t) work
+  listed : Listed buffer pairs m ws (placesOf l b assigned mc t) work
   listed =
       let s = k .standing in
       record {
@@ -38,10 +38,10 @@ module _ (l : Lists) (mc : AagCounts) (t : Totals) (buffer : Bytes) (pairs work 
             };
       }
 
-  last-place : b + length (origins leaf.Latches m ws) ≡ table
+  last-place : b + length (origins leaf.Latches m ws) ≡ assigned
   last-place = omega (arith, k .to-is, k .standing .1 .1 .1 .1 .1 .0 .0)
 
-  regions : Regions m ws (placesOf l b table mc t)
+  regions : Regions m ws (placesOf l b assigned mc t)
   regions =
       let s = k .standing in
       let n = amounts ws in
@@ -55,18 +55,18 @@ module _ (l : Lists) (mc : AagCounts) (t : Totals) (buffer : Bytes) (pairs work 
         constraints = omega (arith, s .1 .1 .0 .0, s .1 .1 .1 .0 .0, literals-long literals.Safety ws);
         inputOrigins = omega (arith, s .1 .1 .1 .0 .0, s .1 .1 .1 .1 .0 .0, literals-long literals.Constraints ws);
         latchOrigins = omega (arith, s .1 .1 .1 .1 .0 .0, s .1 .1 .1 .1 .1 .0 .0, input-origins-length m ws);
-        table = omega (arith, last-place, latch-origins-length m ws);
+        assigned = omega (arith, last-place, latch-origins-length m ws);
         vars = omega (arith, mi, ml);
         gates = omega (arith, f .inputs, f .latches, f .gates);
         definitions = omega (arith, f .gates);
-        bads = omega (arith, f .latches);
+        badBits = omega (arith, f .latches);
         bits = ap (λ (j : ℕ). j / 32 + 1) (sum (t .inputs) (t .latches) (t .gates) (f .inputs) (f .latches) (f .gates));
-        limits = refl;
+        constraintBits = refl;
         end = refl;
       }
     where
       sum : (i q a : ℕ) → i ≡ totalOf inputCount ws → q ≡ totalOf latchCount ws → a ≡ totalOf gateCount ws → i + q + a ≡ totalOf inputCount ws + totalOf latchCount ws + totalOf gateCount ws
       sum i q a e f g = omega arith
 
-  pub stage-ready : PlacesFit l table mc t (length work) → Ready buffer pairs m ws (placesOf l b table mc t) work
+  pub stage-ready : PlacesFit l assigned mc t (length work) → Ready buffer pairs m ws (placesOf l b assigned mc t) work
   stage-ready p = record { regions = regions; listed = listed; fits = omega (arith, p .fits) }

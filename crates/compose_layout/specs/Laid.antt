@@ -19,7 +19,7 @@ use Rattle.compose_joint.specs.declared.Leaves.the-variants as leaf
 use Rattle.compose_joint.specs.Joint.{totalOf, inputCount, latchCount, gateCount, joint, listOf, namesOf, modelOf, origins}
 use Rattle.compose_gather.specs.declared.Totals.{Totals}
 use Rattle.compose_gather.specs.Gathered.{Blocks, wordTotal, Readable, literalCount}
-use Rattle.compose_layout.specs.declared.Places.{Places}
+use Rattle.compose_layout.specs.declared.Layout.{Layout}
 use Rattle.compose_layout.specs.declared.Lists.{Lists}
 use Rattle.compose_layout.specs.declared.Laid.{Laid}
 use Rattle.compose_layout.specs.declared.Laid.the-variants as laid
@@ -33,23 +33,23 @@ pub record Has (work : List ℕ) (a : ℕ) (xs : List ℕ) : Type 0 where
 abbrev pub variableTotal : List Sections → ℕ
 variableTotal ws = totalOf inputCount ws + totalOf latchCount ws + totalOf gateCount ws
 
--- The regions, one behind the other: the texts' words; the joint lists; the origins; a table of the model's inputs and latches; the composed variables; the
+-- The regions, one behind the other: the texts' words; the joint lists; the origins; the numbers assigned to the model's inputs and latches; the composed variables; the
 -- table of gates; the definitions of latches; the bads and the constraints as bits.
-pub record Regions (m : Sections) (ws : List Sections) (at : Places) : Type 0 where
+pub record Regions (m : Sections) (ws : List Sections) (at : Layout) : Type 0 where
   pub latches : at .latches ≡ wordTotal ws
   pub operands : at .operands ≡ at .latches + 2 * totalOf latchCount ws
   pub safety : at .safety ≡ at .operands + 2 * totalOf gateCount ws
   pub constraints : at .constraints ≡ at .safety + totalOf (literalCount literals.Safety) ws
   pub inputOrigins : at .«input_origins» ≡ at .constraints + totalOf (literalCount literals.Constraints) ws
   pub latchOrigins : at .«latch_origins» ≡ at .«input_origins» + totalOf inputCount ws
-  pub table : at .table ≡ at .«latch_origins» + totalOf latchCount ws
-  pub vars : at .vars ≡ at .table + (length (m .inputs) + length (m .latches))
+  pub assigned : at .assigned ≡ at .«latch_origins» + totalOf latchCount ws
+  pub vars : at .vars ≡ at .assigned + (length (m .inputs) + length (m .latches))
   pub gates : at .gates ≡ at .vars + suc (variableTotal ws)
   pub definitions : at .definitions ≡ at .gates + (4 * totalOf gateCount ws + 1)
-  pub bads : at .bads ≡ at .definitions + 2 * totalOf latchCount ws
+  pub badBits : at .«bad_bits» ≡ at .definitions + 2 * totalOf latchCount ws
   pub bits : at .bits ≡ variableTotal ws / 32 + 1
-  pub limits : at .limits ≡ at .bads + at .bits
-  pub end : at .end ≡ at .limits + at .bits
+  pub constraintBits : at .«constraint_bits» ≡ at .«bad_bits» + at .bits
+  pub end : at .end ≡ at .«constraint_bits» + at .bits
 
 -- something holds of some model and witnesses
 pub record Some (Stage : Sections → List Sections → Type 0) : Type 0 where
@@ -72,7 +72,7 @@ pub record Fitting (mc : AagCounts) (t : Totals) (buffer : Bytes) (pairs work : 
   pub room : 16 * sizes (m ∷ ws) + 1024 ≤ length work
 
 -- the joint lists and the origins stand in their places
-pub record Stands (at : Places) (work : List ℕ) (m : Sections) (ws : List Sections) : Type 0 where
+pub record Stands (at : Layout) (work : List ℕ) (m : Sections) (ws : List Sections) : Type 0 where
   pub latches : Has work (at .latches) (joint (listOf literals.Latches) ws)
   pub operands : Has work (at .operands) (joint (listOf literals.Operands) ws)
   pub safety : Has work (at .safety) (joint (listOf literals.Safety) ws)
@@ -81,12 +81,12 @@ pub record Stands (at : Places) (work : List ℕ) (m : Sections) (ws : List Sect
   pub latchOrigins : Has work (at .«latch_origins») (origins leaf.Latches m ws)
 
 -- and in front of them what is read of the witnesses
-pub record Listed (buffer : Bytes) (pairs : List ℕ) (m : Sections) (ws : List Sections) (at : Places) (work : List ℕ) : Type 0 where
+pub record Listed (buffer : Bytes) (pairs : List ℕ) (m : Sections) (ws : List Sections) (at : Layout) (work : List ℕ) : Type 0 where
   pub blocks : Blocks (textsIn buffer pairs) ws work
   pub stands : Stands at work m ws
 
 -- all of it, within the words
-pub record Ready (buffer : Bytes) (pairs : List ℕ) (m : Sections) (ws : List Sections) (at : Places) (work : List ℕ) : Type 0 where
+pub record Ready (buffer : Bytes) (pairs : List ℕ) (m : Sections) (ws : List Sections) (at : Layout) (work : List ℕ) : Type 0 where
   pub regions : Regions m ws at
   pub listed : Listed buffer pairs m ws at work
   pub fits : at .end ≤ length work
@@ -163,11 +163,11 @@ withInputs l a m ws =
 -- ---- the places behind the lists
 
 -- so many words have room for all regions
-pub record PlacesFit (l : Lists) (table : ℕ) (mc : AagCounts) (t : Totals) (size : ℕ) : Type 0 where
-  pub fits : table + (mc .inputs + mc .latches) + (t .inputs + t .latches + t .gates + 1) + (4 * t .gates + 1) + 2 * t .latches + 2 * ((t .inputs + t .latches + t .gates) / 32 + 1) ≤ size
+pub record PlacesFit (l : Lists) (assigned : ℕ) (mc : AagCounts) (t : Totals) (size : ℕ) : Type 0 where
+  pub fits : assigned + (mc .inputs + mc .latches) + (t .inputs + t .latches + t .gates + 1) + (4 * t .gates + 1) + 2 * t .latches + 2 * ((t .inputs + t .latches + t .gates) / 32 + 1) ≤ size
 
-abbrev pub placesOf : Lists → ℕ → ℕ → AagCounts → Totals → Places
-placesOf l latchOrigins table mc t =
+abbrev pub placesOf : Lists → ℕ → ℕ → AagCounts → Totals → Layout
+placesOf l latchOrigins assigned mc t =
     record {
       latches = l .latches;
       operands = l .operands;
@@ -175,15 +175,15 @@ placesOf l latchOrigins table mc t =
       constraints = l .constraints;
       «input_origins» = l .end;
       «latch_origins» = latchOrigins;
-      table = table;
-      vars = table + (mc .inputs + mc .latches);
-      gates = table + (mc .inputs + mc .latches) + (t .inputs + t .latches + t .gates + 1);
-      definitions = table + (mc .inputs + mc .latches) + (t .inputs + t .latches + t .gates + 1) + (4 * t .gates + 1);
-      bads = table + (mc .inputs + mc .latches) + (t .inputs + t .latches + t .gates + 1) + (4 * t .gates + 1) + 2 * t .latches;
+      assigned = assigned;
+      vars = assigned + (mc .inputs + mc .latches);
+      gates = assigned + (mc .inputs + mc .latches) + (t .inputs + t .latches + t .gates + 1);
+      definitions = assigned + (mc .inputs + mc .latches) + (t .inputs + t .latches + t .gates + 1) + (4 * t .gates + 1);
+      «bad_bits» = assigned + (mc .inputs + mc .latches) + (t .inputs + t .latches + t .gates + 1) + (4 * t .gates + 1) + 2 * t .latches;
       bits = (t .inputs + t .latches + t .gates) / 32 + 1;
-      limits = table + (mc .inputs + mc .latches) + (t .inputs + t .latches + t .gates + 1) + (4 * t .gates + 1) + 2 * t .latches + ((t .inputs + t .latches + t .gates) / 32 + 1);
+      «constraint_bits» = assigned + (mc .inputs + mc .latches) + (t .inputs + t .latches + t .gates + 1) + (4 * t .gates + 1) + 2 * t .latches + ((t .inputs + t .latches + t .gates) / 32 + 1);
       end =
-          table + (mc .inputs + mc .latches) + (t .inputs + t .latches + t .gates + 1) + (4 * t .gates + 1) + 2 * t .latches + ((t .inputs + t .latches + t .gates) / 32 + 1)
+          assigned + (mc .inputs + mc .latches) + (t .inputs + t .latches + t .gates + 1) + (4 * t .gates + 1) + 2 * t .latches + ((t .inputs + t .latches + t .gates) / 32 + 1)
           + ((t .inputs + t .latches + t .gates) / 32 + 1);
     }
 

@@ -11,26 +11,26 @@ use compose_spec::ModelLeaves;
 use witness_text::AagCounts;
 
 // Where the regions of the work words begin.
-pub struct Places {
+pub struct Layout {
     pub latches: usize,
     pub operands: usize,
     pub safety: usize,
     pub constraints: usize,
     pub input_origins: usize,
     pub latch_origins: usize,
-    pub table: usize,
+    pub assigned: usize,
     pub vars: usize,
     pub gates: usize,
     pub definitions: usize,
-    pub bads: usize,
+    pub bad_bits: usize,
     pub bits: usize,
-    pub limits: usize,
+    pub constraint_bits: usize,
     pub end: usize,
 }
 
 // The places, or that a literal is wrong (reason 16).
 pub enum Laid {
-    At(Places),
+    At(Layout),
     Wrong,
 }
 
@@ -47,36 +47,36 @@ pub struct Lists {
 fn place_regions(
     listed: Lists,
     latch_origins: usize,
-    table: usize,
+    assigned: usize,
     model_counts: AagCounts,
     totals: Totals,
     size: usize,
-) -> Places
-    requires { ⌜ PlacesFit listed table «model_counts» totals size ⌝ }
-    ensures { λ r. ⌜ r ≡ placesOf listed «latch_origins» table «model_counts» totals ⌝ }
+) -> Layout
+    requires { ⌜ PlacesFit listed assigned «model_counts» totals size ⌝ }
+    ensures { λ r. ⌜ r ≡ placesOf listed «latch_origins» assigned «model_counts» totals ⌝ }
 {
     let all = totals.inputs + totals.latches + totals.gates;
-    let vars = table + (model_counts.inputs + model_counts.latches);
+    let vars = assigned + (model_counts.inputs + model_counts.latches);
     let gates = vars + (all + 1);
     let definitions = gates + (4 * totals.gates + 1);
-    let bads = definitions + 2 * totals.latches;
+    let bad_bits = definitions + 2 * totals.latches;
     let bits = all / 32 + 1;
-    let limits = bads + bits;
-    Places {
+    let constraint_bits = bad_bits + bits;
+    Layout {
         latches: listed.latches,
         operands: listed.operands,
         safety: listed.safety,
         constraints: listed.constraints,
         input_origins: listed.end,
         latch_origins: latch_origins,
-        table: table,
+        assigned: assigned,
         vars: vars,
         gates: gates,
         definitions: definitions,
-        bads: bads,
+        bad_bits: bad_bits,
         bits: bits,
-        limits: limits,
-        end: limits + bits,
+        constraint_bits: constraint_bits,
+        end: constraint_bits + bits,
     }
 }
 
@@ -99,7 +99,7 @@ fn lay_leaves(
         before: model_counts.inputs,
         count: model_counts.latches,
     };
-    let Origins::Next(table) = compose_origins::gather_origins(
+    let Origins::Next(assigned) = compose_origins::gather_origins(
         witnesses,
         pairs,
         counts,
@@ -110,7 +110,7 @@ fn lay_leaves(
     ) else {
         return Laid::Wrong;
     };
-    Laid::At(place_regions(listed, b, table, model_counts, totals, work.len()))
+    Laid::At(place_regions(listed, b, assigned, model_counts, totals, work.len()))
 }
 
 // The origins of the inputs, then the latches'.
@@ -142,7 +142,16 @@ fn lay_inputs(
     ) else {
         return Laid::Wrong;
     };
-    lay_leaves(witnesses, pairs, counts, work, model_counts, totals, listed, b)
+    lay_leaves(
+        witnesses,
+        pairs,
+        counts,
+        work,
+        model_counts,
+        totals,
+        listed,
+        b,
+    )
 }
 
 // The constraints, then the origins.
@@ -208,7 +217,18 @@ fn lay_safety(
         totals.latches,
         c,
     );
-    lay_constraints(witnesses, pairs, counts, work, model_counts, totals, a, b, c, d)
+    lay_constraints(
+        witnesses,
+        pairs,
+        counts,
+        work,
+        model_counts,
+        totals,
+        a,
+        b,
+        c,
+        d,
+    )
 }
 
 // The operands of the gates, then the others.
@@ -236,7 +256,17 @@ fn lay_operands(
         totals.latches,
         b,
     );
-    lay_safety(witnesses, pairs, counts, work, model_counts, totals, a, b, c)
+    lay_safety(
+        witnesses,
+        pairs,
+        counts,
+        work,
+        model_counts,
+        totals,
+        a,
+        b,
+        c,
+    )
 }
 
 // The latches' literals, then the others; the words of the texts end at a place.

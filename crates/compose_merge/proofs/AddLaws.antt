@@ -26,7 +26,7 @@ use Rattle.compose_joint.proofs.GateLaws.{composed-gates-most}
 use Rattle.compose_joint.proofs.VarsLaws.{joint-safety, joint-constraints}
 use Rattle.compose_numbers.specs.Marked.{Addable, CanAdd, Added, literalsAt}
 use Rattle.compose_numbers.proofs.CallLaws.{each-word}
-use Rattle.compose_layout.specs.declared.Places.{Places}
+use Rattle.compose_layout.specs.declared.Layout.{Layout}
 use Rattle.compose_layout.specs.Laid.{Has, variableTotal, Regions, Some}
 use Rattle.compose_layout.proofs.HasLaws.{has-same}
 use Rattle.compose_layout.proofs.StageLaws.{literals-long}
@@ -44,7 +44,7 @@ use Rattle.compose_merge.proofs.JointLaws.{Joint, var-low, literals-in,
 bit-there : (v l total bits : ℕ) → v ≤ total → bits ≡ total / 32 + 1 → 2 * v + l % 2 < 64 * bits
 bit-there v l total bits h e = omega arith
 
-module _ (at : Places) (work : List ℕ) (m : Sections) (ws : List Sections) (b : Base at work m ws) (s : Shared at work m ws) where
+module _ (at : Layout) (work : List ℕ) (m : Sections) (ws : List Sections) (b : Base at work m ws) (s : Shared at work m ws) where
   -- a joint literal can be added to a set behind the composed variables
   addable : (place : ℕ) → at .gates ≤ place → (l : ℕ) → Joint ws l → Addable (at .vars) place (at .bits) work l
   addable place h l j =
@@ -81,16 +81,16 @@ operands-small n [] h o = tt
 operands-small n (g ∷ gs) h o = (record { left = omega (arith, o .0 .0); right = omega (arith, o .0 .1) }, operands-small (suc n) gs (omega arith) (o .1))
 
 -- so are those of the composed gates
-composed-small : (at : Places) (work : List ℕ) (m : Sections) (ws : List Sections) → Base at work m ws → Each SmallOperands (composedGates m ws)
+composed-small : (at : Layout) (work : List ℕ) (m : Sections) (ws : List Sections) → Base at work m ws → Each SmallOperands (composedGates m ws)
 composed-small at work m ws b =
     operands-small (suc (leafCount m ws)) (composedGates m ws) (omega (arith, leaf-count-most m ws, composed-gates-most m ws (b .plan .range), b .plan .few)) (composed-order m ws)
 
 -- ---- the two lists
 
-module _ (at : Places) (first next g : ℕ) (work : List ℕ) where
+module _ (at : Layout) (first next g : ℕ) (work : List ℕ) where
   -- what is asked for the bads
   abbrev CanBads : Type 0
-  CanBads = CanAdd (at .safety) (at .constraints - at .safety) (at .vars) (at .bads) (at .bits) work
+  CanBads = CanAdd (at .safety) (at .constraints - at .safety) (at .vars) (at .«bad_bits») (at .bits) work
 
   module _ (m : Sections) (ws : List Sections) (k : LatchesDefined at first next g work m ws) where
     -- where everything stands
@@ -108,52 +108,52 @@ module _ (at : Places) (first next g : ℕ) (work : List ℕ) where
     -- it holds of the stage
     bads-room : CanBads
     bads-room =
-        can-add at work m ws (k .base) (k .shared) literals.Safety (at .safety) (at .constraints - at .safety) (at .bads) (k .base .stands .safety) safety-count
-        (omega (arith, places .constraints, places .inputOrigins, places .latchOrigins, places .table, places .vars))
-        (omega (arith, places .definitions, places .bads))
-        (omega (arith, places .limits, places .end, k .base .fits))
-        (clean-part work (at .bads) (at .end) (k .bits) (at .bads) (at .bits) (omega arith) (omega (arith, places .limits, places .end)))
+        can-add at work m ws (k .base) (k .shared) literals.Safety (at .safety) (at .constraints - at .safety) (at .«bad_bits») (k .base .stands .safety) safety-count
+        (omega (arith, places .constraints, places .inputOrigins, places .latchOrigins, places .assigned, places .vars))
+        (omega (arith, places .definitions, places .badBits))
+        (omega (arith, places .constraintBits, places .end, k .base .fits))
+        (clean-part work (at .«bad_bits») (at .end) (k .bits) (at .«bad_bits») (at .bits) (omega arith) (omega (arith, places .constraintBits, places .end)))
 
   -- as the code asks for it
   pub bads-can : Some (LatchesDefined at first next g work) → CanBads
   bads-can s = bads-room (s .m) (s .ws) (s .holds)
 
-  module _ (work' : List ℕ) (bads : ℕ) (same : length work' ≡ length work) (added : Added (at .safety) (at .constraints - at .safety) (at .vars) (at .bads) (at .bits) work work' bads) where
+  module _ (work' : List ℕ) (bads : ℕ) (same : length work' ≡ length work) (added : Added (at .safety) (at .constraints - at .safety) (at .vars) (at .«bad_bits») (at .bits) work work' bads) where
     -- what is asked for the constraints
-    abbrev CanLimits : Type 0
-    CanLimits = CanAdd (at .constraints) (at .«input_origins» - at .constraints) (at .vars) (at .limits) (at .bits) work'
+    abbrev CanConstraints : Type 0
+    CanConstraints = CanAdd (at .constraints) (at .«input_origins» - at .constraints) (at .vars) (at .«constraint_bits») (at .bits) work'
 
     module _ (m : Sections) (ws : List Sections) (k : LatchesDefined at first next g work m ws) where
-      -- the definitions stand behind the table
-      table-ahead : at .table ≤ at .definitions
-      table-ahead = omega (arith, places m ws k .vars, places m ws k .gates, places m ws k .definitions)
+      -- the definitions stand behind the assigned numbers
+      assigned-ahead : at .assigned ≤ at .definitions
+      assigned-ahead = omega (arith, places m ws k .vars, places m ws k .gates, places m ws k .definitions)
 
       -- the bads stand behind the definitions
-      definitions-ahead : at .definitions ≤ at .bads
-      definitions-ahead = omega (arith, places m ws k .bads)
+      definitions-ahead : at .definitions ≤ at .«bad_bits»
+      definitions-ahead = omega (arith, places m ws k .badBits)
 
       -- what stays after the bads
       base' : Base at work' m ws
-      base' = base-kept at work work' m ws (take-kept work' work (at .bads) (added .before) (at .table) (omega (arith, table-ahead, definitions-ahead))) same (k .base)
+      base' = base-kept at work work' m ws (take-kept work' work (at .«bad_bits») (added .before) (at .assigned) (omega (arith, assigned-ahead, definitions-ahead))) same (k .base)
 
       -- so do variables and gates
       shared' : Shared at work' m ws
-      shared' = shared-kept at work work' m ws (places m ws k) (take-kept work' work (at .bads) (added .before) (at .definitions) definitions-ahead) same (k .shared)
+      shared' = shared-kept at work work' m ws (places m ws k) (take-kept work' work (at .«bad_bits») (added .before) (at .definitions) definitions-ahead) same (k .shared)
 
       -- so does the empty set of constraints
-      clean' : Clean work' (at .limits) (at .end)
+      clean' : Clean work' (at .«constraint_bits») (at .end)
       clean' =
-          clean-behind work (at .bads) (at .end) (k .bits) work' (at .bads + at .bits) (at .limits) (added .behind)
-          (omega (arith, places m ws k .limits)) (omega (arith, places m ws k .limits)) (omega (arith, places m ws k .end))
+          clean-behind work (at .«bad_bits») (at .end) (k .bits) work' (at .«bad_bits» + at .bits) (at .«constraint_bits») (added .behind)
+          (omega (arith, places m ws k .constraintBits)) (omega (arith, places m ws k .constraintBits)) (omega (arith, places m ws k .end))
 
       -- it holds of the stage
-      limits-room : CanLimits
-      limits-room =
-          can-add at work' m ws base' shared' literals.Constraints (at .constraints) (at .«input_origins» - at .constraints) (at .limits) (base' .stands .constraints) (constraint-count m ws k)
-          (omega (arith, places m ws k .inputOrigins, places m ws k .latchOrigins, places m ws k .table, places m ws k .vars))
-          (omega (arith, places m ws k .definitions, places m ws k .bads, places m ws k .limits))
+      constraints-room : CanConstraints
+      constraints-room =
+          can-add at work' m ws base' shared' literals.Constraints (at .constraints) (at .«input_origins» - at .constraints) (at .«constraint_bits») (base' .stands .constraints) (constraint-count m ws k)
+          (omega (arith, places m ws k .inputOrigins, places m ws k .latchOrigins, places m ws k .assigned, places m ws k .vars))
+          (omega (arith, places m ws k .definitions, places m ws k .badBits, places m ws k .constraintBits))
           (omega (arith, places m ws k .end, base' .fits))
-          (clean-part work' (at .limits) (at .end) clean' (at .limits) (at .bits) (omega arith) (omega (arith, places m ws k .end)))
+          (clean-part work' (at .«constraint_bits») (at .end) clean' (at .«constraint_bits») (at .bits) (omega arith) (omega (arith, places m ws k .end)))
 
       -- the composed bads
       bads-are : setOf (literalsAt (at .safety) (at .constraints - at .safety) (at .vars) work) ≡ literalsOf safety (whole m ws)
@@ -163,25 +163,25 @@ module _ (at : Places) (first next g : ℕ) (work : List ℕ) where
           ∙ sym (joint-safety m ws (k .base .plan .range))
 
       -- the composed constraints
-      limits-are : setOf (literalsAt (at .constraints) (at .«input_origins» - at .constraints) (at .vars) work') ≡ literalsOf (λ s. s .constraints) (whole m ws)
-      limits-are =
+      constraints-are : setOf (literalsAt (at .constraints) (at .«input_origins» - at .constraints) (at .vars) work') ≡ literalsOf (λ s. s .constraints) (whole m ws)
+      constraints-are =
           ap setOf
           (literals-translated at work' m ws base' shared' literals.Constraints (at .constraints) (at .«input_origins» - at .constraints) (base' .stands .constraints) (constraint-count m ws k))
           ∙ sym (joint-constraints m ws (k .base .plan .range))
 
     -- as the code asks for it
-    pub limits-can : Some (LatchesDefined at first next g work) → CanLimits
-    limits-can s = limits-room (s .m) (s .ws) (s .holds)
+    pub constraints-can : Some (LatchesDefined at first next g work) → CanConstraints
+    constraints-can s = constraints-room (s .m) (s .ws) (s .holds)
 
-    module _ (work'' : List ℕ) (limits : ℕ) (same' : length work'' ≡ length work') (added' : Added (at .constraints) (at .«input_origins» - at .constraints) (at .vars) (at .limits) (at .bits) work' work'' limits) where
+    module _ (work'' : List ℕ) (limits : ℕ) (same' : length work'' ≡ length work') (added' : Added (at .constraints) (at .«input_origins» - at .constraints) (at .vars) (at .«constraint_bits») (at .bits) work' work'' limits) where
       module _ (m : Sections) (ws : List Sections) (k : LatchesDefined at first next g work m ws) where
         -- the constraints stand behind the bads
-        bads-ahead : at .bads ≤ at .limits
-        bads-ahead = omega (arith, places m ws k .limits)
+        bads-ahead : at .«bad_bits» ≤ at .«constraint_bits»
+        bads-ahead = omega (arith, places m ws k .constraintBits)
 
         -- nothing in front of the bads is written
-        kept : take (at .bads) work'' ≡ take (at .bads) work
-        kept = take-kept work'' work' (at .limits) (added' .before) (at .bads) bads-ahead ∙ added .before
+        kept : take (at .«bad_bits») work'' ≡ take (at .«bad_bits») work
+        kept = take-kept work'' work' (at .«constraint_bits») (added' .before) (at .«bad_bits») bads-ahead ∙ added .before
 
         -- no word more or less
         long : length work'' ≡ length work
@@ -189,7 +189,7 @@ module _ (at : Places) (first next g : ℕ) (work : List ℕ) where
 
         -- variables and gates in the end
         shared : Shared at work'' m ws
-        shared = shared-kept at work work'' m ws (places m ws k) (take-kept work'' work (at .bads) kept (at .definitions) (definitions-ahead m ws k)) long (k .shared)
+        shared = shared-kept at work work'' m ws (places m ws k) (take-kept work'' work (at .«bad_bits») kept (at .definitions) (definitions-ahead m ws k)) long (k .shared)
 
         -- the counts in the end
         counted : Counted m ws (record { inputs = first - 1; latches = next - first; gates = g; bads = bads; constraints = limits })
@@ -199,12 +199,12 @@ module _ (at : Places) (first next g : ℕ) (work : List ℕ) where
               latches = omega (arith, k .first, k .next);
               gates = k .count;
               bads = added .returns ∙ ap length (bads-are m ws k);
-              constraints = added' .returns ∙ ap length (limits-are m ws k);
+              constraints = added' .returns ∙ ap length (constraints-are m ws k);
             }
 
         -- the definitions end before the bads
-        definitions-end : at .definitions + length (definitionWords m ws) ≤ at .bads
-        definitions-end = omega (arith, definitions-long m ws, places m ws k .bads)
+        definitions-end : at .definitions + length (definitionWords m ws) ≤ at .«bad_bits»
+        definitions-end = omega (arith, definitions-long m ws, places m ws k .badBits)
 
         -- all that stands in the end
         result : Result m ws at (record { inputs = first - 1; latches = next - first; gates = g; bads = bads; constraints = limits }) work''
@@ -215,12 +215,12 @@ module _ (at : Places) (first next g : ℕ) (work : List ℕ) where
               latches = shared .leaves .latches;
               keys = shared .keys;
               small = composed-small at work m ws (k .base);
-              definitions = has-same work work'' (at .bads) (at .definitions) (definitionWords m ws) kept long definitions-end (k .definitions);
+              definitions = has-same work work'' (at .«bad_bits») (at .definitions) (definitionWords m ws) kept long definitions-end (k .definitions);
               bads =
-                  ap elements (part-kept work'' work' (at .limits) (added' .before) (at .bads) (at .bads + at .bits) (omega (arith, places m ws k .limits)))
+                  ap elements (part-kept work'' work' (at .«constraint_bits») (added' .before) (at .«bad_bits») (at .«bad_bits» + at .bits) (omega (arith, places m ws k .constraintBits)))
                   ∙ added .is
                   ∙ bads-are m ws k;
-              limits = added' .is ∙ limits-are m ws k;
+              constraints = added' .is ∙ constraints-are m ws k;
             }
 
       -- what comes out: 17 and 18 do not apply
@@ -232,6 +232,6 @@ module _ (at : Places) (first next g : ℕ) (work : List ℕ) where
                   fits = k .fits;
                   agrees = k .agrees;
                   result = result m ws k;
-                  kept = take-kept work'' work (at .bads) (kept m ws k) (at .table) (omega (arith, table-ahead m ws k, definitions-ahead m ws k));
+                  kept = take-kept work'' work (at .«bad_bits») (kept m ws k) (at .assigned) (omega (arith, assigned-ahead m ws k, definitions-ahead m ws k));
                 };
           }

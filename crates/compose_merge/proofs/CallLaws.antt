@@ -23,7 +23,7 @@ use Rattle.compose_gather.specs.declared.Totals.{Totals}
 use Rattle.compose_gather.specs.Gathered.{wordTotal, Readable}
 use Rattle.compose_gather.proofs.BlockLaws.{blocks-same}
 use Rattle.compose_gather.proofs.TurnLaws.{total-small}
-use Rattle.compose_layout.specs.declared.Places.{Places}
+use Rattle.compose_layout.specs.declared.Layout.{Layout}
 use Rattle.compose_layout.specs.Laid.{variableTotal, Fitting, Regions, Ready, Some}
 use Rattle.compose_merge.specs.declared.Merged.{Merged}
 use Rattle.compose_merge.specs.Merged.{Mergeable, Done, Refuses}
@@ -52,7 +52,7 @@ module _ (buffer : Bytes) (pairs : List ℕ) (ws : List Sections) (r : Readable 
         r .pairsHold .few,
       )
 
-module _ (mc : AagCounts) (t : Totals) (buffer : Bytes) (pairs work₀ work : List ℕ) (m : Sections) (ws : List Sections) (at : Places) (f : Fitting mc t buffer pairs work₀ m ws) (r : Ready buffer pairs m ws at work) where
+module _ (mc : AagCounts) (t : Totals) (buffer : Bytes) (pairs work₀ work : List ℕ) (m : Sections) (ws : List Sections) (at : Layout) (f : Fitting mc t buffer pairs work₀ m ws) (r : Ready buffer pairs m ws at work) where
   -- what is laid out can be merged
   pub ready-merge : Mergeable mc t at work m ws
   ready-merge =
@@ -73,12 +73,12 @@ module _ (mc : AagCounts) (t : Totals) (buffer : Bytes) (pairs work₀ work : Li
 
 -- ---- after
 
--- the words of the texts stand in front of the table
-words-ahead : (m : Sections) (ws : List Sections) (at : Places) → Regions m ws at → wordTotal ws ≤ at .table
-words-ahead m ws at r = omega (arith, r .latches, r .operands, r .safety, r .constraints, r .inputOrigins, r .latchOrigins, r .table)
+-- the words of the texts stand in front of the assigned numbers
+words-ahead : (m : Sections) (ws : List Sections) (at : Layout) → Regions m ws at → wordTotal ws ≤ at .assigned
+words-ahead m ws at r = omega (arith, r .latches, r .operands, r .safety, r .constraints, r .inputOrigins, r .latchOrigins, r .assigned)
 
 -- what was laid out stays
-pub ready-kept : (buffer : Bytes) (pairs : List ℕ) (m : Sections) (ws : List Sections) (at : Places) (work work' : List ℕ) → take (at .table) work' ≡ take (at .table) work
+pub ready-kept : (buffer : Bytes) (pairs : List ℕ) (m : Sections) (ws : List Sections) (at : Layout) (work work' : List ℕ) → take (at .assigned) work' ≡ take (at .assigned) work
     → length work' ≡ length work → Ready buffer pairs m ws at work → Ready buffer pairs m ws at work'
 ready-kept buffer pairs m ws at work work' e n r =
     record {
@@ -86,7 +86,7 @@ ready-kept buffer pairs m ws at work work' e n r =
       listed =
           record {
             blocks =
-                blocks-same (textsIn buffer pairs) ws work work' (take-kept work' work (at .table) e (wordTotal ws) (words-ahead m ws at (r .regions))) (r .listed .blocks);
+                blocks-same (textsIn buffer pairs) ws work work' (take-kept work' work (at .assigned) e (wordTotal ws) (words-ahead m ws at (r .regions))) (r .listed .blocks);
             stands = stands-kept at work work' m ws (r .regions) e n (r .listed .stands);
           };
       fits = omega (arith, r .fits, n);
@@ -99,7 +99,7 @@ module _ (m : Sections) (ws : List Sections) (right : all (mapsRight m) ws ≡ t
   refused-composes k h = rw right (h (unless 19 (all (λ s. isSome (safety s)) ws) (got (composed m ws))))
 
   -- and where neither applies only 19 is left
-  pub done-composes : (at : Places) (work work' : List ℕ) (c : Merged) → Done m ws at work work' c
+  pub done-composes : (at : Layout) (work work' : List ℕ) (c : Merged) → Done m ws at work work' c
       → compose m ws ≡ unless 19 (all (λ s. isSome (safety s)) ws) (got (composed m ws))
   unfolding compose
   done-composes at work work' c d = rw (right, d .fits, d .agrees) refl

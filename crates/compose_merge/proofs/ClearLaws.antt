@@ -12,7 +12,7 @@ use Rattle.witness_text.specs.declared.AagCounts.{AagCounts}
 use Rattle.witness_read.specs.Sections.{Sections}
 use Rattle.compose_numbers.proofs.CallLaws.{cleared-part}
 use Rattle.compose_gather.specs.declared.Totals.{Totals}
-use Rattle.compose_layout.specs.declared.Places.{Places}
+use Rattle.compose_layout.specs.declared.Layout.{Layout}
 use Rattle.compose_layout.specs.Laid.{Regions, Some}
 use Rattle.compose_merge.specs.declared.Merging.{Merging}
 use Rattle.compose_merge.specs.Merged.{Mergeable, Goes}
@@ -37,36 +37,36 @@ module _ (work work' : List ℕ) (from to : ℕ) (h : from ≤ to) (k : to ≤ l
   now-clean = record { is = ap (λ (w : List ℕ). part w from to) is ∙ cleared-part work from to h k }
 
 -- each of them, and those in front of it stay
-pub regions-cleared : (at : Places) (gates : ℕ) (work leaves heads bits : List ℕ) → Clearable at gates work → leaves ≡ put work (at .table) (zeros (at .vars + 1 - at .table))
-    → heads ≡ put leaves (at .gates) (zeros (at .gates + (gates + 1) - at .gates)) → bits ≡ put heads (at .bads) (zeros (at .end - at .bads)) → Clears at gates work bits
+pub regions-cleared : (at : Layout) (gates : ℕ) (work leaves heads bits : List ℕ) → Clearable at gates work → leaves ≡ put work (at .assigned) (zeros (at .vars + 1 - at .assigned))
+    → heads ≡ put leaves (at .gates) (zeros (at .gates + (gates + 1) - at .gates)) → bits ≡ put heads (at .«bad_bits») (zeros (at .end - at .«bad_bits»)) → Clears at gates work bits
 regions-cleared at gates work leaves heads bits c a b d =
     let tableEnd : ℕ = at .vars + 1 in
     let headsEnd : ℕ = at .gates + (gates + 1) in
-    let i : at .table ≤ tableEnd = omega (arith, c .leaves) in
+    let i : at .assigned ≤ tableEnd = omega (arith, c .leaves) in
     let j : tableEnd ≤ length work = omega (arith, c .heads, c .bits, c .ends, c .fits) in
-    let n : length leaves ≡ length work = length-kept work leaves (at .table) tableEnd i j a in
+    let n : length leaves ≡ length work = length-kept work leaves (at .assigned) tableEnd i j a in
     let k : headsEnd ≤ length leaves = omega (arith, n, c .bits, c .ends, c .fits) in
     let l : at .gates ≤ headsEnd = omega arith in
     let o : length heads ≡ length leaves = length-kept leaves heads (at .gates) headsEnd l k b in
     let p : at .end ≤ length heads = omega (arith, n, o, c .fits) in
     let first : take (at .gates) heads ≡ take (at .gates) leaves = front-kept leaves heads (at .gates) headsEnd l k b in
-    let second : take (at .bads) bits ≡ take (at .bads) heads = front-kept heads bits (at .bads) (at .end) (c .ends) p d in
+    let second : take (at .«bad_bits») bits ≡ take (at .«bad_bits») heads = front-kept heads bits (at .«bad_bits») (at .end) (c .ends) p d in
     record {
       leaves =
-          clean-before heads (at .table) tableEnd
-          (clean-before leaves (at .table) tableEnd (now-clean work leaves (at .table) tableEnd i j a) heads (at .gates) first (c .heads))
-          bits (at .bads) second (omega (arith, c .heads, c .bits));
-      heads = clean-before heads (at .gates) headsEnd (now-clean leaves heads (at .gates) headsEnd l k b) bits (at .bads) second (c .bits);
-      bits = now-clean heads bits (at .bads) (at .end) (c .ends) p d;
+          clean-before heads (at .assigned) tableEnd
+          (clean-before leaves (at .assigned) tableEnd (now-clean work leaves (at .assigned) tableEnd i j a) heads (at .gates) first (c .heads))
+          bits (at .«bad_bits») second (omega (arith, c .heads, c .bits));
+      heads = clean-before heads (at .gates) headsEnd (now-clean leaves heads (at .gates) headsEnd l k b) bits (at .«bad_bits») second (c .bits);
+      bits = now-clean heads bits (at .«bad_bits») (at .end) (c .ends) p d;
       before =
-          take-kept bits heads (at .bads) second (at .table) (omega (arith, c .leaves, c .heads, c .bits))
-          ∙ take-kept heads leaves (at .gates) first (at .table) (omega (arith, c .leaves, c .heads))
-          ∙ front-kept work leaves (at .table) tableEnd i j a;
+          take-kept bits heads (at .«bad_bits») second (at .assigned) (omega (arith, c .leaves, c .heads, c .bits))
+          ∙ take-kept heads leaves (at .gates) first (at .assigned) (omega (arith, c .leaves, c .heads))
+          ∙ front-kept work leaves (at .assigned) tableEnd i j a;
     }
 
 -- ---- the pass
 
-module _ (mc : AagCounts) (t : Totals) (at : Places) (work : List ℕ) where
+module _ (mc : AagCounts) (t : Totals) (at : Layout) (work : List ℕ) where
   -- the regions have their order
   clearable : (m : Sections) (ws : List Sections) → Mergeable mc t at work m ws → Clearable at (t .gates) work
   clearable m ws k =
@@ -74,8 +74,8 @@ module _ (mc : AagCounts) (t : Totals) (at : Places) (work : List ℕ) where
       record {
         leaves = omega (arith, r .vars);
         heads = omega (arith, r .gates);
-        bits = omega (arith, k .totals .gates, r .definitions, r .bads);
-        ends = omega (arith, r .limits, r .end);
+        bits = omega (arith, k .totals .gates, r .definitions, r .badBits);
+        ends = omega (arith, r .constraintBits, r .end);
         fits = k .base .fits;
       }
 

@@ -31,7 +31,7 @@ use Rattle.compose_gates.specs.Latches.{InTurn, metIn, latchFrom, definedAt, de
 use Rattle.compose_gates.proofs.CallLaws.{entries-in-turn, entries-met, composed-words}
 use Rattle.compose_numbers.proofs.CallLaws.{each-word}
 use Rattle.compose_gather.specs.declared.Totals.{Totals}
-use Rattle.compose_layout.specs.declared.Places.{Places}
+use Rattle.compose_layout.specs.declared.Layout.{Layout}
 use Rattle.compose_layout.specs.Laid.{Has, variableTotal, Regions, Some}
 use Rattle.compose_layout.proofs.HasLaws.{has-put}
 use Rattle.compose_merge.specs.declared.Merging.{Merging}
@@ -81,7 +81,7 @@ definitions-long m ws =
       latch-entries-length m 0 ws,
     )
 
-module _ (t : Totals) (at : Places) (first next g : ℕ) (work : List ℕ) where
+module _ (t : Totals) (at : Layout) (first next g : ℕ) (work : List ℕ) where
   -- where the composed variables of the latches stand
   abbrev own : ℕ
   own = at .vars + 1 + t .inputs
@@ -117,12 +117,12 @@ module _ (t : Totals) (at : Places) (first next g : ℕ) (work : List ℕ) where
 
     -- the words up to the end of the definitions
     room : at .definitions + 2 * totalOf latchCount ws ≤ at .end
-    room = omega (arith, places .bads, places .limits, places .end)
+    room = omega (arith, places .badBits, places .constraintBits, places .end)
 
     -- the words of the latches end before the definitions
     ahead : at .latches + 2 * t .latches ≤ at .vars
     ahead =
-        omega (arith, k .totals .latches, places .operands, places .safety, places .constraints, places .inputOrigins, places .latchOrigins, places .table, places .vars)
+        omega (arith, k .totals .latches, places .operands, places .safety, places .constraints, places .inputOrigins, places .latchOrigins, places .assigned, places .vars)
 
     -- each names a joint variable
     named : (i : ℕ) → i < 2 * t .latches → Joint ws (getD work (at .latches + i) 0)
@@ -213,9 +213,9 @@ module _ (t : Totals) (at : Places) (first next g : ℕ) (work : List ℕ) where
         ahead-kept : take (at .definitions) work' ≡ take (at .definitions) work
         ahead-kept = ap (take (at .definitions)) is ∙ put-take work (at .definitions) (definitionWords m ws) (omega (arith, fits)) (at .definitions) (omega arith)
 
-        -- nothing in front of the table is written
-        front : take (at .table) work' ≡ take (at .table) work
-        front = take-kept work' work (at .definitions) ahead-kept (at .table) (omega (arith, places m ws k .vars, places m ws k .gates, places m ws k .definitions))
+        -- nothing in front of the assigned numbers is written
+        front : take (at .assigned) work' ≡ take (at .assigned) work
+        front = take-kept work' work (at .definitions) ahead-kept (at .assigned) (omega (arith, places m ws k .vars, places m ws k .gates, places m ws k .definitions))
 
         -- the next stage
         defined : LatchesDefined at first next g work' m ws
@@ -230,10 +230,10 @@ module _ (t : Totals) (at : Places) (first next g : ℕ) (work : List ℕ) where
               shared = shared-kept at work work' m ws (places m ws k) ahead-kept same (k .shared);
               definitions = subst (λ (w : List ℕ). Has w (at .definitions) (definitionWords m ws)) (sym is) (has-put work (at .definitions) (definitionWords m ws) fits);
               bits =
-                  clean-behind work (at .bads) (at .end) (k .bits) work' (at .bads) (at .bads)
-                  (ap (drop (at .bads)) is
-                  ∙ put-drop-end work (at .definitions) (definitionWords m ws) (omega (arith, fits)) (at .bads) (omega (arith, definitions-long m ws, places m ws k .bads)))
-                  (omega arith) (omega arith) (omega (arith, places m ws k .limits, places m ws k .end));
+                  clean-behind work (at .«bad_bits») (at .end) (k .bits) work' (at .«bad_bits») (at .«bad_bits»)
+                  (ap (drop (at .«bad_bits»)) is
+                  ∙ put-drop-end work (at .definitions) (definitionWords m ws) (omega (arith, fits)) (at .«bad_bits») (omega (arith, definitions-long m ws, places m ws k .badBits)))
+                  (omega arith) (omega arith) (omega (arith, places m ws k .constraintBits, places m ws k .end));
             }
 
       -- the pass as a step

@@ -26,7 +26,7 @@ use Rattle.compose_gates.specs.declared.SharedGates.{SharedGates}
 use Rattle.compose_gates.specs.declared.SharedGates.the-variants as answer
 use Rattle.compose_gates.specs.Linked.{tableEnd, Sharable, sharedIn, Linked, Shares}
 use Rattle.compose_gather.specs.declared.Totals.{Totals}
-use Rattle.compose_layout.specs.declared.Places.{Places}
+use Rattle.compose_layout.specs.declared.Layout.{Layout}
 use Rattle.compose_layout.specs.Laid.{Regions, Some}
 use Rattle.compose_layout.proofs.HasLaws.{has-same}
 use Rattle.compose_merge.specs.declared.Merging.{Merging}
@@ -48,7 +48,7 @@ all-true : (b : Bool) (n g : ℕ) → answer.All g ≡ cond b (answer.All n) ans
 all-true true n g e = let h : g ≡ n = cc in (refl, h)
 all-true false n g e = absurd (let z : _≡_ {A = ℕ} 0 1 = cc in omega arith)
 
-module _ (t : Totals) (at : Places) (first next : ℕ) (work : List ℕ) where
+module _ (t : Totals) (at : Layout) (first next : ℕ) (work : List ℕ) where
   -- how many joint variables are known before the gates
   abbrev known : ℕ
   known = 1 + t .inputs + t .latches
@@ -91,16 +91,16 @@ module _ (t : Totals) (at : Places) (first next : ℕ) (work : List ℕ) where
         let e = joint-earlier ws (plan .range) i (omega (arith, k .totals .gates)) in
         (omega (arith, left, e .0, k .totals .inputs, k .totals .latches), omega (arith, right, e .1, k .totals .inputs, k .totals .latches))
 
-    -- the words up to the end of the table
+    -- the words up to the end of the assigned numbers
     room : at .gates + (4 * totalOf gateCount ws + 1) ≤ at .end
-    room = omega (arith, places .definitions, places .bads, places .limits, places .end)
+    room = omega (arith, places .definitions, places .badBits, places .constraintBits, places .end)
 
     -- it holds of the stage
     can : Can
     can =
         record {
           first =
-              omega (arith, k .totals .gates, places .safety, places .constraints, places .inputOrigins, places .latchOrigins, places .table, places .vars);
+              omega (arith, k .totals .gates, places .safety, places .constraints, places .inputOrigins, places .latchOrigins, places .assigned, places .vars);
           second = omega (arith, k .totals .inputs, k .totals .latches, k .totals .gates, places .gates);
           third = omega (arith, k .totals .gates, room, k .base .fits);
           few = omega (arith, leaves-are, leaf-count-most m ws, k .totals .gates, plan .few);
@@ -158,15 +158,15 @@ module _ (t : Totals) (at : Places) (first next : ℕ) (work : List ℕ) where
         linked : Linked (t .gates) (at .vars) known (at .gates) work (jointShared m ws) work'
         linked = subst (λ (s : Shared). Linked (t .gates) (at .vars) known (at .gates) work s work') (given m ws k) (post .words (answered .0))
 
-        -- nothing in front of the table is written
-        front : take (at .table) work' ≡ take (at .table) work
-        front = take-kept work' work (at .vars + known) (linked .before) (at .table) (omega (arith, places m ws k .vars))
+        -- nothing in front of the assigned numbers is written
+        front : take (at .assigned) work' ≡ take (at .assigned) work
+        front = take-kept work' work (at .vars + known) (linked .before) (at .assigned) (omega (arith, places m ws k .vars))
 
         -- there is room for all composed variables
         vars-end : at .vars + (known + t .gates) ≤ length work'
         vars-end = omega (arith, same, can m ws k .second, can m ws k .third)
 
-        -- the table has the keys of the composed gates
+        -- the assigned numbers has the keys of the composed gates
         keys : Held (totalOf gateCount ws + 1) (map keyOf (composedGates m ws)) (part work' (at .gates) (at .gates + (4 * totalOf gateCount ws + 1)))
         keys =
             subst (λ (x : ℕ). Held (x + 1) (map keyOf (composedGates m ws)) (part work' (at .gates) (at .gates + (4 * x + 1)))) (k .totals .gates)
@@ -204,8 +204,8 @@ module _ (t : Totals) (at : Places) (first next : ℕ) (work : List ℕ) where
               fits = sym (test-is m ws k) ∙ answered .0;
               shared = shared;
               bits =
-                  clean-behind work (at .bads) (at .end) (k .bits) work' (tableEnd (at .gates) (t .gates)) (at .bads) (linked .behind)
-                  (omega (arith, places m ws k .definitions, places m ws k .bads, k .totals .gates)) (omega arith) (omega (arith, places m ws k .limits, places m ws k .end));
+                  clean-behind work (at .«bad_bits») (at .end) (k .bits) work' (tableEnd (at .gates) (t .gates)) (at .«bad_bits») (linked .behind)
+                  (omega (arith, places m ws k .definitions, places m ws k .badBits, k .totals .gates)) (omega arith) (omega (arith, places m ws k .constraintBits, places m ws k .end));
             }
 
       -- the pass as a step

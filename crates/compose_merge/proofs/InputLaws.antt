@@ -15,7 +15,7 @@ use Rattle.compose_joint.proofs.NumberLaws.{input-numbers, input-next}
 use Rattle.compose_numbers.specs.Marked.{CanNumber, Numbered, numbersIn}
 use Rattle.compose_numbers.proofs.CallLaws.{numbers-stored, numbered-before, numbered-between, numbered-behind}
 use Rattle.compose_gather.specs.declared.Totals.{Totals}
-use Rattle.compose_layout.specs.declared.Places.{Places}
+use Rattle.compose_layout.specs.declared.Layout.{Layout}
 use Rattle.compose_layout.specs.Laid.{Regions, Some}
 use Rattle.compose_merge.specs.declared.Merging.{Merging}
 use Rattle.compose_merge.specs.Merged.{Plan, Goes, inputNumbers}
@@ -24,10 +24,10 @@ use Rattle.compose_merge.proofs.WordLaws.{has-part, clean-part, clean-k
 use Rattle.compose_merge.proofs.BaseLaws.{base-kept, Step, step-some, step-goes}
 use Rattle.compose_merge.proofs.LeafLaws.{inputs-long, leaves-known, leaves-numbers}
 
-module _ (mc : AagCounts) (t : Totals) (at : Places) (work : List ℕ) where
+module _ (mc : AagCounts) (t : Totals) (at : Layout) (work : List ℕ) where
   -- what is asked for
   abbrev Can : Type 0
-  Can = CanNumber (at .«input_origins») (t .inputs) (at .table) (mc .inputs) 0 (at .vars + 1) 1 work
+  Can = CanNumber (at .«input_origins») (t .inputs) (at .assigned) (mc .inputs) 0 (at .vars + 1) 1 work
 
   module _ (m : Sections) (ws : List Sections) (k : Cleared mc t at work m ws) where
     -- what does not change
@@ -44,13 +44,13 @@ module _ (mc : AagCounts) (t : Totals) (at : Places) (work : List ℕ) where
 
     -- the words up to the end of the numbers
     room : at .vars + 1 + totalOf inputCount ws ≤ at .end
-    room = omega (arith, places .gates, places .definitions, places .bads, places .limits, places .end)
+    room = omega (arith, places .gates, places .definitions, places .badBits, places .constraintBits, places .end)
 
     -- it holds of the stage
     can : Can
     can =
         record {
-          first = omega (arith, k .totals .inputs, places .latchOrigins, places .table);
+          first = omega (arith, k .totals .inputs, places .latchOrigins, places .assigned);
           second = omega (arith, k .model .inputs, places .vars);
           third = omega (arith, k .totals .inputs, room, k .base .fits);
           few = omega (arith, k .totals .inputs, plan .few);
@@ -58,10 +58,10 @@ module _ (mc : AagCounts) (t : Totals) (at : Places) (work : List ℕ) where
         }
 
     -- the numbers that are given
-    given : numbersIn (at .«input_origins») (t .inputs) (at .table) (mc .inputs) 0 1 work ≡ numberAll 0 1 (origins leaf.Inputs m ws) (zeros (length (m .inputs)))
+    given : numbersIn (at .«input_origins») (t .inputs) (at .assigned) (mc .inputs) 0 1 work ≡ numberAll 0 1 (origins leaf.Inputs m ws) (zeros (length (m .inputs)))
     given =
-        leaves-numbers leaf.Inputs m ws work (at .«input_origins») (t .inputs) 0 (mc .inputs) (k .base .stands .inputOrigins) counted refl (k .model .inputs) (at .table) 1
-        (clean-part work (at .table) (at .vars + 1) (k .leaves) (at .table) (mc .inputs) (omega arith) (omega (arith, k .model .inputs, places .vars)))
+        leaves-numbers leaf.Inputs m ws work (at .«input_origins») (t .inputs) 0 (mc .inputs) (k .base .stands .inputOrigins) counted refl (k .model .inputs) (at .assigned) 1
+        (clean-part work (at .assigned) (at .vars + 1) (k .leaves) (at .assigned) (mc .inputs) (omega arith) (omega (arith, k .model .inputs, places .vars)))
 
   -- as the code asks for it
   pub inputs-can : Some (Cleared mc t at work) → Can
@@ -71,22 +71,22 @@ module _ (mc : AagCounts) (t : Totals) (at : Places) (work : List ℕ) where
   pub inputs-own : Some (Cleared mc t at work) → at .vars + 1 ≤ length work
   inputs-own s = omega (arith, room (s .m) (s .ws) (s .holds), s .holds .base .fits)
 
-  module _ (work' : List ℕ) (n : ℕ) (same : length work' ≡ length work) (post : Numbered (at .«input_origins») (t .inputs) (at .table) (mc .inputs) 0 (at .vars + 1) 1 work work' n) where
+  module _ (work' : List ℕ) (n : ℕ) (same : length work' ≡ length work) (post : Numbered (at .«input_origins») (t .inputs) (at .assigned) (mc .inputs) 0 (at .vars + 1) 1 work work' n) where
     module _ (m : Sections) (ws : List Sections) (k : Cleared mc t at work m ws) where
-      -- nothing in front of the table is written
-      front : take (at .table) work' ≡ take (at .table) work
-      front = numbered-before (at .«input_origins») (t .inputs) (at .table) (mc .inputs) 0 (at .vars + 1) 1 work work' n (can m ws k) post
+      -- nothing in front of the assigned numbers is written
+      front : take (at .assigned) work' ≡ take (at .assigned) work
+      front = numbered-before (at .«input_origins») (t .inputs) (at .assigned) (mc .inputs) 0 (at .vars + 1) 1 work work' n (can m ws k) post
 
       -- the numbers stand in their place
       stored : part work' (at .vars + 1) (at .vars + 1 + t .inputs) ≡ inputNumbers m ws
       stored =
-          numbers-stored (at .«input_origins») (t .inputs) (at .table) (mc .inputs) 0 (at .vars + 1) 1 work work' n (can m ws k) post
+          numbers-stored (at .«input_origins») (t .inputs) (at .assigned) (mc .inputs) 0 (at .vars + 1) 1 work work' n (can m ws k) post
           ∙ ap (λ (x : Numbers). x .numbers) (given m ws k)
           ∙ input-numbers m ws
 
       -- nothing behind the numbers is written
       rest : drop (at .vars + 1 + t .inputs) work' ≡ drop (at .vars + 1 + t .inputs) work
-      rest = numbered-behind (at .«input_origins») (t .inputs) (at .table) (mc .inputs) 0 (at .vars + 1) 1 work work' n (can m ws k) post
+      rest = numbered-behind (at .«input_origins») (t .inputs) (at .assigned) (mc .inputs) 0 (at .vars + 1) 1 work work' n (can m ws k) post
 
       -- the next stage
       numbered : InputsNumbered mc t at n work' m ws
@@ -99,17 +99,17 @@ module _ (mc : AagCounts) (t : Totals) (at : Places) (work : List ℕ) where
             inputs =
                 has-part work' (at .vars + 1) (t .inputs) (inputNumbers m ws) (k .totals .inputs ∙ sym (inputs-long m ws)) (omega (arith, same, can m ws k .third)) stored;
             between =
-                clean-kept work (at .table) (at .vars + 1) (k .leaves) work' (at .table + length (m .inputs)) (at .vars + 1)
+                clean-kept work (at .assigned) (at .vars + 1) (k .leaves) work' (at .assigned + length (m .inputs)) (at .vars + 1)
                 (omega arith) (omega (arith, places m ws k .vars)) (omega arith)
-                (numbered-between (at .«input_origins») (t .inputs) (at .table) (mc .inputs) 0 (at .vars + 1) 1 work work' n (can m ws k) post
-                (at .table + length (m .inputs)) (at .vars + 1) (omega (arith, k .model .inputs)) (omega arith));
+                (numbered-between (at .«input_origins») (t .inputs) (at .assigned) (mc .inputs) 0 (at .vars + 1) 1 work work' n (can m ws k) post
+                (at .assigned + length (m .inputs)) (at .vars + 1) (omega (arith, k .model .inputs)) (omega arith));
             heads =
                 clean-behind work (at .gates) (at .gates + (totalOf gateCount ws + 1)) (k .heads) work' (at .vars + 1 + t .inputs) (at .gates) rest
                 (omega (arith, k .totals .inputs, places m ws k .gates)) (omega arith) (omega arith);
             bits =
-                clean-behind work (at .bads) (at .end) (k .bits) work' (at .vars + 1 + t .inputs) (at .bads) rest
-                (omega (arith, k .totals .inputs, places m ws k .gates, places m ws k .definitions, places m ws k .bads)) (omega arith)
-                (omega (arith, places m ws k .limits, places m ws k .end));
+                clean-behind work (at .«bad_bits») (at .end) (k .bits) work' (at .vars + 1 + t .inputs) (at .«bad_bits») rest
+                (omega (arith, k .totals .inputs, places m ws k .gates, places m ws k .definitions, places m ws k .badBits)) (omega arith)
+                (omega (arith, places m ws k .constraintBits, places m ws k .end));
           }
 
     -- the pass as a step

@@ -20,7 +20,7 @@ use Rattle.compose_joint.proofs.AmountLaws.{leaf-count-most, joint-literals-mos
 use Rattle.compose_joint.proofs.GateLaws.{joint-vars-most, joint-vars-length, composed-gates-most}
 use Rattle.compose_numbers.specs.Marked.{literalsAt}
 use Rattle.compose_numbers.proofs.CallLaws.{literals-part}
-use Rattle.compose_layout.specs.declared.Places.{Places}
+use Rattle.compose_layout.specs.declared.Layout.{Layout}
 use Rattle.compose_layout.specs.Laid.{Has, variableTotal, Regions}
 use Rattle.compose_layout.proofs.HasLaws.{has-same}
 use Rattle.compose_merge.specs.Merged.{Base, inputNumbers, latchNumbers}
@@ -32,7 +32,7 @@ use Rattle.compose_merge.proofs.LeafLaws.{inputs-long, latches-long}
 abbrev pub Joint : List Sections → ℕ → Type 0
 Joint ws l = l ≤ 2 * variableTotal ws + 1
 
-module _ (at : Places) (work : List ℕ) (m : Sections) (ws : List Sections) (b : Base at work m ws) (s : Shared at work m ws) where
+module _ (at : Layout) (work : List ℕ) (m : Sections) (ws : List Sections) (b : Base at work m ws) (s : Shared at work m ws) where
   -- no composed variable is larger than the number of joint ones
   most : leafCount m ws + length (composedGates m ws) ≤ variableTotal ws
   most = omega (arith, leaf-count-most m ws, composed-gates-most m ws (b .plan .range))
@@ -70,7 +70,7 @@ module _ (at : Places) (work : List ℕ) (m : Sections) (ws : List Sections) (b 
         ∙ ap₂ (λ (vs ls : List ℕ). map (translate vs) ls) vars-are (part-has work from (joint (listOf kind) ws) h count n)
 
 -- what is shared stays where nothing in front of the definitions is written
-pub shared-kept : (at : Places) (work work' : List ℕ) (m : Sections) (ws : List Sections) → Regions m ws at → take (at .definitions) work' ≡ take (at .definitions) work → length work' ≡ length work
+pub shared-kept : (at : Layout) (work work' : List ℕ) (m : Sections) (ws : List Sections) → Regions m ws at → take (at .definitions) work' ≡ take (at .definitions) work → length work' ≡ length work
     → Shared at work m ws → Shared at work' m ws
 shared-kept at work work' m ws r e n s =
     record {

@@ -17,7 +17,7 @@ use Rattle.compose_joint.proofs.NumberLaws.{latch-numbers, latch-next}
 use Rattle.compose_numbers.specs.Marked.{CanNumber, Numbered, numbersIn}
 use Rattle.compose_numbers.proofs.CallLaws.{numbers-stored, numbered-before, numbered-between, numbered-behind}
 use Rattle.compose_gather.specs.declared.Totals.{Totals}
-use Rattle.compose_layout.specs.declared.Places.{Places}
+use Rattle.compose_layout.specs.declared.Layout.{Layout}
 use Rattle.compose_layout.specs.Laid.{Has, Regions, Some}
 use Rattle.compose_merge.specs.declared.Merging.{Merging}
 use Rattle.compose_merge.specs.Merged.{Plan, Goes, inputNumbers, latchNumbers}
@@ -26,10 +26,10 @@ use Rattle.compose_merge.proofs.WordLaws.{has-part, has-join, clean-par
 use Rattle.compose_merge.proofs.BaseLaws.{base-kept, Step, step-some, step-goes}
 use Rattle.compose_merge.proofs.LeafLaws.{inputs-long, latches-long, leaves-known, leaves-numbers}
 
-module _ (mc : AagCounts) (t : Totals) (at : Places) (first : ℕ) (work : List ℕ) where
+module _ (mc : AagCounts) (t : Totals) (at : Layout) (first : ℕ) (work : List ℕ) where
   -- what is asked for
   abbrev Can : Type 0
-  Can = CanNumber (at .«latch_origins») (t .latches) (at .table + mc .inputs) (mc .latches) (mc .inputs) (at .vars + 1 + t .inputs) first work
+  Can = CanNumber (at .«latch_origins») (t .latches) (at .assigned + mc .inputs) (mc .latches) (mc .inputs) (at .vars + 1 + t .inputs) first work
 
   module _ (m : Sections) (ws : List Sections) (k : InputsNumbered mc t at first work m ws) where
     -- what does not change
@@ -46,13 +46,13 @@ module _ (mc : AagCounts) (t : Totals) (at : Places) (first : ℕ) (work : List 
 
     -- the words up to the end of the numbers
     room : at .vars + 1 + totalOf inputCount ws + totalOf latchCount ws ≤ at .end
-    room = omega (arith, places .gates, places .definitions, places .bads, places .limits, places .end)
+    room = omega (arith, places .gates, places .definitions, places .badBits, places .constraintBits, places .end)
 
     -- it holds of the stage
     can : Can
     can =
         record {
-          first = omega (arith, k .totals .latches, places .table);
+          first = omega (arith, k .totals .latches, places .assigned);
           second = omega (arith, k .model .inputs, k .model .latches, places .vars);
           third = omega (arith, k .totals .inputs, k .totals .latches, room, k .base .fits);
           few = omega (arith, k .totals .latches, plan .few, k .next, leaf-count-most m ws);
@@ -61,18 +61,18 @@ module _ (mc : AagCounts) (t : Totals) (at : Places) (first : ℕ) (work : List 
               (k .base .stands .latchOrigins) counted (k .model .inputs) (k .model .latches);
         }
 
-    -- the table is empty
-    empty : part work (at .table + mc .inputs) (at .table + mc .inputs + mc .latches) ≡ zeros (mc .latches)
+    -- the assigned numbers is empty
+    empty : part work (at .assigned + mc .inputs) (at .assigned + mc .inputs + mc .latches) ≡ zeros (mc .latches)
     empty =
-        clean-part work (at .table + length (m .inputs)) (at .vars + 1) (k .between) (at .table + mc .inputs) (mc .latches)
+        clean-part work (at .assigned + length (m .inputs)) (at .vars + 1) (k .between) (at .assigned + mc .inputs) (mc .latches)
         (omega (arith, k .model .inputs)) (omega (arith, k .model .inputs, k .model .latches, places .vars))
 
     -- the numbers that are given
-    given : numbersIn (at .«latch_origins») (t .latches) (at .table + mc .inputs) (mc .latches) (mc .inputs) first work
+    given : numbersIn (at .«latch_origins») (t .latches) (at .assigned + mc .inputs) (mc .latches) (mc .inputs) first work
         ≡ numberAll (length (m .inputs)) (suc (length (inputFirsts m ws))) (origins leaf.Latches m ws) (zeros (length (m .latches)))
     given =
         leaves-numbers leaf.Latches m ws work (at .«latch_origins») (t .latches) (mc .inputs) (mc .latches) (k .base .stands .latchOrigins) counted (k .model .inputs) (k .model .latches)
-        (at .table + mc .inputs) first empty
+        (at .assigned + mc .inputs) first empty
         ∙ ap (λ (n : ℕ). numberAll (length (m .inputs)) n (origins leaf.Latches m ws) (zeros (length (m .latches)))) (k .next)
 
   -- as the code asks for it
@@ -83,25 +83,25 @@ module _ (mc : AagCounts) (t : Totals) (at : Places) (first : ℕ) (work : List 
   pub latches-own : Some (InputsNumbered mc t at first work) → at .vars + 1 + t .inputs ≤ length work
   latches-own s = omega (arith, can (s .m) (s .ws) (s .holds) .third)
 
-  module _ (work' : List ℕ) (next : ℕ) (same : length work' ≡ length work) (post : Numbered (at .«latch_origins») (t .latches) (at .table + mc .inputs) (mc .latches) (mc .inputs) (at .vars + 1 + t .inputs) first work work' next) where
+  module _ (work' : List ℕ) (next : ℕ) (same : length work' ≡ length work) (post : Numbered (at .«latch_origins») (t .latches) (at .assigned + mc .inputs) (mc .latches) (mc .inputs) (at .vars + 1 + t .inputs) first work work' next) where
     module _ (m : Sections) (ws : List Sections) (k : InputsNumbered mc t at first work m ws) where
-      -- nothing in front of the table is written
-      front : take (at .table) work' ≡ take (at .table) work
+      -- nothing in front of the assigned numbers is written
+      front : take (at .assigned) work' ≡ take (at .assigned) work
       front =
-          take-kept work' work (at .table + mc .inputs)
-          (numbered-before (at .«latch_origins») (t .latches) (at .table + mc .inputs) (mc .latches) (mc .inputs) (at .vars + 1 + t .inputs) first work work' next (can m ws k) post)
-          (at .table) (omega arith)
+          take-kept work' work (at .assigned + mc .inputs)
+          (numbered-before (at .«latch_origins») (t .latches) (at .assigned + mc .inputs) (mc .latches) (mc .inputs) (at .vars + 1 + t .inputs) first work work' next (can m ws k) post)
+          (at .assigned) (omega arith)
 
-      -- what stands between the table and the numbers
+      -- what stands between the assigned numbers and the numbers
       between : (a e : ℕ) → at .vars ≤ a → e ≤ at .vars + 1 + t .inputs → part work' a e ≡ part work a e
       between a e h i =
-          numbered-between (at .«latch_origins») (t .latches) (at .table + mc .inputs) (mc .latches) (mc .inputs) (at .vars + 1 + t .inputs) first work work' next (can m ws k) post
+          numbered-between (at .«latch_origins») (t .latches) (at .assigned + mc .inputs) (mc .latches) (mc .inputs) (at .vars + 1 + t .inputs) first work work' next (can m ws k) post
           a e (omega (arith, k .model .inputs, k .model .latches, places m ws k .vars)) i
 
       -- nothing behind the numbers is written
       rest : drop (at .vars + 1 + t .inputs + t .latches) work' ≡ drop (at .vars + 1 + t .inputs + t .latches) work
       rest =
-          numbered-behind (at .«latch_origins») (t .latches) (at .table + mc .inputs) (mc .latches) (mc .inputs) (at .vars + 1 + t .inputs) first work work' next (can m ws k) post
+          numbered-behind (at .«latch_origins») (t .latches) (at .assigned + mc .inputs) (mc .latches) (mc .inputs) (at .vars + 1 + t .inputs) first work work' next (can m ws k) post
 
       -- there is room for the numbers
       size : at .vars + 1 + t .inputs + t .latches ≤ length work'
@@ -112,7 +112,7 @@ module _ (mc : AagCounts) (t : Totals) (at : Places) (first : ℕ) (work : List 
       constant =
           has-part work' (at .vars) 1 (0 ∷ []) refl (omega (arith, size))
           (between (at .vars) (at .vars + 1) (omega arith) (omega arith)
-          ∙ clean-part work (at .table + length (m .inputs)) (at .vars + 1) (k .between) (at .vars) 1 (omega (arith, places m ws k .vars)) (omega arith))
+          ∙ clean-part work (at .assigned + length (m .inputs)) (at .vars + 1) (k .between) (at .vars) 1 (omega (arith, places m ws k .vars)) (omega arith))
 
       -- the numbers of inputs stay
       inputs : Has work' (at .vars + 1) (inputNumbers m ws)
@@ -124,7 +124,7 @@ module _ (mc : AagCounts) (t : Totals) (at : Places) (first : ℕ) (work : List 
       latches : Has work' (at .vars + 1 + t .inputs) (latchNumbers m ws)
       latches =
           has-part work' (at .vars + 1 + t .inputs) (t .latches) (latchNumbers m ws) (k .totals .latches ∙ sym (latches-long m ws)) size
-          (numbers-stored (at .«latch_origins») (t .latches) (at .table + mc .inputs) (mc .latches) (mc .inputs) (at .vars + 1 + t .inputs) first work work' next (can m ws k) post
+          (numbers-stored (at .«latch_origins») (t .latches) (at .assigned + mc .inputs) (mc .latches) (mc .inputs) (at .vars + 1 + t .inputs) first work work' next (can m ws k) post
           ∙ ap (λ (x : Numbers). x .numbers) (given m ws k)
           ∙ latch-numbers m ws)
 
@@ -144,9 +144,9 @@ module _ (mc : AagCounts) (t : Totals) (at : Places) (first : ℕ) (work : List 
                 clean-behind work (at .gates) (at .gates + (totalOf gateCount ws + 1)) (k .heads) work' (at .vars + 1 + t .inputs + t .latches) (at .gates) rest
                 (omega (arith, k .totals .inputs, k .totals .latches, places m ws k .gates)) (omega arith) (omega arith);
             bits =
-                clean-behind work (at .bads) (at .end) (k .bits) work' (at .vars + 1 + t .inputs + t .latches) (at .bads) rest
-                (omega (arith, k .totals .inputs, k .totals .latches, places m ws k .gates, places m ws k .definitions, places m ws k .bads)) (omega arith)
-                (omega (arith, places m ws k .limits, places m ws k .end));
+                clean-behind work (at .«bad_bits») (at .end) (k .bits) work' (at .vars + 1 + t .inputs + t .latches) (at .«bad_bits») rest
+                (omega (arith, k .totals .inputs, k .totals .latches, places m ws k .gates, places m ws k .definitions, places m ws k .badBits)) (omega arith)
+                (omega (arith, places m ws k .constraintBits, places m ws k .end));
           }
 
     -- the pass as a step

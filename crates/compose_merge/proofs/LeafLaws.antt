@@ -17,7 +17,7 @@ use Rattle.compose_joint.specs.Joint.{totalOf, inputCount, latchCount, modelOf,
 use Rattle.compose_joint.specs.Numbers.{numberAll}
 use Rattle.compose_joint.proofs.AmountLaws.{input-entries-length, latch-entries-length}
 use Rattle.compose_joint.proofs.OriginLaws.{OfKind, origins-within}
-use Rattle.compose_numbers.specs.Marked.{InTable, numbersIn}
+use Rattle.compose_numbers.specs.Marked.{HasSlot, numbersIn}
 use Rattle.compose_numbers.proofs.CallLaws.{each-word}
 use Rattle.compose_layout.specs.Laid.{Has}
 use Rattle.compose_merge.specs.Merged.{inputNumbers, latchNumbers}
@@ -31,23 +31,23 @@ inputs-long m ws = length-map (inputEntries m 0 ws) (numbered 1 (inputFirsts m w
 pub latches-long : (m : Sections) (ws : List Sections) → length (latchNumbers m ws) ≡ totalOf latchCount ws
 latches-long m ws = length-map (latchEntries m 0 ws) (numbered (suc (length (inputFirsts m ws))) (latchFirsts m ws)) ∙ latch-entries-length m 0 ws
 
--- an even origin word has a word in the table
-kind-in-table : (p : ModelLeaves) (x : ℕ) → (odd x ≡ false → OfKind p x) → InTable (p .before) (p .count) x
-kind-in-table p x h e = let k = h e in (k .above, omega (arith, k .slot, k .above))
+-- an even origin word has a word in the assigned numbers
+kind-has-slot : (p : ModelLeaves) (x : ℕ) → (odd x ≡ false → OfKind p x) → HasSlot (p .before) (p .count) x
+kind-has-slot p x h e = let k = h e in (k .above, omega (arith, k .slot, k .above))
 
 module _ (kind : Leaves) (m : Sections) (ws : List Sections) (work : List ℕ) (a n before size : ℕ) (h : Has work a (origins kind m ws)) (e : n ≡ length (origins kind m ws)) (f : before ≡ modelOf kind m .before) (g : size ≡ modelOf kind m .count) where
   -- so have those that stand in the work words
-  pub leaves-known : (i : ℕ) → i < n → InTable before size (getD work (a + i) 0)
+  pub leaves-known : (i : ℕ) → i < n → HasSlot before size (getD work (a + i) 0)
   leaves-known =
-      each-word (InTable before size) work a n (omega (arith, h .room))
-      (subst (Each (InTable before size)) (sym (part-has work a (origins kind m ws) h n e))
+      each-word (HasSlot before size) work a n (omega (arith, h .room))
+      (subst (Each (HasSlot before size)) (sym (part-has work a (origins kind m ws) h n e))
       (rw (f, g)
-      (each-so (λ x. odd x ≡ false → OfKind (modelOf kind m) x) (InTable (modelOf kind m .before) (modelOf kind m .count)) (kind-in-table (modelOf kind m)) (origins kind m ws)
+      (each-so (λ x. odd x ≡ false → OfKind (modelOf kind m) x) (HasSlot (modelOf kind m .before) (modelOf kind m .count)) (kind-has-slot (modelOf kind m)) (origins kind m ws)
       (origins-within kind m ws))))
 
-  -- their numbers, where the table is empty
-  pub leaves-numbers : (table next : ℕ) → part work table (table + size) ≡ zeros size
-      → numbersIn a n table size before next work ≡ numberAll (modelOf kind m .before) next (origins kind m ws) (zeros (modelOf kind m .count))
-  leaves-numbers table next c =
+  -- their numbers, where the assigned numbers is empty
+  pub leaves-numbers : (assigned next : ℕ) → part work assigned (assigned + size) ≡ zeros size
+      → numbersIn a n assigned size before next work ≡ numberAll (modelOf kind m .before) next (origins kind m ws) (zeros (modelOf kind m .count))
+  leaves-numbers assigned next c =
       ap₂ (λ (xs tb : List ℕ). numberAll before next xs tb) (part-has work a (origins kind m ws) h n e) (c ∙ ap zeros g)
       ∙ ap (λ (b : ℕ). numberAll b next (origins kind m ws) (zeros (modelOf kind m .count))) f

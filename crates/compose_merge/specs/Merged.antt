@@ -22,7 +22,7 @@ use Rattle.compose_joint.specs.declared.Leaves.the-variants as leaf
 use Rattle.compose_joint.specs.Joint.{totalOf, inputCount, gateCount}
 use Rattle.key_table.specs.Table.{Held}
 use Rattle.compose_gather.specs.declared.Totals.{Totals}
-use Rattle.compose_layout.specs.declared.Places.{Places}
+use Rattle.compose_layout.specs.declared.Layout.{Layout}
 use Rattle.compose_layout.specs.Laid.{Has, variableTotal, Regions, Summed, Stands}
 use Rattle.compose_merge.specs.declared.Merged.{Merged}
 use Rattle.compose_merge.specs.declared.Merging.{Merging}
@@ -31,13 +31,13 @@ use Rattle.compose_merge.specs.declared.Merging.the-variants as merging
 -- ---- before
 
 -- the regions of witnesses in range that are not too many
-pub record Plan (at : Places) (m : Sections) (ws : List Sections) : Type 0 where
+pub record Plan (at : Layout) (m : Sections) (ws : List Sections) : Type 0 where
   pub regions : Regions m ws at
   pub range : Each InRange ws
   pub few : variableTotal ws ≤ 128000000
 
 -- all that stays as it is
-pub record Base (at : Places) (work : List ℕ) (m : Sections) (ws : List Sections) : Type 0 where
+pub record Base (at : Layout) (work : List ℕ) (m : Sections) (ws : List Sections) : Type 0 where
   pub plan : Plan at m ws
   pub fits : at .end ≤ length work
   pub stands : Stands at work m ws
@@ -48,7 +48,7 @@ pub record Model (mc : AagCounts) (m : Sections) : Type 0 where
   pub latches : mc .latches ≡ length (m .latches)
 
 -- the model and the witnesses that can be merged
-pub record Mergeable (mc : AagCounts) (t : Totals) (at : Places) (work : List ℕ) (m : Sections) (ws : List Sections) : Type 0 where
+pub record Mergeable (mc : AagCounts) (t : Totals) (at : Layout) (work : List ℕ) (m : Sections) (ws : List Sections) : Type 0 where
   pub model : Model mc m
   pub totals : Summed t ws
   pub base : Base at work m ws
@@ -81,22 +81,22 @@ pub record Counted (m : Sections) (ws : List Sections) (c : Merged) : Type 0 whe
   pub constraints : c .constraints ≡ length (literalsOf (λ s. s .constraints) (whole m ws))
 
 -- what of the composition stands in the work words
-pub record Result (m : Sections) (ws : List Sections) (at : Places) (c : Merged) (work : List ℕ) : Type 0 where
+pub record Result (m : Sections) (ws : List Sections) (at : Layout) (c : Merged) (work : List ℕ) : Type 0 where
   pub counted : Counted m ws c
   pub inputs : Has work (at .vars + 1) (inputNumbers m ws)
   pub latches : Has work (at .vars + 1 + totalOf inputCount ws) (latchNumbers m ws)
   pub keys : Held (totalOf gateCount ws + 1) (map keyOf (composedGates m ws)) (part work (at .gates) (at .gates + (4 * totalOf gateCount ws + 1)))
   pub small : Each SmallOperands (composedGates m ws)
   pub definitions : Has work (at .definitions) (definitionWords m ws)
-  pub bads : elements (part work (at .bads) (at .bads + at .bits)) ≡ literalsOf safety (whole m ws)
-  pub limits : elements (part work (at .limits) (at .limits + at .bits)) ≡ literalsOf (λ s. s .constraints) (whole m ws)
+  pub bads : elements (part work (at .«bad_bits») (at .«bad_bits» + at .bits)) ≡ literalsOf safety (whole m ws)
+  pub constraints : elements (part work (at .«constraint_bits») (at .«constraint_bits» + at .bits)) ≡ literalsOf (λ s. s .constraints) (whole m ws)
 
--- 17 and 18 do not apply, and all that stood in front of the table stands there still
-pub record Done (m : Sections) (ws : List Sections) (at : Places) (work work' : List ℕ) (c : Merged) : Type 0 where
+-- 17 and 18 do not apply, and all that stood in front of the assigned numbers stands there still
+pub record Done (m : Sections) (ws : List Sections) (at : Layout) (work work' : List ℕ) (c : Merged) : Type 0 where
   pub fits : gatesFit (leafCount m ws) (composedGates m ws) ≡ true
   pub agrees : agree (allDefined (whole m ws)) ≡ true
   pub result : Result m ws at c work'
-  pub kept : take (at .table) work' ≡ take (at .table) work
+  pub kept : take (at .assigned) work' ≡ take (at .assigned) work
 
 -- 17 or 18 applies, whatever would be next
 abbrev pub Refuses : Sections → List Sections → ℕ → Type 0
@@ -104,12 +104,12 @@ Refuses m ws k =
     (rest : Answer Sections) → unless 17 (gatesFit (leafCount m ws) (composedGates m ws)) (unless 18 (agree (allDefined (whole m ws))) rest) ≡ refused k
 
 -- what comes out
-abbrev pub Outcome : Sections → List Sections → Places → List ℕ → List ℕ → Merging → Type 0
+abbrev pub Outcome : Sections → List Sections → Layout → List ℕ → List ℕ → Merging → Type 0
 Outcome m ws at work work' (merging.Done c) = Done m ws at work work' c
 Outcome m ws at work work' (merging.Refused k) = Refuses m ws k
 
 -- ---- contracts
 
 -- what comes out, whatever model and witnesses it holds of
-pub record Goes (Stage : Sections → List Sections → Type 0) (at : Places) (work work' : List ℕ) (r : Merging) : Type 0 where
+pub record Goes (Stage : Sections → List Sections → Type 0) (at : Layout) (work work' : List ℕ) (r : Merging) : Type 0 where
   pub goes : (m : Sections) (ws : List Sections) → Stage m ws → Outcome m ws at work work' r

@@ -5,7 +5,7 @@ ghost use Rattle.compose_merge.specs.Stages.{Clearable, Clears, Cleared,
 use compose_gates::DefinedLatches;
 use compose_gates::SharedGates;
 use compose_gather::Totals;
-use compose_layout::Places;
+use compose_layout::Layout;
 use witness_text::AagCounts;
 
 // The counts of the composition.
@@ -24,7 +24,7 @@ pub enum Merging {
 }
 
 // Collects the bads and the constraints. The inputs are numbered from 1 up to `first`, the latches from there up to `next`.
-fn merge_literals(work: &mut [u64], at: Places, first: usize, next: usize, gates: usize) -> Merging
+fn merge_literals(work: &mut [u64], at: Layout, first: usize, next: usize, gates: usize) -> Merging
     requires { ⌜ Some (LatchesDefined at first next gates (now work)) ⌝ }
     ensures { λ r. ⌜ Goes (LatchesDefined at first next gates (now (work .entry))) at (now (work .entry)) (now (work .exit)) r ⌝ }
 {
@@ -33,7 +33,7 @@ fn merge_literals(work: &mut [u64], at: Places, first: usize, next: usize, gates
         at.safety,
         at.constraints - at.safety,
         at.vars,
-        at.bads,
+        at.bad_bits,
         at.bits,
     );
     let constraints = compose_numbers::add_literals(
@@ -41,7 +41,7 @@ fn merge_literals(work: &mut [u64], at: Places, first: usize, next: usize, gates
         at.constraints,
         at.input_origins - at.constraints,
         at.vars,
-        at.limits,
+        at.constraint_bits,
         at.bits,
     );
     let inputs = first - 1;
@@ -58,7 +58,7 @@ fn merge_literals(work: &mut [u64], at: Places, first: usize, next: usize, gates
 // Compares and stores the definitions of the latches, and goes on.
 fn merge_definitions(
     work: &mut [u64],
-    at: Places,
+    at: Layout,
     totals: Totals,
     first: usize,
     next: usize,
@@ -83,7 +83,7 @@ fn merge_definitions(
 }
 
 // Shares the gates, and goes on.
-fn merge_gates(work: &mut [u64], at: Places, totals: Totals, first: usize, next: usize) -> Merging
+fn merge_gates(work: &mut [u64], at: Layout, totals: Totals, first: usize, next: usize) -> Merging
     requires { ⌜ Some (LeavesNumbered totals at first next (now work)) ⌝ }
     ensures { λ r. ⌜ Goes (LeavesNumbered totals at first next (now (work .entry))) at (now (work .entry)) (now (work .exit)) r ⌝ }
 {
@@ -103,17 +103,23 @@ fn merge_gates(work: &mut [u64], at: Places, totals: Totals, first: usize, next:
 }
 
 // Numbers the latches, whose first number is `first`, and goes on.
-fn merge_latches(work: &mut [u64], at: Places, model_counts: AagCounts, totals: Totals, first: usize) -> Merging
+fn merge_latches(
+    work: &mut [u64],
+    at: Layout,
+    model_counts: AagCounts,
+    totals: Totals,
+    first: usize,
+) -> Merging
     requires { ⌜ Some (InputsNumbered «model_counts» totals at first (now work)) ⌝ }
     ensures { λ r. ⌜ Goes (InputsNumbered «model_counts» totals at first (now (work .entry))) at (now (work .entry)) (now (work .exit)) r ⌝ }
 {
-    let table = at.table + model_counts.inputs;
+    let assigned = at.assigned + model_counts.inputs;
     let own = at.vars + 1 + totals.inputs;
     let next = compose_numbers::number_leaves(
         work,
         at.latch_origins,
         totals.latches,
-        table,
+        assigned,
         model_counts.latches,
         model_counts.inputs,
         own,
@@ -123,7 +129,7 @@ fn merge_latches(work: &mut [u64], at: Places, model_counts: AagCounts, totals: 
 }
 
 // Numbers the inputs, and goes on.
-fn merge_inputs(work: &mut [u64], at: Places, model_counts: AagCounts, totals: Totals) -> Merging
+fn merge_inputs(work: &mut [u64], at: Layout, model_counts: AagCounts, totals: Totals) -> Merging
     requires { ⌜ Some (Cleared «model_counts» totals at (now work)) ⌝ }
     ensures { λ r. ⌜ Goes (Cleared «model_counts» totals at (now (work .entry))) at (now (work .entry)) (now (work .exit)) r ⌝ }
 {
@@ -132,7 +138,7 @@ fn merge_inputs(work: &mut [u64], at: Places, model_counts: AagCounts, totals: T
         work,
         at.input_origins,
         totals.inputs,
-        at.table,
+        at.assigned,
         model_counts.inputs,
         0,
         own,
@@ -141,19 +147,19 @@ fn merge_inputs(work: &mut [u64], at: Places, model_counts: AagCounts, totals: T
     merge_latches(work, at, model_counts, totals, first)
 }
 
-// Clears the words that are read before they are written: the table of the model's leaves and the constant's variable behind it, the heads of the table of
+// Clears the words that are read before they are written: the numbers assigned to the model's leaves and the constant's variable behind it, the heads of the table of
 // gates, and both sets of bits.
-fn clear_regions(work: &mut [u64], at: Places, gates: usize)
+fn clear_regions(work: &mut [u64], at: Layout, gates: usize)
     requires { ⌜ Clearable at gates (now work) ⌝ }
     ensures { λ _. ⌜ Clears at gates (now (work .entry)) (now (work .exit)) ⌝ }
 {
-    compose_numbers::regions_clear(work, at.table, at.vars + 1);
+    compose_numbers::regions_clear(work, at.assigned, at.vars + 1);
     compose_numbers::regions_clear(work, at.gates, at.gates + (gates + 1));
-    compose_numbers::regions_clear(work, at.bads, at.end);
+    compose_numbers::regions_clear(work, at.bad_bits, at.end);
 }
 
 // Merges the witnesses that are laid out in the work words, whose totals are t, for a model with the counts m.
-pub fn merge(work: &mut [u64], at: Places, model_counts: AagCounts, totals: Totals) -> Merging
+pub fn merge(work: &mut [u64], at: Layout, model_counts: AagCounts, totals: Totals) -> Merging
     requires { ⌜ Some (Mergeable «model_counts» totals at (now work)) ⌝ }
     ensures { λ r. ⌜ Goes (Mergeable «model_counts» totals at (now (work .entry))) at (now (work .entry)) (now (work .exit)) r ⌝ }
 {

@@ -40,7 +40,7 @@ use Rattle.compose_gather.specs.Gathered.{Block, Blocks, leafCountOf}
 use Rattle.compose_gather.specs.Counts.{leafCounts}
 use Rattle.compose_gather.proofs.CountLaws.{counts-leaves}
 use Rattle.compose_gather.proofs.BlockLaws.{words-for}
-use Rattle.compose_names.specs.declared.Places.{Places}
+use Rattle.compose_names.specs.declared.Starts.{Starts}
 use Rattle.compose_names.specs.Names.{nameFor}
 use Rattle.compose_names.specs.Symbols.{Row, rowAt, rowsFrom, namesAt, rowsIn, passed}
 use Rattle.compose_names.proofs.FirstLaws.{rowOf}
@@ -129,19 +129,19 @@ rows-map row f d k (e ∷ es) h =
 -- ---- one witness, and all
 
 -- the rows of all witnesses; the first has the index w
-abbrev pub rowsAll : Leaves → List ℕ → ℕ → List Bytes → List Sections → Places → List Row
+abbrev pub rowsAll : Leaves → List ℕ → ℕ → List Bytes → List Sections → Starts → List Row
 rowsAll kind work w [] ss p = []
 rowsAll kind work w (t ∷ ts) [] p = []
 rowsAll kind work w (t ∷ ts) (s ∷ ss) p = rowsIn t (countsIn s) work kind w p ++ rowsAll kind work (suc w) ts ss (passed kind (countsIn s) p)
 
 -- no witness is left
-pub rows-none : (kind : Leaves) (work : List ℕ) (w : ℕ) (ts : List Bytes) (p : Places) → rowsAll kind work w ts [] p ≡ []
+pub rows-none : (kind : Leaves) (work : List ℕ) (w : ℕ) (ts : List Bytes) (p : Starts) → rowsAll kind work w ts [] p ≡ []
 rows-none kind work w [] p = refl
 rows-none kind work w (t ∷ ts) p = refl
 
 module _ (kind : Leaves) (m : Sections) (first : ℕ) (firsts : List Entry) (work : List ℕ) where
   -- the rows of a witness are its entries
-  rows-in : (w : ℕ) (t : Bytes) (s : Sections) (p : Places) → Block t s (drop (p .names) work)
+  rows-in : (w : ℕ) (t : Bytes) (s : Sections) (p : Starts) → Block t s (drop (p .names) work)
       → StandsAt work (p .origins) (originsFrom (modelOf kind m) w (mapsByName s) 0 (namesOf kind s)) → StandsAt work (p .numbers) (map (numbered first firsts) (entriesIn kind m w s))
       → rowsIn t (countsIn s) work kind w p ≡ map (rowOf first firsts) (entriesIn kind m w s)
   rows-in w t s p block os ns =
@@ -168,7 +168,7 @@ module _ (kind : Leaves) (m : Sections) (first : ℕ) (firsts : List Entry) (wor
           ∙ sym (entry-at kind (modelOf kind m) w (mapsByName s) 0 (namesOf kind s) j d k))
 
   -- those of all witnesses
-  pub rows-are : (w : ℕ) (b : Before) (ts : List Bytes) (ss : List Sections) (p : Places) → Blocks ts ss (drop (p .names) work)
+  pub rows-are : (w : ℕ) (b : Before) (ts : List Bytes) (ss : List Sections) (p : Starts) → Blocks ts ss (drop (p .names) work)
       → StandsAt work (p .origins) (gatheredFrom (jointOrigins kind m) w b ss) → StandsAt work (p .numbers) (map (numbered first firsts) (entriesOf kind m w ss))
       → rowsAll kind work w ts ss p ≡ map (rowOf first firsts) (entriesOf kind m w ss)
   rows-are w b [] [] p bs os ns = sym (ap (map (rowOf first firsts)) (entries-none kind m w))

@@ -25,7 +25,7 @@ use Rattle.compose_gather.proofs.TextLaws.{FirstRead, Left, left-more, left-non
 use Rattle.compose_gather.proofs.CountLaws.{counts-leaves, leaves-within}
 use Rattle.compose_gather.proofs.BlockLaws.{words-for}
 use Rattle.compose_gather.proofs.TurnLaws.{total-below, total-small}
-use Rattle.compose_names.specs.declared.Places.{Places}
+use Rattle.compose_names.specs.declared.Starts.{Starts}
 use Rattle.compose_names.specs.declared.Printed.{Printed}
 use Rattle.compose_names.specs.Names.{kindOf, firstsOf}
 use Rattle.compose_names.specs.Symbols.{Row, newLines, nextAfter, rowsIn, PrintsNew, CanPrintWitness, passed, CanPass, SymbolWords, CanPrintSymbols, PrintsSymbols}
@@ -36,7 +36,7 @@ use Rattle.compose_names.proofs.RowLaws.{leaf-said}
 use Rattle.compose_names.proofs.EntryLaws.{part-stands, rowsAll, rows-none, rows-are}
 
 -- where the words of the first witness begin
-abbrev pub start : ℕ → ℕ → Places
+abbrev pub start : ℕ → ℕ → Starts
 start fromOrigins fromNumbers = record { names = 0; origins = fromOrigins; numbers = fromNumbers }
 
 -- inputs, or latches, are some of the variables
@@ -45,7 +45,7 @@ leaves-few leaf.Inputs s = omega arith
 leaves-few leaf.Latches s = omega (arith, length-map (s .latches) (λ q. q .name))
 
 -- the witnesses before number w are walked; the words of witness w begin at the places p
-pub record Walking (kind : Leaves) (buffer : Bytes) (pairs work : List ℕ) (fromOrigins fromNumbers first : ℕ) (o₀ : Bytes) (at : ℕ) (o : Bytes) (p : Places) (done : Printed) (w : ℕ) : Type 0 where
+pub record Walking (kind : Leaves) (buffer : Bytes) (pairs work : List ℕ) (fromOrigins fromNumbers first : ℕ) (o₀ : Bytes) (at : ℕ) (o : Bytes) (p : Starts) (done : Printed) (w : ℕ) : Type 0 where
   pub ws : List Sections
   pub rest : List Sections
   pub readable : Readable buffer pairs ws
@@ -85,7 +85,7 @@ module _ (kind : Leaves) (buffer : Bytes) (pairs work : List ℕ) (fromOrigins f
         printing = printing-none o₀ at (newText (kindOf kind) first first (rowsAll kind work 0 (textsIn buffer pairs) (c .ws) (start fromOrigins fromNumbers))) h;
       }
 
-  module _ (o : Bytes) (p : Places) (done : Printed) (w count : ℕ) (k : Walking kind buffer pairs work fromOrigins fromNumbers first o₀ at o p done w) (all : count ≡ length pairs / 2) where
+  module _ (o : Bytes) (p : Starts) (done : Printed) (w count : ℕ) (k : Walking kind buffer pairs work fromOrigins fromNumbers first o₀ at o p done w) (all : count ≡ length pairs / 2) where
     -- the rows of all
     abbrev rows : List Row
     rows = rowsAll kind work 0 (textsIn buffer pairs) (k .ws) (start fromOrigins fromNumbers)
@@ -225,5 +225,5 @@ module _ (kind : Leaves) (buffer : Bytes) (pairs work : List ℕ) (fromOrigins f
             }
 
         -- the same, with the places that the code has
-        pub walking-more : (p′ : Places) → p′ ≡ passed kind n p → Walking kind buffer pairs work fromOrigins fromNumbers first o₀ at o′ p′ r (w + 1)
-        walking-more p′ e = subst (λ (x : Places). Walking kind buffer pairs work fromOrigins fromNumbers first o₀ at o′ x r (w + 1)) (sym (e ∙ ap (λ (x : AagCounts). passed kind x p) counts)) further
+        pub walking-more : (p′ : Starts) → p′ ≡ passed kind n p → Walking kind buffer pairs work fromOrigins fromNumbers first o₀ at o′ p′ r (w + 1)
+        walking-more p′ e = subst (λ (x : Starts). Walking kind buffer pairs work fromOrigins fromNumbers first o₀ at o′ x r (w + 1)) (sym (e ∙ ap (λ (x : AagCounts). passed kind x p) counts)) further

@@ -12,12 +12,12 @@ use Rattle.compose_joint.specs.declared.Leaves.{Leaves}
 use Rattle.compose_joint.specs.declared.Leaves.the-variants as leaf
 use Rattle.compose_gather.specs.Counts.{leafCounts, namesBefore}
 use Rattle.compose_gather.specs.Gathered.{wordsFor}
-use Rattle.compose_names.specs.declared.Places.{Places}
+use Rattle.compose_names.specs.declared.Starts.{Starts}
 use Rattle.compose_names.specs.declared.Printed.{Printed}
 use Rattle.compose_names.specs.Names.{kindOf, ownName, nameFor}
 use Rattle.compose_names.specs.Symbols.{rowAt, rowsFrom, RowWords, CanPrintNames, PrintsNew, rowsIn, CanPrintWitness, passed}
 
-module _ (t : Bytes) (work : List ℕ) (p : Places) where
+module _ (t : Bytes) (work : List ℕ) (p : Starts) where
   -- each row of so many
   pub row-words : (count first next k : ℕ) → CanPrintNames t work p count first next → k < count → RowWords t work p k
   row-words count first next k c h =
@@ -35,10 +35,10 @@ module _ (t : Bytes) (work : List ℕ) (p : Places) where
     row-printed leaves w number o at o′ r q = rw (← a, ← b) q
 
 -- the places with a start of the names
-abbrev from : Places → ℕ → Places
+abbrev from : Starts → ℕ → Starts
 from p start = record { names = p .names + start; origins = p .origins; numbers = p .numbers }
 
-module _ (leaves : Leaves) (n : AagCounts) (p : Places) (start count : ℕ) (a : start ≡ namesBefore leaves n) (c : count ≡ leafCounts leaves n) (t : Bytes) (work : List ℕ) (first next : ℕ) where
+module _ (leaves : Leaves) (n : AagCounts) (p : Starts) (start count : ℕ) (a : start ≡ namesBefore leaves n) (c : count ≡ leafCounts leaves n) (t : Bytes) (work : List ℕ) (first next : ℕ) where
   -- the names may be printed from their start on
   pub witness-can : CanPrintWitness t n work leaves p first next → CanPrintNames t work (from p start) count first next
   witness-can k = rw (a, c) (k .can)
@@ -49,6 +49,6 @@ module _ (leaves : Leaves) (n : AagCounts) (p : Places) (start count : ℕ) (a :
   witness-prints w o at o′ r k = rw (← a, ← c) k
 
 -- the places of the next witness
-pub passed-is : (leaves : Leaves) (n : AagCounts) (p : Places) (names count : ℕ) → names ≡ p .names + wordsFor n → count ≡ leafCounts leaves n
-    → _≡_ {A = Places} (record { names = names; origins = p .origins + count; numbers = p .numbers + count }) (passed leaves n p)
+pub passed-is : (leaves : Leaves) (n : AagCounts) (p : Starts) (names count : ℕ) → names ≡ p .names + wordsFor n → count ≡ leafCounts leaves n
+    → _≡_ {A = Starts} (record { names = names; origins = p .origins + count; numbers = p .numbers + count }) (passed leaves n p)
 passed-is leaves n p names count e c = rw (e, c) refl

@@ -19,7 +19,7 @@ use Rattle.compose_joint.specs.declared.Leaves.the-variants as leaf
 use Rattle.compose_joint.specs.Joint.{totalOf, origins, entriesOf}
 use Rattle.compose_gather.specs.Counts.{leafCounts, namesBefore}
 use Rattle.compose_gather.specs.Gathered.{wordsFor, Blocks, wordTotal, Readable, leafCountOf}
-use Rattle.compose_names.specs.declared.Places.{Places}
+use Rattle.compose_names.specs.declared.Starts.{Starts}
 use Rattle.compose_names.specs.declared.Printed.{Printed}
 use Rattle.compose_names.specs.Names.{kindOf, firstsOf, ownName, nameFor}
 
@@ -42,7 +42,7 @@ nextAfter next (x ∷ xs) = cond (eqb (x .number) next) (nextAfter (suc next) xs
 -- ---- one witness
 
 -- row k of witness w
-abbrev pub rowAt : Bytes → List ℕ → Leaves → ℕ → Places → ℕ → Row
+abbrev pub rowAt : Bytes → List ℕ → Leaves → ℕ → Starts → ℕ → Row
 rowAt t work leaf w p k =
     record {
       number = getD work (p .numbers + k) 0;
@@ -55,13 +55,13 @@ rowsFrom row k zero = []
 rowsFrom row k (suc left) = row k ∷ rowsFrom row (suc k) left
 
 -- the words of row k stand at their places
-pub record RowWords (t : Bytes) (work : List ℕ) (p : Places) (k : ℕ) : Type 0 where
+pub record RowWords (t : Bytes) (work : List ℕ) (p : Starts) (k : ℕ) : Type 0 where
   pub name : p .names + 2 * k + 1 < length work
   pub origin : p .origins + k < length work
   pub within : getD work (p .names + 2 * k) 0 + getD work (p .names + 2 * k + 1) 0 ≤ length t
 
 -- the words of so many names stand at their places, and composed variables are small
-pub record CanPrintNames (t : Bytes) (work : List ℕ) (p : Places) (count first next : ℕ) : Type 0 where
+pub record CanPrintNames (t : Bytes) (work : List ℕ) (p : Starts) (count first next : ℕ) : Type 0 where
   pub named : p .names + 2 * count ≤ length work
   pub originsFit : p .origins + count ≤ length work
   pub numbersFit : p .numbers + count ≤ length work
@@ -75,24 +75,24 @@ pub record PrintsNew (leaf : Leaves) (first next : ℕ) (rows : List Row) (o : B
   pub after : r .next ≡ nextAfter next rows
 
 -- the places of a witness whose words begin at `names`, with that of its inputs' or latches' names
-abbrev pub namesAt : Leaves → AagCounts → Places → Places
+abbrev pub namesAt : Leaves → AagCounts → Starts → Starts
 namesAt leaf n p = record { names = p .names + namesBefore leaf n; origins = p .origins; numbers = p .numbers }
 
 -- the rows of witness w, whose words begin at `names`
-abbrev pub rowsIn : Bytes → AagCounts → List ℕ → Leaves → ℕ → Places → List Row
+abbrev pub rowsIn : Bytes → AagCounts → List ℕ → Leaves → ℕ → Starts → List Row
 rowsIn t n work leaf w p = rowsFrom (rowAt t work leaf w (namesAt leaf n p)) 0 (leafCounts leaf n)
 
 -- its names may be printed
-pub record CanPrintWitness (t : Bytes) (n : AagCounts) (work : List ℕ) (leaf : Leaves) (p : Places) (first next : ℕ) : Type 0 where
+pub record CanPrintWitness (t : Bytes) (n : AagCounts) (work : List ℕ) (leaf : Leaves) (p : Starts) (first next : ℕ) : Type 0 where
   pub words : wordsFor n ≤ length work
   pub can : CanPrintNames t work (namesAt leaf n p) (leafCounts leaf n) first next
 
 -- the places of the next witness
-abbrev pub passed : Leaves → AagCounts → Places → Places
+abbrev pub passed : Leaves → AagCounts → Starts → Starts
 passed leaf n p = record { names = p .names + wordsFor n; origins = p .origins + leafCounts leaf n; numbers = p .numbers + leafCounts leaf n }
 
 -- they are within so many words
-pub record CanPass (leaf : Leaves) (n : AagCounts) (p : Places) (size : ℕ) : Type 0 where
+pub record CanPass (leaf : Leaves) (n : AagCounts) (p : Starts) (size : ℕ) : Type 0 where
   pub names : p .names + wordsFor n ≤ size
   pub origins : p .origins + leafCounts leaf n ≤ size
   pub numbers : p .numbers + leafCounts leaf n ≤ size

@@ -15,7 +15,7 @@ use compose_joint::Leaves;
 use witness_text::AagCounts;
 
 // Where words of one witness begin: those of its names, its origin words, its composed variables.
-pub struct Places {
+pub struct Starts {
     pub names: usize,
     pub origins: usize,
     pub numbers: usize,
@@ -135,7 +135,7 @@ fn print_row(
     work: &[u64],
     leaves: Leaves,
     w: usize,
-    starts: Places,
+    starts: Starts,
     k: usize,
     number: u64,
 ) -> usize
@@ -165,7 +165,7 @@ fn print_names(
     work: &[u64],
     leaves: Leaves,
     w: usize,
-    starts: Places,
+    starts: Starts,
     count: usize,
     first: u64,
     new: u64,
@@ -197,7 +197,7 @@ fn print_witness(
     work: &[u64],
     leaves: Leaves,
     w: usize,
-    starts: Places,
+    starts: Starts,
     first: u64,
     new: u64,
 ) -> Printed
@@ -206,7 +206,7 @@ fn print_witness(
 {
     let count = compose_gather::counts::leaf_count(leaves, counts);
     let start = compose_gather::counts::names_before(leaves, counts);
-    let q = Places {
+    let q = Starts {
         names: starts.names + start,
         origins: starts.origins,
         numbers: starts.numbers,
@@ -215,12 +215,12 @@ fn print_witness(
 }
 
 // The places of the next witness, within so many words.
-fn pass(leaves: Leaves, counts: AagCounts, starts: Places, size: usize) -> Places
+fn pass(leaves: Leaves, counts: AagCounts, starts: Starts, size: usize) -> Starts
     requires { ⌜ CanPass leaves counts starts size ⌝ }
     ensures { λ r. ⌜ r ≡ passed leaves counts starts ⌝ }
 {
     let count = compose_gather::counts::leaf_count(leaves, counts);
-    Places {
+    Starts {
         names: compose_gather::after_words(counts, starts.names, size),
         origins: starts.origins + count,
         numbers: starts.numbers + count,
@@ -246,7 +246,7 @@ pub fn print_symbols(
     ensures { λ r. ⌜ PrintsSymbols leaves (now (witnesses .entry)) (now (pairs .entry)) (now (work .entry)) origins numbers first (now (out .entry)) at (now (out .exit)) r ⌝ }
 {
     let count = pairs.len() / 2;
-    let mut p = Places {
+    let mut p = Starts {
         names: 0,
         origins: origins,
         numbers: numbers,

@@ -1,4 +1,4 @@
--- For callers: how to meet what the functions ask for, where numbers and table stand, what holds of each number, and that only the variables that a literal names count.
+-- For callers: how to meet what the functions ask for, where numbers given and assigned stand, what holds of each number, and that only the variables that a literal names count.
 use Prim.Native.Nat.{ℕ, zero, suc, _+_, _-_, _≤_, _<_}
 use mathlib.Core.Bool.{Bool, true, false, cond}
 use mathlib.Core.List.{List, [], _∷_, map}
@@ -28,18 +28,18 @@ each-word P work at n h e i k =
 
 -- ---- numbers
 
--- a word of the table that is not 0 is a number
+-- a word of the assigned numbers that is not 0 is a number
 abbrev pub Kept : (ℕ → Type 0) → ℕ → Type 0
 Kept P x = (x ≡ 0 → ⊥) → P x
 
--- How many numbers and words of the table there are, how far the next number goes, and what holds of each number.
+-- How many numbers and words of the assigned numbers there are, how far the next number goes, and what holds of each number.
 pub record NumbersFit (P : ℕ → Type 0) (next count size : ℕ) (n : Numbers) : Type 0 where
   pub counted : length (n .numbers) ≡ count
-  pub sized : length (n .table) ≡ size
+  pub sized : length (n .assigned) ≡ size
   pub above : next ≤ n .next
   pub low : n .next ≤ next + count
   pub numbers : Each P (n .numbers)
-  pub table : Each (Kept P) (n .table)
+  pub assigned : Each (Kept P) (n .assigned)
 
 each-set : (P : ℕ → Type 0) (l : List ℕ) (k x : ℕ) → Each P l → P x → Each P (set l k x)
 each-set P [] k x e h = tt
@@ -54,65 +54,65 @@ each-get P (y ∷ l) (suc k) e h = each-get P l k (e .1) h
 module _ (P : ℕ → Type 0) where
   fit-new : (next count size : ℕ) (n : Numbers) → P next → NumbersFit P (suc next) count size n → NumbersFit P next (suc count) size (withNumber next n)
   fit-new next count size n h f =
-      record { counted = ap suc (f .counted); sized = f .sized; above = omega (arith, f .above); low = omega (arith, f .low); numbers = (h, f .numbers); table = f .table }
+      record { counted = ap suc (f .counted); sized = f .sized; above = omega (arith, f .above); low = omega (arith, f .low); numbers = (h, f .numbers); assigned = f .assigned }
 
   fit-old : (next count size x : ℕ) (n : Numbers) → P x → NumbersFit P next count size n → NumbersFit P next (suc count) size (withNumber x n)
   fit-old next count size x n h f =
-      record { counted = ap suc (f .counted); sized = f .sized; above = f .above; low = omega (arith, f .low); numbers = (h, f .numbers); table = f .table }
+      record { counted = ap suc (f .counted); sized = f .sized; above = f .above; low = omega (arith, f .low); numbers = (h, f .numbers); assigned = f .assigned }
 
   -- one leaf in front of others, whichever way it gets its number
   fit-more :
-      (before next x : ℕ) (xs table : List ℕ) (a b : Bool) → eqb (getD table (slot before x) 0) 0 ≡ b → P next → Kept P (getD table (slot before x) 0)
-      → NumbersFit P (suc next) (length xs) (length table) (numberAll before (suc next) xs table)
-      → NumbersFit P (suc next) (length xs) (length table) (numberAll before (suc next) xs (set table (slot before x) next))
-      → NumbersFit P next (length xs) (length table) (numberAll before next xs table)
-      → NumbersFit P next (suc (length xs)) (length table)
-      (cond a (withNumber next (numberAll before (suc next) xs table))
-      (cond b (withNumber next (numberAll before (suc next) xs (set table (slot before x) next))) (withNumber (getD table (slot before x) 0) (numberAll before next xs table))))
-  fit-more before next x xs table true b e h g p q r = fit-new next (length xs) (length table) (numberAll before (suc next) xs table) h p
-  fit-more before next x xs table false true e h g p q r = fit-new next (length xs) (length table) (numberAll before (suc next) xs (set table (slot before x) next)) h q
-  fit-more before next x xs table false false e h g p q r =
-      fit-old next (length xs) (length table) (getD table (slot before x) 0) (numberAll before next xs table) (g (eqb-false (getD table (slot before x) 0) 0 e)) r
+      (before next x : ℕ) (xs assigned : List ℕ) (a b : Bool) → eqb (getD assigned (slot before x) 0) 0 ≡ b → P next → Kept P (getD assigned (slot before x) 0)
+      → NumbersFit P (suc next) (length xs) (length assigned) (numberAll before (suc next) xs assigned)
+      → NumbersFit P (suc next) (length xs) (length assigned) (numberAll before (suc next) xs (set assigned (slot before x) next))
+      → NumbersFit P next (length xs) (length assigned) (numberAll before next xs assigned)
+      → NumbersFit P next (suc (length xs)) (length assigned)
+      (cond a (withNumber next (numberAll before (suc next) xs assigned))
+      (cond b (withNumber next (numberAll before (suc next) xs (set assigned (slot before x) next))) (withNumber (getD assigned (slot before x) 0) (numberAll before next xs assigned))))
+  fit-more before next x xs assigned true b e h g p q r = fit-new next (length xs) (length assigned) (numberAll before (suc next) xs assigned) h p
+  fit-more before next x xs assigned false true e h g p q r = fit-new next (length xs) (length assigned) (numberAll before (suc next) xs (set assigned (slot before x) next)) h q
+  fit-more before next x xs assigned false false e h g p q r =
+      fit-old next (length xs) (length assigned) (getD assigned (slot before x) 0) (numberAll before next xs assigned) (g (eqb-false (getD assigned (slot before x) 0) 0 e)) r
 
-  pub numbers-fit : (before next : ℕ) (xs table : List ℕ) → Each (Kept P) table → ((n : ℕ) → next ≤ n → n < next + length xs → P n)
-      → NumbersFit P next (length xs) (length table) (numberAll before next xs table)
-  numbers-fit before next [] table e h = record { counted = refl; sized = refl; above = omega arith; low = omega arith; numbers = tt; table = e }
-  numbers-fit before next (x ∷ xs) table e h =
+  pub numbers-fit : (before next : ℕ) (xs assigned : List ℕ) → Each (Kept P) assigned → ((n : ℕ) → next ≤ n → n < next + length xs → P n)
+      → NumbersFit P next (length xs) (length assigned) (numberAll before next xs assigned)
+  numbers-fit before next [] assigned e h = record { counted = refl; sized = refl; above = omega arith; low = omega arith; numbers = tt; assigned = e }
+  numbers-fit before next (x ∷ xs) assigned e h =
       let k : ℕ = slot before x in
       let new : P next = h next (omega arith) (omega arith) in
       let later : (n : ℕ) → suc next ≤ n → n < suc next + length xs → P n = λ n a b. h n (omega arith) (omega arith) in
-      fit-more before next x xs table (odd x) (eqb (getD table k 0) 0) refl new (each-get (Kept P) table k e (λ z. absurd (z refl)))
-      (numbers-fit before (suc next) xs table e later)
-      (subst (λ (n : ℕ). NumbersFit P (suc next) (length xs) n (numberAll before (suc next) xs (set table k next))) (length-set table k next)
-      (numbers-fit before (suc next) xs (set table k next) (each-set (Kept P) table k next e (λ z. new)) later))
-      (numbers-fit before next xs table e (λ n a b. h n a (omega arith)))
+      fit-more before next x xs assigned (odd x) (eqb (getD assigned k 0) 0) refl new (each-get (Kept P) assigned k e (λ z. absurd (z refl)))
+      (numbers-fit before (suc next) xs assigned e later)
+      (subst (λ (n : ℕ). NumbersFit P (suc next) (length xs) n (numberAll before (suc next) xs (set assigned k next))) (length-set assigned k next)
+      (numbers-fit before (suc next) xs (set assigned k next) (each-set (Kept P) assigned k next e (λ z. new)) later))
+      (numbers-fit before next xs assigned e (λ n a b. h n a (omega arith)))
 
 -- the words after all leaves are numbered
 module _
-    (origins count table size before vars next : ℕ) (work work' : List ℕ) (r : ℕ) (pre : CanNumber origins count table size before vars next work)
-    (post : Numbered origins count table size before vars next work work' r) where
+    (origins count assigned size before vars next : ℕ) (work work' : List ℕ) (r : ℕ) (pre : CanNumber origins count assigned size before vars next work)
+    (post : Numbered origins count assigned size before vars next work work' r) where
   abbrev given : Numbers
-  given = numbersIn origins count table size before next work
+  given = numbersIn origins count assigned size before next work
 
-  within : table + size ≤ length work
+  within : assigned + size ≤ length work
   within = omega (arith, pre .second, pre .third)
 
   -- how many numbers there are, and how far the next one goes
-  pub numbered-fit : (P : ℕ → Type 0) → Each (Kept P) (part work table (table + size)) → ((n : ℕ) → next ≤ n → n < next + count → P n) → NumbersFit P next count size given
+  pub numbered-fit : (P : ℕ → Type 0) → Each (Kept P) (part work assigned (assigned + size)) → ((n : ℕ) → next ≤ n → n < next + count → P n) → NumbersFit P next count size given
   numbered-fit P e h =
       let a : length (part work origins (origins + count)) ≡ count = omega (arith, part-length work origins (origins + count) (omega (arith, pre .first, within))) in
-      let b : length (part work table (table + size)) ≡ size = omega (arith, part-length work table (table + size) within) in
-      let f = numbers-fit P before next (part work origins (origins + count)) (part work table (table + size)) e (λ n l m. h n l (omega (arith, a, m))) in
+      let b : length (part work assigned (assigned + size)) ≡ size = omega (arith, part-length work assigned (assigned + size) within) in
+      let f = numbers-fit P before next (part work origins (origins + count)) (part work assigned (assigned + size)) e (λ n l m. h n l (omega (arith, a, m))) in
       subst (λ (n : ℕ). NumbersFit P next n size given) a (subst (λ (n : ℕ). NumbersFit P next (length (part work origins (origins + count))) n given) b f)
 
   shape : NumbersFit (λ x. Unit {0}) next count size given
-  shape = numbered-fit (λ x. Unit {0}) (each-any (Kept (λ x. Unit {0})) (λ x z. tt) (part work table (table + size))) (λ n a b. tt)
+  shape = numbered-fit (λ x. Unit {0}) (each-any (Kept (λ x. Unit {0})) (λ x z. tt) (part work assigned (assigned + size))) (λ n a b. tt)
 
   abbrev tabled : List ℕ
-  tabled = put work table (given .table)
+  tabled = put work assigned (given .assigned)
 
   room : vars ≤ length tabled
-  room = omega (arith, put-length work table (given .table) (omega (arith, shape .sized, within)), pre .third)
+  room = omega (arith, put-length work assigned (given .assigned) (omega (arith, shape .sized, within)), pre .third)
 
   pub numbers-stored : part work' vars (vars + count) ≡ given .numbers
   numbers-stored =
@@ -124,26 +124,26 @@ module _
   front-kept : take vars work' ≡ take vars tabled
   front-kept = ap (take vars) (post .words) ∙ put-take tabled vars (given .numbers) room vars (omega arith)
 
-  pub table-stored : part work' table (table + size) ≡ given .table
-  table-stored =
-      part-kept work' tabled vars front-kept table (table + size) (pre .second)
-      ∙ ap (λ (n : ℕ). part tabled table (table + n)) (sym (shape .sized))
-      ∙ put-part work table (given .table) (omega (arith, within))
+  pub assigned-stored : part work' assigned (assigned + size) ≡ given .assigned
+  assigned-stored =
+      part-kept work' tabled vars front-kept assigned (assigned + size) (pre .second)
+      ∙ ap (λ (n : ℕ). part tabled assigned (assigned + n)) (sym (shape .sized))
+      ∙ put-part work assigned (given .assigned) (omega (arith, within))
 
-  pub numbered-before : take table work' ≡ take table work
-  numbered-before = take-kept work' tabled vars front-kept table (omega (arith, pre .second)) ∙ put-take work table (given .table) (omega (arith, within)) table (omega arith)
+  pub numbered-before : take assigned work' ≡ take assigned work
+  numbered-before = take-kept work' tabled vars front-kept assigned (omega (arith, pre .second)) ∙ put-take work assigned (given .assigned) (omega (arith, within)) assigned (omega arith)
 
-  -- between table and numbers
-  pub numbered-between : (a e : ℕ) → table + size ≤ a → e ≤ vars → part work' a e ≡ part work a e
+  -- between the assigned numbers and those given
+  pub numbered-between : (a e : ℕ) → assigned + size ≤ a → e ≤ vars → part work' a e ≡ part work a e
   numbered-between a e h k =
       part-kept work' tabled vars front-kept a e k
-      ∙ ap (take (e - a)) (put-drop-end work table (given .table) (omega (arith, within)) a (omega (arith, shape .sized, h)))
+      ∙ ap (take (e - a)) (put-drop-end work assigned (given .assigned) (omega (arith, within)) a (omega (arith, shape .sized, h)))
 
   pub numbered-behind : drop (vars + count) work' ≡ drop (vars + count) work
   numbered-behind =
       ap (drop (vars + count)) (post .words)
       ∙ put-drop-end tabled vars (given .numbers) room (vars + count) (omega (arith, shape .counted))
-      ∙ put-drop-end work table (given .table) (omega (arith, within)) (vars + count) (omega (arith, shape .sized, pre .second))
+      ∙ put-drop-end work assigned (given .assigned) (omega (arith, within)) (vars + count) (omega (arith, shape .sized, pre .second))
 
 -- ---- literals
 

@@ -4,17 +4,17 @@ use mathlib.Core.Path.{_≡_, refl}
 use Rattle.lists.specs.Sets.{setOf}
 use Rattle.compose_numbers.specs.Marked.{turn, numberOne, numbersIn, literalsAt}
 
--- Origin words of four leaves: the model's variable 4, a private one, 4 again, 3. The model has two variables in front of those two, and the table begins at place 4.
+-- Origin words of four leaves: the model's variable 4, a private one, 4 again, 3. The model has two variables in front of those two, and the assigned numbers begins at place 4.
 pub numbers : numbersIn 0 4 4 2 2 1 (8 ∷ 1 ∷ 8 ∷ 6 ∷ 0 ∷ 0 ∷ []) .numbers ≡ 1 ∷ 2 ∷ 1 ∷ 3 ∷ []
 numbers = refl
 
-pub table-after : numbersIn 0 4 4 2 2 1 (8 ∷ 1 ∷ 8 ∷ 6 ∷ 0 ∷ 0 ∷ []) .table ≡ 3 ∷ 1 ∷ []
-table-after = refl
+pub assigned-after : numbersIn 0 4 4 2 2 1 (8 ∷ 1 ∷ 8 ∷ 6 ∷ 0 ∷ 0 ∷ []) .assigned ≡ 3 ∷ 1 ∷ []
+assigned-after = refl
 
 pub next-number : numbersIn 0 4 4 2 2 1 (8 ∷ 1 ∷ 8 ∷ 6 ∷ 0 ∷ 0 ∷ []) .next ≡ 4
 next-number = refl
 
--- one leaf: the table's word at place 1 is 0, so the number 5 is stored there, and at place 2
+-- one leaf: the assigned number at place 1 is 0, so the number 5 is stored there, and at place 2
 pub first-time : numberOne 8 1 2 5 (8 ∷ 0 ∷ 0 ∷ []) ≡ turn (8 ∷ 5 ∷ 5 ∷ []) 6
 first-time = refl
 

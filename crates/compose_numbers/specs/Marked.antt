@@ -16,28 +16,28 @@ use Rattle.compose_gates.specs.Linked.{Translatable, literalAt}
 
 -- ---- one leaf
 
--- an origin word, where it is even, is a literal whose variable has a word among the `size` words of the table
-abbrev pub InTable : (before size x : ℕ) → Type 0
-InTable before size x = odd x ≡ false → (before < x / 2) × (x / 2 ≤ before + size)
+-- an origin word, where it is even, is a literal whose variable has a word among the `size` words of the assigned numbers
+abbrev pub HasSlot : (before size x : ℕ) → Type 0
+HasSlot before size x = odd x ≡ false → (before < x / 2) × (x / 2 ≤ before + size)
 
--- the table's word for an origin word is among the words
-pub record Listed (table before x : ℕ) (work : List ℕ) : Type 0 where
+-- the assigned number for an origin word is among the words
+pub record Listed (assigned before x : ℕ) (work : List ℕ) : Type 0 where
   pub above : before < x / 2
-  pub within : table + slot before x < length work
+  pub within : assigned + slot before x < length work
 
 -- r is its place
-pub record ListedAt (table before x : ℕ) (work : List ℕ) (r : ℕ) : Type 0 where
-  pub is : r ≡ table + slot before x
+pub record ListedAt (assigned before x : ℕ) (work : List ℕ) (r : ℕ) : Type 0 where
+  pub is : r ≡ assigned + slot before x
   pub low : r < length work
 
 -- the word at place `from` can be numbered, and the number stored at place `to`
-pub record CanNumberOne (from table before to next : ℕ) (work : List ℕ) : Type 0 where
+pub record CanNumberOne (from assigned before to next : ℕ) (work : List ℕ) : Type 0 where
   pub size : ℕ
   pub first : from < length work
-  pub second : table + size ≤ length work
+  pub second : assigned + size ≤ length work
   pub third : to < length work
   pub few : next < 1073741824
-  pub known : InTable before size (getD work from 0)
+  pub known : HasSlot before size (getD work from 0)
 
 -- the words and the next number after a leaf is numbered
 pub record Turn : Type 0 where
@@ -54,28 +54,28 @@ numberOne x known to next work =
     (cond (eqb (getD work known 0) 0) (turn (set (set work known next) to next) (suc next)) (turn (set work to (getD work known 0)) next))
 
 -- the promise for the word at place `from`
-abbrev pub NumberedOne : (from table before to next : ℕ) (work work' : List ℕ) (r : ℕ) → Type 0
-NumberedOne from table before to next work work' r = turn work' r ≡ numberOne (getD work from 0) (table + slot before (getD work from 0)) to next work
+abbrev pub NumberedOne : (from assigned before to next : ℕ) (work work' : List ℕ) (r : ℕ) → Type 0
+NumberedOne from assigned before to next work work' r = turn work' r ≡ numberOne (getD work from 0) (assigned + slot before (getD work from 0)) to next work
 
 -- ---- all leaves
 
--- The words before the leaves are numbered: `count` origin words, a table of `size` words, and room for the numbers.
-pub record CanNumber (origins count table size before vars next : ℕ) (work : List ℕ) : Type 0 where
-  pub first : origins + count ≤ table
-  pub second : table + size ≤ vars
+-- The words before the leaves are numbered: `count` origin words, `size` assigned numbers, and room for the numbers.
+pub record CanNumber (origins count assigned size before vars next : ℕ) (work : List ℕ) : Type 0 where
+  pub first : origins + count ≤ assigned
+  pub second : assigned + size ≤ vars
   pub third : vars + count ≤ length work
   pub few : next + count < 1073741824
-  pub known : (i : ℕ) → i < count → InTable before size (getD work (origins + i) 0)
+  pub known : (i : ℕ) → i < count → HasSlot before size (getD work (origins + i) 0)
 
 -- the numbers that the origin words get
-abbrev pub numbersIn : (origins count table size before next : ℕ) → List ℕ → Numbers
-numbersIn origins count table size before next work = numberAll before next (part work origins (origins + count)) (part work table (table + size))
+abbrev pub numbersIn : (origins count assigned size before next : ℕ) → List ℕ → Numbers
+numbersIn origins count assigned size before next work = numberAll before next (part work origins (origins + count)) (part work assigned (assigned + size))
 
--- The promise: the next number, the table and the numbers are those of `numberAll`, and all other words are as they were.
-pub record Numbered (origins count table size before vars next : ℕ) (work work' : List ℕ) (r : ℕ) : Type 0 where
-  pub returns : r ≡ numbersIn origins count table size before next work .next
+-- The promise: the next number, the assigned numbers and the numbers are those of `numberAll`, and all other words are as they were.
+pub record Numbered (origins count assigned size before vars next : ℕ) (work work' : List ℕ) (r : ℕ) : Type 0 where
+  pub returns : r ≡ numbersIn origins count assigned size before next work .next
   pub words :
-      work' ≡ put (put work table (numbersIn origins count table size before next work .table)) vars (numbersIn origins count table size before next work .numbers)
+      work' ≡ put (put work assigned (numbersIn origins count assigned size before next work .assigned)) vars (numbersIn origins count assigned size before next work .numbers)
 
 -- ---- sets of composed literals
 

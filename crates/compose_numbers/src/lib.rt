@@ -6,32 +6,32 @@ ghost use Rattle.lists.specs.Parts.{put, zeros};
 ghost use Rattle.compose_numbers.specs.Marked.{Listed, ListedAt, CanNumberOne, NumberedOne, CanNumber, Numbered, CanAddOne, AddedOne, CanAdd, Added};
 use lists::index;
 
-// The place of the table's word for an origin word.
-fn known_place(work: &[u64], table: usize, before: usize, x: u64) -> usize
-    requires { ⌜ Listed table before x (now work) ⌝ }
-    ensures { λ r. ⌜ ListedAt table before x (now (work .entry)) r ⌝ }
+// The place of the assigned number for an origin word.
+fn known_place(work: &[u64], assigned: usize, before: usize, x: u64) -> usize
+    requires { ⌜ Listed assigned before x (now work) ⌝ }
+    ensures { λ r. ⌜ ListedAt assigned before x (now (work .entry)) r ⌝ }
 {
-    table + (index(x / 2) - before - 1)
+    assigned + (index(x / 2) - before - 1)
 }
 
 // Stores the number of the leaf whose origin word is at a place, and gives the next number.
 fn number_leaf(
     work: &mut [u64],
     from: usize,
-    table: usize,
+    assigned: usize,
     before: usize,
     to: usize,
     next: usize,
 ) -> usize
-    requires { ⌜ CanNumberOne from table before to next (now work) ⌝ }
-    ensures { λ r. ⌜ NumberedOne from table before to next (now (work .entry)) (now (work .exit)) r ⌝ }
+    requires { ⌜ CanNumberOne from assigned before to next (now work) ⌝ }
+    ensures { λ r. ⌜ NumberedOne from assigned before to next (now (work .entry)) (now (work .exit)) r ⌝ }
 {
     let x = work[from];
     if x % 2 == 1 {
         work[to] = next as u64;
         return next + 1;
     }
-    let known = known_place(work, table, before, x);
+    let known = known_place(work, assigned, before, x);
     let number = work[known];
     if number == 0 {
         work[known] = next as u64;
@@ -42,24 +42,24 @@ fn number_leaf(
     next
 }
 
-// Numbers inputs, or latches, by their origin words. A private one is new each time; one of the model has one number, which is kept in the table.
+// Numbers inputs, or latches, by their origin words. A private one is new each time; one of the model has one number, which is kept in the assigned numbers.
 pub fn number_leaves(
     work: &mut [u64],
     origins: usize,
     count: usize,
-    table: usize,
+    assigned: usize,
     size: usize,
     before: usize,
     vars: usize,
     next: usize,
 ) -> usize
-    requires { ⌜ CanNumber origins count table size before vars next (now work) ⌝ }
-    ensures { λ r. ⌜ Numbered origins count table size before vars next (now (work .entry)) (now (work .exit)) r ⌝ }
+    requires { ⌜ CanNumber origins count assigned size before vars next (now work) ⌝ }
+    ensures { λ r. ⌜ Numbered origins count assigned size before vars next (now (work .entry)) (now (work .exit)) r ⌝ }
 {
     let mut after = next;
     let mut i = 0;
     while i < count {
-        after = number_leaf(work, origins + i, table, before, vars + i, after);
+        after = number_leaf(work, origins + i, assigned, before, vars + i, after);
         i += 1;
     }
     after

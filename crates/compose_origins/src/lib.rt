@@ -275,7 +275,8 @@ pub fn gather_origins(
         let text = compose_gather::text_at(witnesses, pairs, w);
         let n = compose_gather::counts::counts_at(counts, w);
         let next = compose_gather::after_words(n, from, at);
-        let Origins::Next(end) = witness_origins(text, n, work, from, leaves, model_leaves, w, at) else {
+        let Origins::Next(end) = witness_origins(text, n, work, from, leaves, model_leaves, w, at)
+        else {
             return Origins::Wrong;
         };
         at = end;

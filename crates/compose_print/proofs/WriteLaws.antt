@@ -27,7 +27,7 @@ use Rattle.compose_joint.specs.Joint.{totalOf, inputCount, gateCount, origins}
 use Rattle.compose_joint.proofs.AmountLaws.{origins-length}
 use Rattle.compose_gather.specs.declared.Totals.{Totals}
 use Rattle.compose_gather.specs.Gathered.{leafCountOf}
-use Rattle.compose_layout.specs.declared.Places.{Places}
+use Rattle.compose_layout.specs.declared.Layout.{Layout}
 use Rattle.compose_layout.specs.Laid.{Has}
 use Rattle.compose_merge.specs.declared.Merged.{Merged}
 use Rattle.key_table.specs.Table.{Held}
@@ -47,7 +47,7 @@ has-part work a n xs e h = subst (λ (j : ℕ). part work a (a + j) ≡ xs) e (h
 has-room : (work : List ℕ) (a n : ℕ) (xs : List ℕ) → length xs ≡ n → Has work a xs → a + n ≤ length work
 has-room work a n xs e h = subst (λ (j : ℕ). a + j ≤ length work) e (h .room)
 
-module _ (buffer : Bytes) (pairs work : List ℕ) (at : Places) (c : Merged) (t : Totals) where
+module _ (buffer : Bytes) (pairs work : List ℕ) (at : Layout) (c : Merged) (t : Totals) where
   -- a part, and then the rest
   module _ (part' rest : Sections → List Sections → Bytes) (o o' o'' : Bytes) (from r r' : ℕ) (small : Word (length o)) (same : length o' ≡ length o) where
     pub then-printed : ((m : Sections) (ws : List Sections) → Printable buffer pairs work at c t m ws → Prints o from (part' m ws) o' r) → PrintsText rest buffer pairs work at c t o' r o'' r'
@@ -137,21 +137,21 @@ module _ (buffer : Bytes) (pairs work : List ℕ) (at : Places) (c : Merged) (t 
 
     -- ---- sets
 
-    pub constraints-printed : Prints o from (textOf (lines.literalLines (elements (part work (at .limits) (at .end))))) o' r → PrintsText fromGates buffer pairs work at c t o' r o'' r'
+    pub constraints-printed : Prints o from (textOf (lines.literalLines (elements (part work (at .«constraint_bits») (at .end))))) o' r → PrintsText fromGates buffer pairs work at c t o' r o'' r'
         → PrintsText fromConstraints buffer pairs work at c t o from o'' r'
     constraints-printed p q =
         then-printed (λ m ws. textOf (lines.literalLines (literalsOf (λ s. s .constraints) (whole m ws)))) fromGates o o' o'' from r r' small same
         (λ m ws k.
-        let e : elements (part work (at .limits) (at .end)) ≡ literalsOf (λ s. s .constraints) (whole m ws) = ap (λ (j : ℕ). elements (part work (at .limits) j)) (k .regions .end) ∙ k .result .limits in
+        let e : elements (part work (at .«constraint_bits») (at .end)) ≡ literalsOf (λ s. s .constraints) (whole m ws) = ap (λ (j : ℕ). elements (part work (at .«constraint_bits») j)) (k .regions .end) ∙ k .result .constraints in
         subst (λ (xs : List ℕ). Prints o from (textOf (lines.literalLines xs)) o' r) e p)
         q
 
-    pub bads-printed : Prints o from (textOf (lines.literalLines (elements (part work (at .bads) (at .limits))))) o' r → PrintsText fromConstraints buffer pairs work at c t o' r o'' r'
+    pub bads-printed : Prints o from (textOf (lines.literalLines (elements (part work (at .«bad_bits») (at .«constraint_bits»))))) o' r → PrintsText fromConstraints buffer pairs work at c t o' r o'' r'
         → PrintsText fromBads buffer pairs work at c t o from o'' r'
     bads-printed p q =
         then-printed (λ m ws. textOf (lines.literalLines (literalsOf safety (whole m ws)))) fromConstraints o o' o'' from r r' small same
         (λ m ws k.
-        let e : elements (part work (at .bads) (at .limits)) ≡ literalsOf safety (whole m ws) = ap (λ (j : ℕ). elements (part work (at .bads) j)) (k .regions .limits) ∙ k .result .bads in
+        let e : elements (part work (at .«bad_bits») (at .«constraint_bits»)) ≡ literalsOf safety (whole m ws) = ap (λ (j : ℕ). elements (part work (at .«bad_bits») j)) (k .regions .constraintBits) ∙ k .result .bads in
         subst (λ (xs : List ℕ). Prints o from (textOf (lines.literalLines xs)) o' r) e p)
         q
 
@@ -200,12 +200,12 @@ module _ (buffer : Bytes) (pairs work : List ℕ) (at : Places) (c : Merged) (t 
   bits-length : (a e : ℕ) → e ≡ a + at .bits → e ≤ length work → length (part work a e) ≡ at .bits
   bits-length a e f h = part-length work a e h ∙ omega arith
 
-  pub limits-small : PrintableSome buffer pairs work at c t → 64 * length (part work (at .limits) (at .end)) < 18446744073709551616
-  limits-small k = let n = bits-length (at .limits) (at .end) (k .holds .regions .end) (k .holds .fits) in omega (arith, n, k .holds .fewBits)
+  pub limits-small : PrintableSome buffer pairs work at c t → 64 * length (part work (at .«constraint_bits») (at .end)) < 18446744073709551616
+  limits-small k = let n = bits-length (at .«constraint_bits») (at .end) (k .holds .regions .end) (k .holds .fits) in omega (arith, n, k .holds .fewBits)
 
-  pub bads-small : PrintableSome buffer pairs work at c t → 64 * length (part work (at .bads) (at .limits)) < 18446744073709551616
+  pub bads-small : PrintableSome buffer pairs work at c t → 64 * length (part work (at .«bad_bits») (at .«constraint_bits»)) < 18446744073709551616
   bads-small k =
-      let n = bits-length (at .bads) (at .limits) (k .holds .regions .limits) (omega (arith, k .holds .fits, k .holds .regions .end)) in
+      let n = bits-length (at .«bad_bits») (at .«constraint_bits») (k .holds .regions .constraintBits) (omega (arith, k .holds .fits, k .holds .regions .end)) in
       omega (arith, n, k .holds .fewBits)
 
   -- the definitions of the composed latches end before the bads
@@ -226,8 +226,8 @@ module _ (buffer : Bytes) (pairs work : List ℕ) (at : Places) (c : Merged) (t 
   gates-end k =
       let g = k .holds .regions in
       let f = k .holds .fits in
-      let d : at .definitions ≤ length work = omega (arith, g .bads, g .limits, g .end, f) in
+      let d : at .definitions ≤ length work = omega (arith, g .badBits, g .constraintBits, g .end, f) in
       (omega (arith, g .definitions), (d, omega (arith, g .definitions, k .holds .gates, d)))
 
-  pub bads-end : PrintableSome buffer pairs work at c t → (at .bads ≤ at .limits) × (at .limits ≤ length work)
-  bads-end k = let g = k .holds .regions in (omega (arith, g .limits), omega (arith, g .end, k .holds .fits))
+  pub bads-end : PrintableSome buffer pairs work at c t → (at .«bad_bits» ≤ at .«constraint_bits») × (at .«constraint_bits» ≤ length work)
+  bads-end k = let g = k .holds .regions in (omega (arith, g .constraintBits), omega (arith, g .end, k .holds .fits))

@@ -17,7 +17,7 @@ use Rattle.compose_spec.specs.Printing.{gateLines, symbolLines}
 use Rattle.compose_joint.specs.Joint.{totalOf, inputCount, gateCount}
 use Rattle.compose_gather.specs.declared.Totals.{Totals}
 use Rattle.compose_gather.specs.Gathered.{Readable}
-use Rattle.compose_layout.specs.declared.Places.{Places}
+use Rattle.compose_layout.specs.declared.Layout.{Layout}
 use Rattle.compose_layout.specs.Laid.{Regions, Listed, Some}
 use Rattle.compose_merge.specs.declared.Merged.{Merged}
 use Rattle.compose_merge.specs.Merged.{Result}
@@ -25,7 +25,7 @@ use Rattle.compose_lines.specs.Header.{headerOf}
 use Rattle.compose_lines.specs.Text.{closingText, latchesOf, composedCounts, entryNames}
 
 -- all that is printed stands in the work words
-pub record Printable (buffer : Bytes) (pairs work : List ℕ) (at : Places) (c : Merged) (t : Totals) (m : Sections) (ws : List Sections) : Type 0 where
+pub record Printable (buffer : Bytes) (pairs work : List ℕ) (at : Layout) (c : Merged) (t : Totals) (m : Sections) (ws : List Sections) : Type 0 where
   pub readable : Readable buffer pairs ws
   pub regions : Regions m ws at
   pub listed : Listed buffer pairs m ws at work
@@ -36,11 +36,11 @@ pub record Printable (buffer : Bytes) (pairs work : List ℕ) (at : Places) (c :
   pub fewBits : at .bits ≤ 128000000
   pub fits : at .end ≤ length work
 
-abbrev pub PrintableSome : Bytes → List ℕ → List ℕ → Places → Merged → Totals → Type 0
+abbrev pub PrintableSome : Bytes → List ℕ → List ℕ → Layout → Merged → Totals → Type 0
 PrintableSome buffer pairs work at c t = Some (Printable buffer pairs work at c t)
 
 -- a text of the composition is printed
-pub record PrintsText (text : Sections → List Sections → Bytes) (buffer : Bytes) (pairs work : List ℕ) (at : Places) (c : Merged) (t : Totals) (o : Bytes) (from : ℕ) (o' : Bytes) (r : ℕ) : Type 0 where
+pub record PrintsText (text : Sections → List Sections → Bytes) (buffer : Bytes) (pairs work : List ℕ) (at : Layout) (c : Merged) (t : Totals) (o : Bytes) (from : ℕ) (o' : Bytes) (r : ℕ) : Type 0 where
   pub each : (m : Sections) (ws : List Sections) → Printable buffer pairs work at c t m ws → Prints o from (text m ws) o' r
 
 -- the text from the symbols of the latches on, from those of the inputs on, and so on up to the whole

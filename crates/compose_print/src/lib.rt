@@ -3,7 +3,7 @@ ghost use Rattle.compose_gather.specs.Counts.{CountsListed};
 ghost use Rattle.compose_print.specs.Written.{PrintableSome, PrintsText, fromLatchNames, fromInputNames, fromGates, fromConstraints, fromBads, fromLatches, fromInputs, fromHeader};
 use compose_gather::Totals;
 use compose_joint::Leaves;
-use compose_layout::Places;
+use compose_layout::Layout;
 use compose_lines::Counts;
 use compose_merge::Merged;
 
@@ -15,7 +15,7 @@ fn print_latch_names(
     pairs: &[u64],
     counts: &[u64],
     work: &[u64],
-    at: Places,
+    at: Layout,
     merged: Merged,
     totals: Totals,
 ) -> usize
@@ -48,7 +48,7 @@ fn print_input_names(
     pairs: &[u64],
     counts: &[u64],
     work: &[u64],
-    at: Places,
+    at: Layout,
     merged: Merged,
     totals: Totals,
 ) -> usize
@@ -68,7 +68,17 @@ fn print_input_names(
         at.vars + 1,
         1,
     );
-    print_latch_names(out, next, witnesses, pairs, counts, work, at, merged, totals)
+    print_latch_names(
+        out,
+        next,
+        witnesses,
+        pairs,
+        counts,
+        work,
+        at,
+        merged,
+        totals,
+    )
 }
 
 // From the gates on.
@@ -79,7 +89,7 @@ fn print_gates(
     pairs: &[u64],
     counts: &[u64],
     work: &[u64],
-    at: Places,
+    at: Layout,
     merged: Merged,
     totals: Totals,
 ) -> usize
@@ -98,7 +108,17 @@ fn print_gates(
         totals.gates + 1,
         merged.gates,
     );
-    print_input_names(out, next, witnesses, pairs, counts, work, at, merged, totals)
+    print_input_names(
+        out,
+        next,
+        witnesses,
+        pairs,
+        counts,
+        work,
+        at,
+        merged,
+        totals,
+    )
 }
 
 // From the constraints on.
@@ -109,7 +129,7 @@ fn print_constraints(
     pairs: &[u64],
     counts: &[u64],
     work: &[u64],
-    at: Places,
+    at: Layout,
     merged: Merged,
     totals: Totals,
 ) -> usize
@@ -117,10 +137,20 @@ fn print_constraints(
     requires { ⌜ CountsListed (now witnesses) (now pairs) (now counts) ⌝ }
     ensures { λ r. ⌜ PrintsText fromConstraints (now (witnesses .entry)) (now (pairs .entry)) (now (work .entry)) at merged totals (now (out .entry)) from (now (out .exit)) r ⌝ }
 {
-    let start = at.limits;
+    let start = at.constraint_bits;
     let end = at.end;
     let next = text_print::print_set(out, from, &work[start..end]);
-    print_gates(out, next, witnesses, pairs, counts, work, at, merged, totals)
+    print_gates(
+        out,
+        next,
+        witnesses,
+        pairs,
+        counts,
+        work,
+        at,
+        merged,
+        totals,
+    )
 }
 
 // From the bads on.
@@ -131,7 +161,7 @@ fn print_bads(
     pairs: &[u64],
     counts: &[u64],
     work: &[u64],
-    at: Places,
+    at: Layout,
     merged: Merged,
     totals: Totals,
 ) -> usize
@@ -139,10 +169,20 @@ fn print_bads(
     requires { ⌜ CountsListed (now witnesses) (now pairs) (now counts) ⌝ }
     ensures { λ r. ⌜ PrintsText fromBads (now (witnesses .entry)) (now (pairs .entry)) (now (work .entry)) at merged totals (now (out .entry)) from (now (out .exit)) r ⌝ }
 {
-    let start = at.bads;
-    let end = at.limits;
+    let start = at.bad_bits;
+    let end = at.constraint_bits;
     let next = text_print::print_set(out, from, &work[start..end]);
-    print_constraints(out, next, witnesses, pairs, counts, work, at, merged, totals)
+    print_constraints(
+        out,
+        next,
+        witnesses,
+        pairs,
+        counts,
+        work,
+        at,
+        merged,
+        totals,
+    )
 }
 
 // From the latches on.
@@ -153,7 +193,7 @@ fn print_latches(
     pairs: &[u64],
     counts: &[u64],
     work: &[u64],
-    at: Places,
+    at: Layout,
     merged: Merged,
     totals: Totals,
 ) -> usize
@@ -165,7 +205,17 @@ fn print_latches(
     let start = at.definitions;
     let end = start + 2 * merged.latches;
     let next = text_print::print_pairs(out, from, first as u64, &work[start..end]);
-    print_bads(out, next, witnesses, pairs, counts, work, at, merged, totals)
+    print_bads(
+        out,
+        next,
+        witnesses,
+        pairs,
+        counts,
+        work,
+        at,
+        merged,
+        totals,
+    )
 }
 
 // From the inputs on.
@@ -176,7 +226,7 @@ fn print_inputs(
     pairs: &[u64],
     counts: &[u64],
     work: &[u64],
-    at: Places,
+    at: Layout,
     merged: Merged,
     totals: Totals,
 ) -> usize
@@ -185,7 +235,17 @@ fn print_inputs(
     ensures { λ r. ⌜ PrintsText fromInputs (now (witnesses .entry)) (now (pairs .entry)) (now (work .entry)) at merged totals (now (out .entry)) from (now (out .exit)) r ⌝ }
 {
     let next = text_print::print_consecutive(out, from, 1, merged.inputs);
-    print_latches(out, next, witnesses, pairs, counts, work, at, merged, totals)
+    print_latches(
+        out,
+        next,
+        witnesses,
+        pairs,
+        counts,
+        work,
+        at,
+        merged,
+        totals,
+    )
 }
 
 // The whole text.
@@ -195,7 +255,7 @@ pub fn print_composition(
     pairs: &[u64],
     counts: &[u64],
     work: &[u64],
-    at: Places,
+    at: Layout,
     merged: Merged,
     totals: Totals,
 ) -> usize
@@ -212,5 +272,15 @@ pub fn print_composition(
         constraints: merged.constraints as u64,
     };
     let next = compose_lines::print_header(out, 0, head);
-    print_inputs(out, next, witnesses, pairs, counts, work, at, merged, totals)
+    print_inputs(
+        out,
+        next,
+        witnesses,
+        pairs,
+        counts,
+        work,
+        at,
+        merged,
+        totals,
+    )
 }

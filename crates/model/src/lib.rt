@@ -154,11 +154,20 @@ fn define_all(work: &mut [u64], most: usize, literals: &[u64]) -> bool
 }
 
 // The same for the inputs and latches of a model. The record comes in parts, since it is long to copy.
-pub fn define_leaves(counts: Counts, inputs: &[u64], latches: [AigerLatch; 8], work: &mut [u64]) -> bool
+pub fn define_leaves(
+    counts: Counts,
+    inputs: &[u64],
+    latches: [AigerLatch; 8],
+    work: &mut [u64],
+) -> bool
     ensures { λ r. ⌜ AddsLeaves (counts .«max_variable») (now (work .entry)) (leavesFrom counts (now (inputs .entry)) latches) (now (work .exit)) r ⌝ }
 {
     let at = currents(latches);
-    if define_all(work, counts.max_variable, lists::first(inputs, counts.inputs)) {
+    if define_all(
+        work,
+        counts.max_variable,
+        lists::first(inputs, counts.inputs),
+    ) {
         return define_all(work, counts.max_variable, lists::first(&at, counts.latches));
     }
     false

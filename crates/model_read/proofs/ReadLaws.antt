@@ -26,8 +26,8 @@ use Rattle.model.specs.declared.Verdict.{Verdict}
 use Rattle.model.specs.declared.Verdict.the-variants.{Valid, Refused}
 use Rattle.model.specs.Circuit.{Circuit, circuitOf, recordOf, noCircuit, noLatch}
 use Rattle.model.specs.Limits.{counted, wellDefined}
-use Rattle.model_text.specs.declared.Header.{Header}
-use Rattle.circuit_lines.specs.declared.Place.{Place}
+use Rattle.model_text.specs.declared.ModelHeader.{ModelHeader}
+use Rattle.circuit_lines.specs.declared.SectionEnd.{SectionEnd}
 use Rattle.circuit_lines.specs.SectionLines.{literalLine, gateLine}
 use Rattle.model_text.specs.ModelLines.{latchLine}
 use Rattle.circuit_lines.specs.Places.{linesFrom}
@@ -36,8 +36,8 @@ use Rattle.model_text.specs.Places.{Headed, TakesCounts}
 use Rattle.model_read.specs.declared.ReadTransition.{ReadTransition}
 use Rattle.model_read.specs.Reading.{sectionsOf, modelOf, bodyOf, readTransition, readOf, gatesAfter, Reads}
 use Rattle.model_read.specs.Passes.{verdictOf, Started, startOf, withGates, recordWith, Starts, TakesStart, Writes, gatesOf, Readable}
-use Rattle.model_text.specs.declared.Header.the-variants as header
-use Rattle.circuit_lines.specs.declared.Place.the-variants as place
+use Rattle.model_text.specs.declared.ModelHeader.the-variants as header
+use Rattle.circuit_lines.specs.declared.SectionEnd.the-variants as section-end
 
 -- a refusal's number beside a record of zeros
 pub refused-with : (reason : ℕ) (m : AigerTransition) → m ≡ recordOf noCircuit → record { verdict = Refused reason; model = m } ≡ readOf (refused reason)
@@ -110,16 +110,16 @@ accepts answer c d gates e q g g' w' n z v m u k x = record { returns = rw (e, q
 refuses : (answer : Answer Circuit) (k : ℕ) → answer ≡ refused k → (g w : List ℕ) (n : ℕ) → w ≡ zeros n → (r : ReadTransition) → r ≡ readOf (refused k) → Reads answer g n r g w
 refuses answer k e g w n z r q = record { returns = q ∙ ap readOf (sym e); writes = ap (λ (x : Answer Circuit). gatesAfter x g) (sym e); clears = z }
 
-module _ (s : Bytes) (c : Cursor) (n : Counts) (g w : List ℕ) (k : Readable n g w) (m : AigerTransition) (p : Place) (t : TakesStart s c n m p) where
+module _ (s : Bytes) (c : Cursor) (n : Counts) (g w : List ℕ) (k : Readable n g w) (m : AigerTransition) (p : SectionEnd) (t : TakesStart s c n m p) where
   abbrev answer : Answer Circuit
   answer = modelOf n (linesFrom s c)
 
-  pub model-no-head : p ≡ place.Bad → (r : ReadTransition) → r ≡ readOf (refused 8) → Reads answer g (length w) r g w
+  pub model-no-head : p ≡ section-end.Bad → (r : ReadTransition) → r ≡ readOf (refused 8) → Reads answer g (length w) r g w
   model-no-head e r q =
-      let f : TakesStart s c n m place.Bad = rw e at t in
+      let f : TakesStart s c n m section-end.Bad = rw e at t in
       refuses answer 8 (model-split n (linesFrom s c) ∙ rw f refl) g w (length w) (k .clear) r q
 
-  module _ (e : Cursor) (pe : p ≡ place.At e) where
+  module _ (e : Cursor) (pe : p ≡ section-end.At e) where
     starts : Starts s c n m e
     starts = rw pe at t
 
@@ -181,7 +181,7 @@ module _ (s : Bytes) (g : List ℕ) (w : ℕ) (b : Bool) (q : b ≡ goodText lim
   unfolding readTransition
   text-refused t w' z r x = refuses text 3 (rw (← q, not-true b t) refl) g w' w z r x
 
-  module _ (t : not b ≡ false) (h : Header) (k : TakesCounts s h) where
+  module _ (t : not b ≡ false) (h : ModelHeader) (k : TakesCounts s h) where
     pub header-bad : h ≡ header.Refused → (w' : List ℕ) → w' ≡ zeros w → (r : ReadTransition) → r ≡ readOf (refused 4) → Reads text g w r g w'
     unfolding readTransition
     header-bad e w' z r x = let f : headerOf (linesOf s) ≡ refused 4 = rw e at k in refuses text 4 (rw (← q, not-false b t, f) refl) g w' w z r x

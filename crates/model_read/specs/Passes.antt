@@ -20,18 +20,18 @@ use Rattle.model.specs.declared.Verdict.the-variants.{Valid, Refused}
 use Rattle.model.specs.Circuit.{Circuit, recordOf}
 use Rattle.model.specs.Limits.{counted, wellDefined}
 use Rattle.model.specs.Marking.{Marking}
-use Rattle.circuit_lines.specs.declared.Place.{Place}
+use Rattle.circuit_lines.specs.declared.SectionEnd.{SectionEnd}
 use Rattle.circuit_lines.specs.SectionLines.{literalLine, gateLine}
 use Rattle.model_text.specs.ModelLines.{latchLine}
 use Rattle.circuit_lines.specs.Places.{linesFrom, Takes}
 use Rattle.model_read.specs.declared.GateCheck.{GateCheck}
-use Rattle.circuit_lines.specs.declared.Place.the-variants as place
+use Rattle.circuit_lines.specs.declared.SectionEnd.the-variants as section-end
 use Rattle.model_read.specs.declared.GateCheck.the-variants as check
 
 -- ---- inputs, latches and outputs
 
 -- the literals of a section, stored in front of so many zeros
-pub record TakesLiterals (size : ℕ) (s : Bytes) (c : Cursor) (n : ℕ) (p : Place) (array : List ℕ) : Type 0 where
+pub record TakesLiterals (size : ℕ) (s : Bytes) (c : Cursor) (n : ℕ) (p : SectionEnd) (array : List ℕ) : Type 0 where
   pub items : List ℕ
   pub stored : array ≡ front (zeros size) items
   pub takes : Takes (literalLine Transition) s c n p items
@@ -76,9 +76,9 @@ pub record Starts (s : Bytes) (c : Cursor) (n : Counts) (m : AigerTransition) (e
   pub takes : startOf n (linesFrom s c) ≡ got (record { circuit = circuit; rest = linesFrom s e })
   pub model : m ≡ recordWith circuit (n .ands)
 
-abbrev pub TakesStart : Bytes → Cursor → Counts → AigerTransition → Place → Type 0
-TakesStart s c n m (place.At e) = Starts s c n m e
-TakesStart s c n m place.Bad = startOf n (linesFrom s c) ≡ refused 8
+abbrev pub TakesStart : Bytes → Cursor → Counts → AigerTransition → SectionEnd → Type 0
+TakesStart s c n m (section-end.At e) = Starts s c n m e
+TakesStart s c n m section-end.Bad = startOf n (linesFrom s c) ≡ refused 8
 
 -- ---- gates
 

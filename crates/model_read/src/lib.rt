@@ -12,13 +12,13 @@ ghost use Rattle.circuit_lines.specs.Places.{linesFrom};
 ghost use Rattle.model_read.specs.Reading.{modelOf, bodyOf, readTransition, readOf, Reads};
 ghost use Rattle.model_read.specs.Passes.{TakesStart, TakesLiterals, AddsNext, ChecksGates, Writes, gatesOf, verdictOf, Readable};
 use aiger::Gate;
-use circuit_lines::Place;
+use circuit_lines::SectionEnd;
 use circuit_lines::TakenGate;
 use model::AigerLatch;
 use model::AigerTransition;
 use model::Counts;
 use model::Verdict;
-use model_text::Header;
+use model_text::ModelHeader;
 use text::Cursor;
 use text::Reader;
 
@@ -30,18 +30,18 @@ pub struct ReadTransition {
 
 // A model without its gates, and the place of the gates' lines.
 struct Head {
-    place: Place,
+    place: SectionEnd,
     model: AigerTransition,
 }
 
 // The inputs of a section, with zeros past them; and the outputs.
 struct TakenInputs {
-    place: Place,
+    place: SectionEnd,
     inputs: [u64; 64],
 }
 
 struct TakenOutputs {
-    place: Place,
+    place: SectionEnd,
     outputs: [u64; 128],
 }
 
@@ -158,10 +158,10 @@ fn no_model() -> AigerTransition
 
 // What stands for the sections where a line of them is missing or bad.
 fn bad_head() -> Head
-    ensures { λ r. ⌜ r .place ≡ Place.Bad ⌝ }
+    ensures { λ r. ⌜ r .place ≡ SectionEnd.Bad ⌝ }
 {
     Head {
-        place: Place::Bad,
+        place: SectionEnd::Bad,
         model: no_model(),
     }
 }
@@ -173,12 +173,12 @@ fn take_head(s: &[u8], cursor: Cursor, counts: Counts) -> Head
 {
     let ins = take_inputs(s, cursor, counts.inputs);
     let in_place = ins.place;
-    let Place::At(p) = in_place else {
+    let SectionEnd::At(p) = in_place else {
         return bad_head();
     };
     let las = model_text::take_latches(s, p, counts.latches);
     let latch_place = las.place;
-    let Place::At(q) = latch_place else {
+    let SectionEnd::At(q) = latch_place else {
         return bad_head();
     };
     let outs = take_outputs(s, q, counts.outputs);
@@ -209,7 +209,14 @@ fn check_model(s: &[u8], cursor: Cursor, model: AigerTransition, work: &mut [u64
     let n = model::counts_of(model);
     let latches = model.latches;
     let fine = model::define_leaves(n, &model.inputs, latches, work);
-    let GateCheck::Done(good) = check_gates(s, cursor, model.and_count, model.max_variable, fine, work) else {
+    let GateCheck::Done(good) = check_gates(
+        s,
+        cursor,
+        model.and_count,
+        model.max_variable,
+        fine,
+        work,
+    ) else {
         return Verdict::Refused(8);
     };
     if !good {
@@ -232,13 +239,19 @@ fn refuse(reason: u64) -> ReadTransition
 }
 
 // The model of the lines from a cursor on. The work words are all 0 at first, and there is room for what the counts ask for.
-fn read_model(s: &[u8], cursor: Cursor, counts: Counts, gates: &mut [u64], work: &mut [u64]) -> ReadTransition
+fn read_model(
+    s: &[u8],
+    cursor: Cursor,
+    counts: Counts,
+    gates: &mut [u64],
+    work: &mut [u64],
+) -> ReadTransition
     requires { ⌜ Readable counts (now gates) (now work) ⌝ }
     ensures { λ r. ⌜ Reads (modelOf counts (linesFrom (now (s .entry)) cursor)) (now (gates .entry)) (length (now (work .entry))) r (now (gates .exit)) (now (work .exit)) ⌝ }
 {
     let head = take_head(s, cursor, counts);
     let place = head.place;
-    let Place::At(p) = place else {
+    let SectionEnd::At(p) = place else {
         return refuse(8);
     };
     let model = head.model;
@@ -257,7 +270,13 @@ fn read_model(s: &[u8], cursor: Cursor, counts: Counts, gates: &mut [u64], work:
 }
 
 // The model of the lines after a header, from a cursor on. The work words are all 0 at first.
-fn read_body(s: &[u8], cursor: Cursor, counts: Counts, gates: &mut [u64], work: &mut [u64]) -> ReadTransition
+fn read_body(
+    s: &[u8],
+    cursor: Cursor,
+    counts: Counts,
+    gates: &mut [u64],
+    work: &mut [u64],
+) -> ReadTransition
     requires { ⌜ now work ≡ zeros (length (now work)) ⌝ }
     ensures { λ r. ⌜ Reads (bodyOf (length (now (gates .entry))) (length (now (work .entry))) (linesFrom (now (s .entry)) cursor) counts) (now (gates .entry)) (length (now (work .entry))) r (now (gates .exit)) (now (work .exit)) ⌝ }
 {
@@ -281,7 +300,7 @@ pub fn parse_ascii_aiger_transition(s: &[u8], gates: &mut [u64], work: &mut [u64
     if !text::good_text(Reader::Transition, s) {
         return refuse(3);
     }
-    let Header::Got { counts, next } = model_text::take_header(s) else {
+    let ModelHeader::Got { counts, next } = model_text::take_model_header(s) else {
         return refuse(4);
     };
     read_body(s, next, counts, gates, work)

@@ -195,5 +195,14 @@ pub fn evaluate(
     let n = model::counts_of(model);
     let latches = model.latches;
     let outputs = model.outputs;
-    evaluate_parts(n, &model.inputs, latches, &outputs, gates, work, state, input)
+    evaluate_parts(
+        n,
+        &model.inputs,
+        latches,
+        &outputs,
+        gates,
+        work,
+        state,
+        input,
+    )
 }

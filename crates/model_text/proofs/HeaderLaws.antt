@@ -12,15 +12,15 @@ use Rattle.text.specs.declared.Cursor.{Cursor}
 use Rattle.text.specs.declared.Reader.the-variants.{Transition}
 use Rattle.text.specs.Lines.{linesOf}
 use Rattle.model.specs.declared.Counts.{Counts}
-use Rattle.circuit_lines.specs.declared.Header.{Header}
+use Rattle.circuit_lines.specs.declared.HeaderCount.{HeaderCount}
 use Rattle.circuit_lines.specs.SectionLines.{firstNumbers}
 use Rattle.circuit_lines.specs.Inner.{atMost}
-use Rattle.circuit_lines.specs.Places.{Headed, TakesHeader}
+use Rattle.circuit_lines.specs.Places.{Headed, TakesHeaderNumbers}
 use Rattle.circuit_lines.proofs.NumbersLaws.{stored-all, stored-length}
 use Rattle.model_text.specs.Header.{countsFrom, fiveCounts, headerOf}
 use Rattle.model_text.specs.Places.{TakesCounts}
-use Rattle.circuit_lines.specs.declared.Header.the-variants as numbers
-use Rattle.model_text.specs.declared.Header.the-variants as header
+use Rattle.circuit_lines.specs.declared.HeaderCount.the-variants as numbers
+use Rattle.model_text.specs.declared.ModelHeader.the-variants as header
 
 -- ---- counts_of
 
@@ -28,7 +28,7 @@ pub counts-are : (ns : List ℕ) (m i l o a : ℕ) → m ≡ getD ns 0 0 → i �
     → record { «max_variable» = m; inputs = i; latches = l; outputs = o; ands = a } ≡ countsFrom ns
 counts-are ns m i l o a p q r s t = rw (p, q, r, s, t)
 
--- ---- take_header
+-- ---- take_model_header
 
 counts-of-five : (ns : List ℕ) → length ns ≡ 5 → got (countsFrom ns) ≡ fiveCounts (some ns)
 counts-of-five ns h = rw (eq-eqb (length ns) 5 h)
@@ -46,7 +46,7 @@ over-five (some ns) h = not-five ns (λ e. five ns e h)
 abbrev zeros5 : List ℕ
 zeros5 = 0 ∷ 0 ∷ 0 ∷ 0 ∷ 0 ∷ []
 
-module _ (s : Bytes) (ns : List ℕ) (r : Header) (q : TakesHeader Transition s zeros5 ns r) where
+module _ (s : Bytes) (ns : List ℕ) (r : HeaderCount) (q : TakesHeaderNumbers Transition s zeros5 ns r) where
   pub header-bad : r ≡ numbers.Refused → TakesCounts s header.Refused
   header-bad k = sym (over-five (firstNumbers Transition (linesOf s)) (rw k at q))
 

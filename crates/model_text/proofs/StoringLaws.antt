@@ -13,7 +13,7 @@ use Rattle.circuit_lines.specs.Places.{linesFrom}
 use Rattle.model_text.specs.declared.TakenLatch.{TakenLatch}
 use Rattle.model_text.specs.ModelLines.{latchLine}
 use Rattle.model_text.specs.Places.{TakesLatch, TakesLatches}
-use Rattle.circuit_lines.specs.declared.Place.the-variants as place
+use Rattle.circuit_lines.specs.declared.SectionEnd.the-variants as section-end
 use Rattle.model_text.specs.declared.TakenLatch.the-variants as latch
 
 -- the first i latches of n lines are stored in o; the next line is at the cursor p
@@ -30,7 +30,7 @@ module _ (s : Bytes) (c : Cursor) (n : ℕ) where
       latches-more f l e u =
           storing-more latchLine n (linesFrom s c) (replicate 8 noLatch) o i (linesFrom s p) k h (omega (arith, k .grown .same)) l (linesFrom s e) (rw u at q)
 
-      pub latches-bad : t ≡ latch.Bad → TakesLatches s c n (record { place = place.Bad; latches = o })
+      pub latches-bad : t ≡ latch.Bad → TakesLatches s c n (record { place = section-end.Bad; latches = o })
       latches-bad u =
           record {
             items = k .done;
@@ -38,7 +38,7 @@ module _ (s : Bytes) (c : Cursor) (n : ℕ) where
             takes = storing-bad latchLine n (linesFrom s c) (replicate 8 noLatch) o i (linesFrom s p) k h (rw u at q);
           }
 
-    pub latches-done : n ≤ i → TakesLatches s c n (record { place = place.At p; latches = o })
+    pub latches-done : n ≤ i → TakesLatches s c n (record { place = section-end.At p; latches = o })
     latches-done h =
         record {
           items = k .done;

@@ -10,13 +10,13 @@ use Rattle.text.specs.Lines.{linesOf}
 use Rattle.model.specs.declared.AigerLatch.{AigerLatch}
 use Rattle.model.specs.declared.Counts.{Counts}
 use Rattle.model.specs.Circuit.{noLatch}
-use Rattle.circuit_lines.specs.declared.Place.the-variants as place
+use Rattle.circuit_lines.specs.declared.SectionEnd.the-variants as section-end
 use Rattle.circuit_lines.specs.Places.{linesFrom, Takes}
 use Rattle.model_text.specs.declared.TakenLatch.{TakenLatch}
 use Rattle.model_text.specs.declared.TakenLatch.the-variants as latch
 use Rattle.model_text.specs.declared.TakenLatches.{TakenLatches}
-use Rattle.model_text.specs.declared.Header.{Header}
-use Rattle.model_text.specs.declared.Header.the-variants as header
+use Rattle.model_text.specs.declared.ModelHeader.{ModelHeader}
+use Rattle.model_text.specs.declared.ModelHeader.the-variants as header
 use Rattle.model_text.specs.Header.{headerOf}
 use Rattle.model_text.specs.ModelLines.{latchLine}
 
@@ -25,14 +25,14 @@ pub record Headed (s : Bytes) (n : Counts) (c : Cursor) : Type 0 where
   pub counts : headerOf (linesOf s) ≡ got n
   pub rest : drop 1 (linesOf s) ≡ linesFrom s c
 
-abbrev pub TakesCounts : Bytes → Header → Type 0
+abbrev pub TakesCounts : Bytes → ModelHeader → Type 0
 TakesCounts s (header.Got n c) = Headed s n c
 TakesCounts s header.Refused = headerOf (linesOf s) ≡ refused 4
 
 -- one latch
 abbrev pub TakesLatch : Bytes → Cursor → TakenLatch → Type 0
-TakesLatch s c (latch.Got l n) = Takes latchLine s c 1 (place.At n) (l ∷ [])
-TakesLatch s c latch.Bad = Takes latchLine s c 1 place.Bad []
+TakesLatch s c (latch.Got l n) = Takes latchLine s c 1 (section-end.At n) (l ∷ [])
+TakesLatch s c latch.Bad = Takes latchLine s c 1 section-end.Bad []
 
 -- the latches of a section, stored in front of eight latches of zeros
 pub record TakesLatches (s : Bytes) (c : Cursor) (n : ℕ) (r : TakenLatches) : Type 0 where

@@ -7,7 +7,7 @@ ghost use Rattle.model_text.specs.Header.{countsFrom};
 ghost use Rattle.model_text.specs.ModelLines.{initializer, latchLine};
 ghost use Rattle.model_text.specs.Places.{TakesCounts, TakesLatch, TakesLatches};
 ghost use Rattle.model_text.specs.Inner.{latchAnswer, initializers};
-use circuit_lines::Place;
+use circuit_lines::SectionEnd;
 use model::AigerLatch;
 use model::Counts;
 use text::Cursor;
@@ -17,7 +17,7 @@ use text::Number;
 use text::Reader;
 use text::Taken;
 
-pub enum Header {
+pub enum ModelHeader {
     Got { counts: Counts, next: Cursor },
     Refused,
 }
@@ -29,7 +29,7 @@ pub enum TakenLatch {
 
 // The latches of a section, with zeros past them.
 pub struct TakenLatches {
-    pub place: Place,
+    pub place: SectionEnd,
     pub latches: [AigerLatch; 8],
 }
 
@@ -52,24 +52,24 @@ fn counts_of(ns: [u64; 5]) -> Counts
 }
 
 // The counts of a text's header, its first line.
-pub fn take_header(s: &[u8]) -> Header
+pub fn take_model_header(s: &[u8]) -> ModelHeader
     ensures { λ r. ⌜ TakesCounts (now (s .entry)) r ⌝ }
 {
     let mut ns: [u64; 5] = [0; 5];
-    let circuit_lines::Header::Got { count, next } = circuit_lines::take_header(
+    let circuit_lines::HeaderCount::Got { count, next } = circuit_lines::take_header_numbers(
         Reader::Transition,
         s,
         &mut ns,
     ) else {
-        return Header::Refused;
+        return ModelHeader::Refused;
     };
     if count == 5 {
-        return Header::Got {
+        return ModelHeader::Got {
             counts: counts_of(ns),
             next: next,
         };
     }
-    Header::Refused
+    ModelHeader::Refused
 }
 
 // Whether a field is an initializer of the latch with this literal.
@@ -160,7 +160,7 @@ pub fn take_latches(s: &[u8], cursor: Cursor, n: usize) -> TakenLatches
     }; 8];
     if 8 < n {
         return TakenLatches {
-            place: Place::Bad,
+            place: SectionEnd::Bad,
             latches: latches,
         };
     }
@@ -176,14 +176,14 @@ pub fn take_latches(s: &[u8], cursor: Cursor, n: usize) -> TakenLatches
             }
             TakenLatch::Bad => {
                 return TakenLatches {
-                    place: Place::Bad,
+                    place: SectionEnd::Bad,
                     latches: latches,
                 };
             }
         }
     }
     TakenLatches {
-        place: Place::At(p),
+        place: SectionEnd::At(p),
         latches: latches,
     }
 }

@@ -4,7 +4,7 @@ use Rattle.lists.specs.Answer.{Answer, got, refused}
 use Rattle.text.specs.declared.Literal.{Literal}
 use Rattle.model.specs.declared.Verdict.{Verdict}
 use Rattle.model.specs.declared.Verdict.the-variants as verdict
-use Rattle.cnf.specs.declared.Table.{Table}
+use Rattle.cnf.specs.declared.ClauseCounts.{ClauseCounts}
 use Rattle.witness_read.specs.declared.ReadAag.{ReadAag}
 use Rattle.witness_read.specs.declared.ReadAag.the-variants as read
 use Rattle.compose.specs.declared.Composed.{Composed}
@@ -19,9 +19,9 @@ abbrev pub reasonOf : Verdict → ℕ
 reasonOf verdict.Valid = 0
 reasonOf (verdict.Refused n) = n
 
-abbrev pub flatTable : Answer Table → NitMade
-flatTable (got t) = record { reason = 0; clauses = t .clauses; literals = t .literals }
-flatTable (refused n) = record { reason = n; clauses = 0; literals = 0 }
+abbrev pub flatCounts : Answer ClauseCounts → NitMade
+flatCounts (got t) = record { reason = 0; clauses = t .clauses; literals = t .literals }
+flatCounts (refused n) = record { reason = n; clauses = 0; literals = 0 }
 
 abbrev pub flatCounts : ReadAag → NitWitness
 flatCounts (read.Got n) =

@@ -3,7 +3,7 @@ ghost use mathlib.Core.Path.{_≡_};
 ghost use Rattle.model.specs.RecordWords.{recordIn};
 ghost use Rattle.obligation_check.specs.Boundary.{askedOf};
 ghost use Rattle.obligation.specs.Promise.{answerOf, buffersOf};
-ghost use Rattle.nitrasovy.specs.Inner.{flatTable};
+ghost use Rattle.nitrasovy.specs.Inner.{flatCounts};
 ghost use Rattle.nitrasovy.specs.FlatObligations.{RelationFlat, TransducerFlat, TerminalFlat};
 use model::words;
 use obligation::Made;
@@ -20,13 +20,13 @@ pub struct NitMade {
 }
 
 fn flat_made(made: Made) -> NitMade
-    ensures { λ r. ⌜ r ≡ flatTable (answerOf made) ⌝ }
+    ensures { λ r. ⌜ r ≡ flatCounts (answerOf made) ⌝ }
 {
     match made {
-        Made::Clauses(table) => NitMade {
+        Made::Clauses(appended) => NitMade {
             reason: 0,
-            clauses: table.clauses,
-            literals: table.literals,
+            clauses: appended.clauses,
+            literals: appended.literals,
         },
         Made::Refused(reason) => NitMade {
             reason: reason,

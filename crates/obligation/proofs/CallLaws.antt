@@ -103,12 +103,12 @@ module _ (q : Asked) (sized : Sized (q .model)) (pairs literals work work' : Lis
 
 -- ---- a whole record, by its parts
 
-module _ (m : AigerTransition) (n : Counts) (e : n ≡ countsOf m) (gates relevant predicate terms : List ℕ) (b : Buffers) (r : Made) (after : Buffers) where
+module _ (m : AigerTransition) (n : Counts) (e : n ≡ countsOf m) (gates relevant predicate predicateLiterals : List ℕ) (b : Buffers) (r : Made) (after : Buffers) where
   abbrev parts : Asked
-  parts = askedOf (recordFrom n (m .inputs) (m .latches) (m .outputs)) gates relevant predicate terms
+  parts = askedOf (recordFrom n (m .inputs) (m .latches) (m .outputs)) gates relevant predicate predicateLiterals
 
   abbrev whole : Asked
-  whole = askedOf m gates relevant predicate terms
+  whole = askedOf m gates relevant predicate predicateLiterals
 
   pub relation-whole : (source : ℕ) (targets : List ℕ) → MakesRelation parts source targets b r after → MakesRelation whole source targets b r after
   relation-whole source targets k = rw e at k

@@ -1,4 +1,4 @@
--- Laws for the functions that append all clauses: what is appended, and that the table can count it.
+-- Laws for the functions that append all clauses: what is appended, and that it can be counted.
 use Prim.Native.Nat.{ℕ, _+_, _*_, _/_, _≤_}
 use mathlib.Core.Bool.{Bool, true, false}
 use mathlib.Core.List.{List, [], _∷_, _++_, map}
@@ -9,7 +9,7 @@ use Rattle.lists.specs.Bits.{bits}
 use Rattle.lists.specs.Words.{triplesOf, wordsOf}
 use Rattle.lists.proofs.WordLaws.{pairs-count, triples-count, words-length}
 use Rattle.aiger.specs.Gates.{gateFrom}
-use Rattle.cnf.specs.declared.Table.{Table}
+use Rattle.cnf.specs.declared.ClauseCounts.{ClauseCounts}
 use Rattle.cnf.specs.Clauses.{clausesIn}
 use Rattle.cnf.specs.Appending.{Appends, Space}
 use Rattle.cnf.proofs.AppendLaws.{appends-then, space-empty, space-less, space-left}
@@ -37,13 +37,13 @@ module _ (p : Parts) (f : FrontReady p) where
   pub sources-space : Space empty (length (p .currents))
   sources-space = space-empty (length (p .currents)) (omega (arith, f .few))
 
-  module _ (a₁ : Table) (p₀ w₀ p₁ w₁ : List ℕ) (g : Appends sources empty p₀ w₀ a₁ p₁ w₁) where
+  module _ (a₁ : ClauseCounts) (p₀ w₀ p₁ w₁ : List ℕ) (g : Appends sources empty p₀ w₀ a₁ p₁ w₁) where
     pub clauses-space : Space a₁ (length (p .pairs) / 2)
     clauses-space =
         space-left sources empty p₀ w₀ a₁ p₁ w₁ g (length (p .pairs) / 2) 100
         (omega (arith, count (p .currents) (p .source), f .few, f .clauses)) (space-empty 100 (omega arith))
 
-    module _ (a₂ : Table) (p₂ w₂ : List ℕ) (h : Appends clauses a₁ p₁ w₁ a₂ p₂ w₂) where
+    module _ (a₂ : ClauseCounts) (p₂ w₂ : List ℕ) (h : Appends clauses a₁ p₁ w₁ a₂ p₂ w₂) where
       both : Appends (sources ++ clauses) empty p₀ w₀ a₂ p₂ w₂
       both = appends-then sources clauses empty a₁ a₂ p₀ w₀ p₁ w₁ p₂ w₂ g h
 
@@ -53,7 +53,7 @@ module _ (p : Parts) (f : FrontReady p) where
           (rw (length-append sources clauses) (omega (arith, count (p .currents) (p .source), clauses-many, f .few, f .clauses, f .most)))
           (space-empty 4000000 (omega arith))
 
-      pub front-appends : (a₃ : Table) (p₃ w₃ : List ℕ) → Appends gates a₂ p₂ w₂ a₃ p₃ w₃ → Appends (frontLists p) empty p₀ w₀ a₃ p₃ w₃
+      pub front-appends : (a₃ : ClauseCounts) (p₃ w₃ : List ℕ) → Appends gates a₂ p₂ w₂ a₃ p₃ w₃ → Appends (frontLists p) empty p₀ w₀ a₃ p₃ w₃
       front-appends a₃ p₃ w₃ k = appends-then sources (clauses ++ gates) empty a₁ a₃ p₀ w₀ p₁ w₁ p₃ w₃ g (appends-then clauses gates a₁ a₂ a₃ p₁ w₁ p₂ w₂ p₃ w₃ h k)
 
   pub front-most : length (frontLists p) ≤ length (p .currents) + length (p .pairs) / 2 + 3 * p .ands
@@ -64,18 +64,18 @@ module _ (p : Parts) (f : FrontReady p) where
   front-many : length (frontLists p) ≤ 3000072
   front-many = omega (arith, front-most, f .few, f .clauses, f .most)
 
-  module _ (a₁ : Table) (p₀ w₀ p₁ w₁ : List ℕ) (g : Appends (frontLists p) empty p₀ w₀ a₁ p₁ w₁) where
+  module _ (a₁ : ClauseCounts) (p₀ w₀ p₁ w₁ : List ℕ) (g : Appends (frontLists p) empty p₀ w₀ a₁ p₁ w₁) where
     pub claims-space : Space a₁ 1000000
     claims-space = space-left (frontLists p) empty p₀ w₀ a₁ p₁ w₁ g 1000000 5000000 (omega (arith, front-many)) (space-empty 5000000 (omega arith))
 
-    module _ (c : Claimed) (a₂ : Table) (p₂ w₂ : List ℕ) (h : Appends (claimLists c) a₁ p₁ w₁ a₂ p₂ w₂) where
+    module _ (c : Claimed) (a₂ : ClauseCounts) (p₂ w₂ : List ℕ) (h : Appends (claimLists c) a₁ p₁ w₁ a₂ p₂ w₂) where
       pub last-space : length (claimLists c) ≤ 1000000 → Space a₂ 1
       last-space few = space-left (claimLists c) a₁ p₁ w₁ a₂ p₂ w₂ h 1 1000001 (omega (arith, few)) more
         where
           more : Space a₁ 1000001
           more = space-left (frontLists p) empty p₀ w₀ a₁ p₁ w₁ g 1000001 5000000 (omega (arith, front-many)) (space-empty 5000000 (omega arith))
 
-      pub all-appends : (last : ℕ) (a₃ : Table) (p₃ w₃ : List ℕ) → Appends ((last ∷ []) ∷ []) a₂ p₂ w₂ a₃ p₃ w₃ → Appends (allLists p c last) empty p₀ w₀ a₃ p₃ w₃
+      pub all-appends : (last : ℕ) (a₃ : ClauseCounts) (p₃ w₃ : List ℕ) → Appends ((last ∷ []) ∷ []) a₂ p₂ w₂ a₃ p₃ w₃ → Appends (allLists p c last) empty p₀ w₀ a₃ p₃ w₃
       all-appends last a₃ p₃ w₃ k =
           appends-then (frontLists p) (claimLists c ++ (last ∷ []) ∷ []) empty a₁ a₃ p₀ w₀ p₁ w₁ p₃ w₃ g
           (appends-then (claimLists c) ((last ∷ []) ∷ []) a₁ a₂ a₃ p₁ w₁ p₂ w₂ p₃ w₃ h k)
@@ -102,14 +102,14 @@ claims-few keys words wide d = go wide (claims-many keys words wide)
     go true e = omega (arith, e, d .fewWords)
     go false e = omega (arith, e, d .fewWords)
 
-module _ (keys words : List ℕ) (at : Table) (s : Space at 1000000) where
+module _ (keys words : List ℕ) (at : ClauseCounts) (s : Space at 1000000) where
   pub states-space : (wide : Bool) → ClaimsReady (claimedOf keys words wide) → Space at (length words)
   states-space wide d = space-less at (length words) 1000000 (d .fewWords) s
 
   pub outcomes-space : (wide : Bool) → ClaimsReady (claimedOf keys words wide) → Space at (length words / 3)
   outcomes-space wide d = space-less at (length words / 3) 1000000 (omega (arith, d .fewWords)) s
 
-module _ (keys words : List ℕ) (wide : Bool) (a b : Table) (p w p' w' : List ℕ) where
+module _ (keys words : List ℕ) (wide : Bool) (a b : ClauseCounts) (p w p' w' : List ℕ) where
   pub claims-wide : wide ≡ true → Appends (outcomeClaims keys words) a p w b p' w' → Appends (claimLists (claimedOf keys words wide)) a p w b p' w'
   claims-wide e g = rw e g
 

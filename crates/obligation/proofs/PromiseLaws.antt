@@ -9,7 +9,7 @@ use Rattle.lists.specs.Answer.{Answer, got, refused}
 use Rattle.lists.specs.Parts.{front, zeros}
 use Rattle.lists.proofs.AnswerLaws.{andThen-got, got-same}
 use Rattle.model.proofs.ValueLaws.{Sized}
-use Rattle.cnf.specs.declared.Table.{Table}
+use Rattle.cnf.specs.declared.ClauseCounts.{ClauseCounts}
 use Rattle.cnf.specs.Clauses.{Clause, literalsOf, pairsFrom, returned}
 use Rattle.cnf.specs.Appending.{Holding}
 use Rattle.cnf.proofs.AppendLaws.{holding-pairs, holding-words}
@@ -22,16 +22,16 @@ use Rattle.obligation.specs.Appended.{roomOf, Continues, MakesAll}
 
 -- ---- an accepted answer: its clauses are those in the buffers at exit
 
-record Returned (answer : Answer (List Clause)) (b : Buffers) (t : Table) (after : Buffers) : Type 0 where
+record Returned (answer : Answer (List Clause)) (b : Buffers) (t : ClauseCounts) (after : Buffers) : Type 0 where
   clauses : List Clause
   is : answer ≡ got clauses
   stand : clausesAfter t after ≡ inBuffers clauses (b .pairs) (b .literals)
 
-stands : (cs : List Clause) (t : Table) (pairs words pairs' words' : List ℕ) → sizes cs ≡ t → pairs' ≡ front pairs (pairsFrom 0 cs) → words' ≡ front words (literalsOf cs)
+stands : (cs : List Clause) (t : ClauseCounts) (pairs words pairs' words' : List ℕ) → sizes cs ≡ t → pairs' ≡ front pairs (pairsFrom 0 cs) → words' ≡ front words (literalsOf cs)
     → returned (t .clauses) pairs' words' ≡ inBuffers cs pairs words
 stands cs t pairs words pairs' words' s p l = rw (← s, p, l) refl
 
-returned-by : (answer : Answer (List Clause)) (b : Buffers) (r : Made) (after : Buffers) (t : Table) → Makes answer b r after → answerOf r ≡ got t → Returned answer b t after
+returned-by : (answer : Answer (List Clause)) (b : Buffers) (r : Made) (after : Buffers) (t : ClauseCounts) → Makes answer b r after → answerOf r ≡ got t → Returned answer b t after
 returned-by answer b r after t m e =
     let a = andThen-got answer (λ cs. got (sizes cs)) t (sym (m .answers) ∙ e) in
     let cs : List Clause = a .0 in
@@ -82,7 +82,7 @@ makes-rest answer rest pairs literals work r pairs' literals' work' e m z =
 
 -- ---- measured, then written
 
-module _ (cs : List Clause) (pairs literals : List ℕ) (p w p' w' : List ℕ) (size : Table) (h : Holding p w cs size p' w') where
+module _ (cs : List Clause) (pairs literals : List ℕ) (p w p' w' : List ℕ) (size : ClauseCounts) (h : Holding p w cs size p' w') where
   within-no-pairs : length pairs / 2 < size .clauses → within (roomOf pairs literals) cs ≡ refused 20
   within-no-pairs k = rw (lt-leb (2 * length cs) (length pairs) (omega (arith, h .clauses))) refl
 
@@ -96,15 +96,15 @@ module _ (cs : List Clause) (pairs literals : List ℕ) (p w p' w' : List ℕ) (
     pub no-words : length literals < size .literals → MakesAll cs pairs literals (Refused 20) pairs literals
     no-words j = let e = within-no-words j in record { answers = rw e refl; pairsAre = rw e refl; literalsAre = rw e refl }
 
-    module _ (j : size .literals ≤ length literals) (at : Table) (pairs' literals' : List ℕ) (g : Holding pairs literals cs at pairs' literals') where
+    module _ (j : size .literals ≤ length literals) (at : ClauseCounts) (pairs' literals' : List ℕ) (g : Holding pairs literals cs at pairs' literals') where
       within-room : within (roomOf pairs literals) cs ≡ got cs
       within-room = rw (le-leb (2 * length cs) (length pairs) (omega (arith, h .clauses)), le-leb (length (literalsOf cs)) (length literals) (omega (arith, h .literals))) refl
 
-      same-table : at ≡ sizes cs
-      same-table = table-is at (length cs) (length (literalsOf cs)) (g .clauses) (g .literals)
+      same-counts : at ≡ sizes cs
+      same-counts = counts-are at (length cs) (length (literalsOf cs)) (g .clauses) (g .literals)
         where
-          table-is : (t : Table) (a b : ℕ) → t .clauses ≡ a → t .literals ≡ b → t ≡ record { clauses = a; literals = b }
-          table-is t a b e f = rw (← e, ← f) refl
+          counts-are : (t : ClauseCounts) (a b : ℕ) → t .clauses ≡ a → t .literals ≡ b → t ≡ record { clauses = a; literals = b }
+          counts-are t a b e f = rw (← e, ← f) refl
 
       pub made-all : MakesAll cs pairs literals (Clauses at) pairs' literals'
       made-all =
@@ -112,7 +112,7 @@ module _ (cs : List Clause) (pairs literals : List ℕ) (p w p' w' : List ℕ) (
           let words : at .literals ≤ length literals = omega (arith, h .literals, g .literals) in
           let e = within-room in
           record {
-            answers = rw (e, same-table) refl;
+            answers = rw (e, same-counts) refl;
             pairsAre = rw e (holding-pairs cs pairs literals at pairs' literals' g room words);
             literalsAre = rw e (holding-words cs pairs literals at pairs' literals' g room words);
           }

@@ -11,7 +11,7 @@ use Rattle.lists.specs.Words.{pairsOf, triplesOf, wordsOf, lengths}
 use Rattle.lists.proofs.WordLaws.{triples-count}
 use Rattle.aiger.specs.declared.Gate.{Gate}
 use Rattle.aiger.specs.Gates.{gateFrom}
-use Rattle.cnf.specs.declared.Table.{Table}
+use Rattle.cnf.specs.declared.ClauseCounts.{ClauseCounts}
 use Rattle.cnf.specs.Clauses.{clausesIn}
 use Rattle.cnf.specs.Simplified.{simplified}
 use Rattle.cnf.specs.Appending.{Appends, Holding}
@@ -95,7 +95,7 @@ module _ (p : Parts) (c : Claimed) (last : ℕ) (r : Ready p c last) where
   -- with so much room, what is appended is the whole answer
   pub made-roomy : (pairs literals : List ℕ) (n : ℕ) → n ≡ claimCount (length (c .words)) (c .wide)
       → Roomy (length (p .currents)) (length (p .pairs) / 2) (p .ands) (length (c .keys)) n (length pairs) (length literals)
-      → (at : Table) (pairs' literals' : List ℕ) → Appends (allLists p c last) empty pairs literals at pairs' literals'
+      → (at : ClauseCounts) (pairs' literals' : List ℕ) → Appends (allLists p c last) empty pairs literals at pairs' literals'
       → MakesAll (wordsOf simplified (allLists p c last)) pairs literals (Clauses at) pairs' literals'
   made-roomy pairs literals n e room at pairs' literals' g =
       let literals-fit : length (p .currents) + 7 * p .ands + length (c .keys) * claimCount (length (c .words)) (c .wide) + 1025 ≤ length literals = rw (← e) (room .literalsSuffice) in

@@ -10,7 +10,7 @@ use Rattle.lists.specs.Tests.{Each}
 use Rattle.lists.specs.Words.{triplesOf, wordsOf}
 use Rattle.aiger.specs.Gates.{gateFrom}
 use Rattle.model.specs.Checked.{checked}
-use Rattle.cnf.specs.declared.Table.{Table}
+use Rattle.cnf.specs.declared.ClauseCounts.{ClauseCounts}
 use Rattle.cnf.specs.Clauses.{Clause, clausesIn}
 use Rattle.obligation_spec.specs.Lists.{sourceLists, predicateLiteral, gateLists}
 use Rattle.obligation_spec.specs.Limits.{bounded}
@@ -89,8 +89,8 @@ pub record Roomy (currents clauses ands keys claims pairs literals : ℕ) : Type
   pub pairsSuffice : currents + clauses + 3 * ands + claims + 1 ≤ pairs / 2
   pub literalsSuffice : currents + 7 * ands + keys * claims + 1025 ≤ literals
 
--- a table with nothing in it
-abbrev pub empty : Table
+-- nothing is appended yet
+abbrev pub empty : ClauseCounts
 empty = record { clauses = 0; literals = 0 }
 
 -- the room that the buffers have

@@ -5,7 +5,7 @@ use mathlib.Core.Path.{_≡_}
 use lib.ListN.{length}
 use Rattle.lists.specs.Answer.{Answer, got, refused, andThen}
 use Rattle.lists.specs.Parts.{front, zeros}
-use Rattle.cnf.specs.declared.Table.{Table}
+use Rattle.cnf.specs.declared.ClauseCounts.{ClauseCounts}
 use Rattle.cnf.specs.Clauses.{Clause, literalsOf, pairsFrom, returned}
 use Rattle.obligation_spec.specs.Lists.{outcomesOf}
 use Rattle.obligation_spec.specs.Calls.{Asked, Lent, circuit, predicate, relationRow, transducerRow, terminalList}
@@ -14,12 +14,12 @@ use Rattle.obligation.specs.declared.Made.{Made}
 use Rattle.obligation.specs.declared.Made.the-variants.{Clauses, Refused}
 
 -- what the call's answer says
-abbrev pub answerOf : Made → Answer Table
+abbrev pub answerOf : Made → Answer ClauseCounts
 answerOf (Clauses t) = got t
 answerOf (Refused n) = refused n
 
 -- how many clauses and literals there are
-abbrev pub sizes : List Clause → Table
+abbrev pub sizes : List Clause → ClauseCounts
 sizes cs = record { clauses = length cs; literals = length (literalsOf cs) }
 
 -- "Result buffers keep their contents", and "On acceptance, elements past the result keep theirs"
@@ -51,20 +51,20 @@ pub record Makes (answer : Answer (List Clause)) (b : Buffers) (r : Made) (after
   pub clears : after .work ≡ zeros (length (b .work))
 
 -- the clauses returned: as many as the answer says, in the buffers at exit
-abbrev pub clausesAfter : Table → Buffers → List Clause
+abbrev pub clausesAfter : ClauseCounts → Buffers → List Clause
 clausesAfter t after = returned (t .clauses) (after .pairs) (after .literals)
 
 -- `relation_row_completeness_cnf`
 pub record MakesRelation (q : Asked) (source : ℕ) (targets : List ℕ) (b : Buffers) (r : Made) (after : Buffers) : Type 0 where
   pub makes : Makes (relationRow q source targets (lentOf b)) b r after
-  pub means : (t : Table) → answerOf r ≡ got t → RowMeans (circuit q) (q .relevant) (predicate q) source (ToTarget (circuit q) source targets) (clausesAfter t after)
+  pub means : (t : ClauseCounts) → answerOf r ≡ got t → RowMeans (circuit q) (q .relevant) (predicate q) source (ToTarget (circuit q) source targets) (clausesAfter t after)
 
 -- `transducer_row_completeness_cnf`
 pub record MakesTransducer (q : Asked) (source : ℕ) (observed outcomes : List ℕ) (b : Buffers) (r : Made) (after : Buffers) : Type 0 where
   pub makes : Makes (transducerRow q source observed outcomes (lentOf b)) b r after
-  pub means : (t : Table) → answerOf r ≡ got t → RowMeans (circuit q) (q .relevant) (predicate q) source (ToOutcome (circuit q) source observed (outcomesOf outcomes)) (clausesAfter t after)
+  pub means : (t : ClauseCounts) → answerOf r ≡ got t → RowMeans (circuit q) (q .relevant) (predicate q) source (ToOutcome (circuit q) source observed (outcomesOf outcomes)) (clausesAfter t after)
 
 -- `terminal_completeness_cnf`
 pub record MakesTerminal (q : Asked) (bad : ℕ) (states : List ℕ) (b : Buffers) (r : Made) (after : Buffers) : Type 0 where
   pub makes : Makes (terminalList q bad states (lentOf b)) b r after
-  pub means : (t : Table) → answerOf r ≡ got t → TerminalMeans (circuit q) (q .relevant) (predicate q) bad states (clausesAfter t after)
+  pub means : (t : ClauseCounts) → answerOf r ≡ got t → TerminalMeans (circuit q) (q .relevant) (predicate q) bad states (clausesAfter t after)

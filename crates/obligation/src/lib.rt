@@ -1,7 +1,7 @@
 // The obligations of item 7 of 01: the clauses of rows and of terminal lists, in lent buffers.
 ghost use Rattle.obligation_check.specs.Boundary.{askedOf};
 ghost use Rattle.obligation.specs.Promise.{buffersOf, MakesRelation, MakesTransducer, MakesTerminal};
-use cnf::Table;
+use cnf::ClauseCounts;
 use model::AigerTransition;
 
 mod making;
@@ -11,7 +11,7 @@ pub mod transducer;
 
 // The numbers of clauses and literals that were written, or the number of 01's reason.
 pub enum Made {
-    Clauses(Table),
+    Clauses(ClauseCounts),
     Refused(u64),
 }
 
@@ -21,14 +21,14 @@ pub fn relation_row_completeness_cnf(
     gates: &[u64],
     relevant: &[u64],
     source: u64,
-    predicate: &[u64],
-    terms: &[u32],
+    predicate_pairs: &[u64],
+    predicate_literals: &[u32],
     targets: &[u64],
     work: &mut [u64],
     pairs: &mut [u64],
     literals: &mut [u32],
 ) -> Made
-    ensures { λ r. ⌜ MakesRelation (askedOf model (now (gates .entry)) (now (relevant .entry)) (now (predicate .entry)) (now (terms .entry))) source (now (targets .entry)) (buffersOf (now (pairs .entry)) (now (literals .entry)) (now (work .entry))) r (buffersOf (now (pairs .exit)) (now (literals .exit)) (now (work .exit))) ⌝ }
+    ensures { λ r. ⌜ MakesRelation (askedOf model (now (gates .entry)) (now (relevant .entry)) (now («predicate_pairs» .entry)) (now («predicate_literals» .entry))) source (now (targets .entry)) (buffersOf (now (pairs .entry)) (now (literals .entry)) (now (work .entry))) r (buffersOf (now (pairs .exit)) (now (literals .exit)) (now (work .exit))) ⌝ }
 {
     let n = model::counts_of(model);
     let latches = model.latches;
@@ -41,8 +41,8 @@ pub fn relation_row_completeness_cnf(
         gates,
         relevant,
         source,
-        predicate,
-        terms,
+        predicate_pairs,
+        predicate_literals,
         targets,
         work,
         pairs,
@@ -56,15 +56,15 @@ pub fn transducer_row_completeness_cnf(
     gates: &[u64],
     relevant: &[u64],
     source: u64,
-    predicate: &[u64],
-    terms: &[u32],
+    predicate_pairs: &[u64],
+    predicate_literals: &[u32],
     observed: &[u64],
     outcomes: &[u64],
     work: &mut [u64],
     pairs: &mut [u64],
     literals: &mut [u32],
 ) -> Made
-    ensures { λ r. ⌜ MakesTransducer (askedOf model (now (gates .entry)) (now (relevant .entry)) (now (predicate .entry)) (now (terms .entry))) source (now (observed .entry)) (now (outcomes .entry)) (buffersOf (now (pairs .entry)) (now (literals .entry)) (now (work .entry))) r (buffersOf (now (pairs .exit)) (now (literals .exit)) (now (work .exit))) ⌝ }
+    ensures { λ r. ⌜ MakesTransducer (askedOf model (now (gates .entry)) (now (relevant .entry)) (now («predicate_pairs» .entry)) (now («predicate_literals» .entry))) source (now (observed .entry)) (now (outcomes .entry)) (buffersOf (now (pairs .entry)) (now (literals .entry)) (now (work .entry))) r (buffersOf (now (pairs .exit)) (now (literals .exit)) (now (work .exit))) ⌝ }
 {
     let n = model::counts_of(model);
     let latches = model.latches;
@@ -77,8 +77,8 @@ pub fn transducer_row_completeness_cnf(
         gates,
         relevant,
         source,
-        predicate,
-        terms,
+        predicate_pairs,
+        predicate_literals,
         observed,
         outcomes,
         work,
@@ -92,15 +92,15 @@ pub fn terminal_completeness_cnf(
     model: AigerTransition,
     gates: &[u64],
     relevant: &[u64],
-    predicate: &[u64],
-    terms: &[u32],
+    predicate_pairs: &[u64],
+    predicate_literals: &[u32],
     bad: u64,
     states: &[u64],
     work: &mut [u64],
     pairs: &mut [u64],
     literals: &mut [u32],
 ) -> Made
-    ensures { λ r. ⌜ MakesTerminal (askedOf model (now (gates .entry)) (now (relevant .entry)) (now (predicate .entry)) (now (terms .entry))) bad (now (states .entry)) (buffersOf (now (pairs .entry)) (now (literals .entry)) (now (work .entry))) r (buffersOf (now (pairs .exit)) (now (literals .exit)) (now (work .exit))) ⌝ }
+    ensures { λ r. ⌜ MakesTerminal (askedOf model (now (gates .entry)) (now (relevant .entry)) (now («predicate_pairs» .entry)) (now («predicate_literals» .entry))) bad (now (states .entry)) (buffersOf (now (pairs .entry)) (now (literals .entry)) (now (work .entry))) r (buffersOf (now (pairs .exit)) (now (literals .exit)) (now (work .exit))) ⌝ }
 {
     let n = model::counts_of(model);
     let latches = model.latches;
@@ -112,8 +112,8 @@ pub fn terminal_completeness_cnf(
         &outputs,
         gates,
         relevant,
-        predicate,
-        terms,
+        predicate_pairs,
+        predicate_literals,
         bad,
         states,
         work,

@@ -7,25 +7,25 @@ ghost use Rattle.cnf.specs.Simplified.{simplified};
 ghost use Rattle.cnf.specs.Appending.{Appends, Space};
 ghost use Rattle.obligation.specs.Appended.{partsOf, claimedOf, frontLists, claimLists, allLists, claimCount, FrontReady, ClaimsReady, Ready, Roomy, MakesAll, empty};
 use crate::Made;
-use cnf::Table;
+use cnf::ClauseCounts;
 
-// Appends the clauses of source latches, predicate and gates to an empty table.
+// Appends the clauses of source latches, predicate and gates.
 fn append_front(
     currents: &[u64],
     source: u64,
     inputs: &[u64],
     relevant: &[u64],
-    predicate: &[u64],
-    terms: &[u32],
+    predicate_pairs: &[u64],
+    predicate_literals: &[u32],
     gates: &[u64],
     ands: usize,
     pairs: &mut [u64],
     literals: &mut [u32],
-) -> Table
-    requires { ⌜ FrontReady (partsOf (now currents) source (now inputs) (now relevant) (now predicate) (now terms) (now gates) ands) ⌝ }
-    ensures { λ r. ⌜ Appends (frontLists (partsOf (now (currents .entry)) source (now (inputs .entry)) (now (relevant .entry)) (now (predicate .entry)) (now (terms .entry)) (now (gates .entry)) ands)) empty (now (pairs .entry)) (now (literals .entry)) r (now (pairs .exit)) (now (literals .exit)) ⌝ }
+) -> ClauseCounts
+    requires { ⌜ FrontReady (partsOf (now currents) source (now inputs) (now relevant) (now «predicate_pairs») (now «predicate_literals») (now gates) ands) ⌝ }
+    ensures { λ r. ⌜ Appends (frontLists (partsOf (now (currents .entry)) source (now (inputs .entry)) (now (relevant .entry)) (now («predicate_pairs» .entry)) (now («predicate_literals» .entry)) (now (gates .entry)) ands)) empty (now (pairs .entry)) (now (literals .entry)) r (now (pairs .exit)) (now (literals .exit)) ⌝ }
 {
-    let start = Table {
+    let start = ClauseCounts {
         clauses: 0,
         literals: 0,
     };
@@ -33,8 +33,8 @@ fn append_front(
     let limited = obligation_gates::append_predicate(
         inputs,
         relevant,
-        predicate,
-        terms,
+        predicate_pairs,
+        predicate_literals,
         pairs,
         literals,
         sources,
@@ -49,8 +49,8 @@ fn append_claims(
     wide: bool,
     pairs: &mut [u64],
     literals: &mut [u32],
-    at: Table,
-) -> Table
+    at: ClauseCounts,
+) -> ClauseCounts
     requires { ⌜ ClaimsReady (claimedOf (now keys) (now words) wide) × Space at 1000000 ⌝ }
     ensures { λ r. ⌜ Appends (claimLists (claimedOf (now (keys .entry)) (now (words .entry)) wide)) at (now (pairs .entry)) (now (literals .entry)) r (now (pairs .exit)) (now (literals .exit)) ⌝ }
 {
@@ -60,14 +60,14 @@ fn append_claims(
     obligation_claims::append_states(keys, words, pairs, literals, at)
 }
 
-// Appends all clauses of an obligation to an empty table: a row's end with the claims, a terminal list's with a clause of one literal.
+// Appends all clauses of an obligation: a row's end with the claims, a terminal list's with a clause of one literal.
 fn append_all(
     currents: &[u64],
     source: u64,
     inputs: &[u64],
     relevant: &[u64],
-    predicate: &[u64],
-    terms: &[u32],
+    predicate_pairs: &[u64],
+    predicate_literals: &[u32],
     gates: &[u64],
     ands: usize,
     keys: &[u64],
@@ -76,17 +76,17 @@ fn append_all(
     last: u64,
     pairs: &mut [u64],
     literals: &mut [u32],
-) -> Table
-    requires { ⌜ Ready (partsOf (now currents) source (now inputs) (now relevant) (now predicate) (now terms) (now gates) ands) (claimedOf (now keys) (now words) wide) last ⌝ }
-    ensures { λ r. ⌜ Appends (allLists (partsOf (now (currents .entry)) source (now (inputs .entry)) (now (relevant .entry)) (now (predicate .entry)) (now (terms .entry)) (now (gates .entry)) ands) (claimedOf (now (keys .entry)) (now (words .entry)) wide) last) empty (now (pairs .entry)) (now (literals .entry)) r (now (pairs .exit)) (now (literals .exit)) ⌝ }
+) -> ClauseCounts
+    requires { ⌜ Ready (partsOf (now currents) source (now inputs) (now relevant) (now «predicate_pairs») (now «predicate_literals») (now gates) ands) (claimedOf (now keys) (now words) wide) last ⌝ }
+    ensures { λ r. ⌜ Appends (allLists (partsOf (now (currents .entry)) source (now (inputs .entry)) (now (relevant .entry)) (now («predicate_pairs» .entry)) (now («predicate_literals» .entry)) (now (gates .entry)) ands) (claimedOf (now (keys .entry)) (now (words .entry)) wide) last) empty (now (pairs .entry)) (now (literals .entry)) r (now (pairs .exit)) (now (literals .exit)) ⌝ }
 {
     let front = append_front(
         currents,
         source,
         inputs,
         relevant,
-        predicate,
-        terms,
+        predicate_pairs,
+        predicate_literals,
         gates,
         ands,
         pairs,
@@ -131,8 +131,8 @@ fn make_measured(
     source: u64,
     inputs: &[u64],
     relevant: &[u64],
-    predicate: &[u64],
-    terms: &[u32],
+    predicate_pairs: &[u64],
+    predicate_literals: &[u32],
     gates: &[u64],
     ands: usize,
     keys: &[u64],
@@ -142,8 +142,8 @@ fn make_measured(
     pairs: &mut [u64],
     literals: &mut [u32],
 ) -> Made
-    requires { ⌜ Ready (partsOf (now currents) source (now inputs) (now relevant) (now predicate) (now terms) (now gates) ands) (claimedOf (now keys) (now words) wide) last ⌝ }
-    ensures { λ r. ⌜ MakesAll (wordsOf simplified (allLists (partsOf (now (currents .entry)) source (now (inputs .entry)) (now (relevant .entry)) (now (predicate .entry)) (now (terms .entry)) (now (gates .entry)) ands) (claimedOf (now (keys .entry)) (now (words .entry)) wide) last)) (now (pairs .entry)) (now (literals .entry)) r (now (pairs .exit)) (now (literals .exit)) ⌝ }
+    requires { ⌜ Ready (partsOf (now currents) source (now inputs) (now relevant) (now «predicate_pairs») (now «predicate_literals») (now gates) ands) (claimedOf (now keys) (now words) wide) last ⌝ }
+    ensures { λ r. ⌜ MakesAll (wordsOf simplified (allLists (partsOf (now (currents .entry)) source (now (inputs .entry)) (now (relevant .entry)) (now («predicate_pairs» .entry)) (now («predicate_literals» .entry)) (now (gates .entry)) ands) (claimedOf (now (keys .entry)) (now (words .entry)) wide) last)) (now (pairs .entry)) (now (literals .entry)) r (now (pairs .exit)) (now (literals .exit)) ⌝ }
 {
     let mut no_pairs = [0u64; 1];
     let mut no_literals = [0u32; 1];
@@ -152,8 +152,8 @@ fn make_measured(
         source,
         inputs,
         relevant,
-        predicate,
-        terms,
+        predicate_pairs,
+        predicate_literals,
         gates,
         ands,
         keys,
@@ -174,8 +174,8 @@ fn make_measured(
         source,
         inputs,
         relevant,
-        predicate,
-        terms,
+        predicate_pairs,
+        predicate_literals,
         gates,
         ands,
         keys,
@@ -194,8 +194,8 @@ pub fn make(
     source: u64,
     inputs: &[u64],
     relevant: &[u64],
-    predicate: &[u64],
-    terms: &[u32],
+    predicate_pairs: &[u64],
+    predicate_literals: &[u32],
     gates: &[u64],
     ands: usize,
     keys: &[u64],
@@ -205,13 +205,13 @@ pub fn make(
     pairs: &mut [u64],
     literals: &mut [u32],
 ) -> Made
-    requires { ⌜ Ready (partsOf (now currents) source (now inputs) (now relevant) (now predicate) (now terms) (now gates) ands) (claimedOf (now keys) (now words) wide) last ⌝ }
-    ensures { λ r. ⌜ MakesAll (wordsOf simplified (allLists (partsOf (now (currents .entry)) source (now (inputs .entry)) (now (relevant .entry)) (now (predicate .entry)) (now (terms .entry)) (now (gates .entry)) ands) (claimedOf (now (keys .entry)) (now (words .entry)) wide) last)) (now (pairs .entry)) (now (literals .entry)) r (now (pairs .exit)) (now (literals .exit)) ⌝ }
+    requires { ⌜ Ready (partsOf (now currents) source (now inputs) (now relevant) (now «predicate_pairs») (now «predicate_literals») (now gates) ands) (claimedOf (now keys) (now words) wide) last ⌝ }
+    ensures { λ r. ⌜ MakesAll (wordsOf simplified (allLists (partsOf (now (currents .entry)) source (now (inputs .entry)) (now (relevant .entry)) (now («predicate_pairs» .entry)) (now («predicate_literals» .entry)) (now (gates .entry)) ands) (claimedOf (now (keys .entry)) (now (words .entry)) wide) last)) (now (pairs .entry)) (now (literals .entry)) r (now (pairs .exit)) (now (literals .exit)) ⌝ }
 {
     let claims = claim_count(words.len(), wide);
     if roomy(
         currents.len(),
-        predicate.len() / 2,
+        predicate_pairs.len() / 2,
         ands,
         keys.len(),
         claims,
@@ -223,8 +223,8 @@ pub fn make(
             source,
             inputs,
             relevant,
-            predicate,
-            terms,
+            predicate_pairs,
+            predicate_literals,
             gates,
             ands,
             keys,
@@ -240,8 +240,8 @@ pub fn make(
         source,
         inputs,
         relevant,
-        predicate,
-        terms,
+        predicate_pairs,
+        predicate_literals,
         gates,
         ands,
         keys,

@@ -22,14 +22,14 @@ fn assemble(
     gates: &[u64],
     relevant: &[u64],
     source: u64,
-    predicate: &[u64],
-    terms: &[u32],
+    predicate_pairs: &[u64],
+    predicate_literals: &[u32],
     targets: &[u64],
     pairs: &mut [u64],
     literals: &mut [u32],
 ) -> Made
-    requires { ⌜ Asks (askedOf (recordFrom counts (now inputs) latches (now outputs)) (now gates) (now relevant) (now predicate) (now terms)) × ClaimsOf (statesClaimed (circuit (askedOf (recordFrom counts (now inputs) latches (now outputs)) (now gates) (now relevant) (now predicate) (now terms))) (now targets)) ⌝ }
-    ensures { λ r. ⌜ MakesAll (relationClauses (circuit (askedOf (recordFrom counts (now (inputs .entry)) latches (now (outputs .entry))) (now (gates .entry)) (now (relevant .entry)) (now (predicate .entry)) (now (terms .entry)))) (now (relevant .entry)) (clausesIn (now (terms .entry)) (now (predicate .entry))) source (now (targets .entry))) (now (pairs .entry)) (now (literals .entry)) r (now (pairs .exit)) (now (literals .exit)) ⌝ }
+    requires { ⌜ Asks (askedOf (recordFrom counts (now inputs) latches (now outputs)) (now gates) (now relevant) (now «predicate_pairs») (now «predicate_literals»)) × ClaimsOf (statesClaimed (circuit (askedOf (recordFrom counts (now inputs) latches (now outputs)) (now gates) (now relevant) (now «predicate_pairs») (now «predicate_literals»))) (now targets)) ⌝ }
+    ensures { λ r. ⌜ MakesAll (relationClauses (circuit (askedOf (recordFrom counts (now (inputs .entry)) latches (now (outputs .entry))) (now (gates .entry)) (now (relevant .entry)) (now («predicate_pairs» .entry)) (now («predicate_literals» .entry)))) (now (relevant .entry)) (clausesIn (now («predicate_literals» .entry)) (now («predicate_pairs» .entry))) source (now (targets .entry))) (now (pairs .entry)) (now (literals .entry)) r (now (pairs .exit)) (now (literals .exit)) ⌝ }
 {
     let at = model::currents(latches);
     let to = model::nexts(latches);
@@ -40,8 +40,8 @@ fn assemble(
         source,
         lists::first(inputs, counts.inputs),
         relevant,
-        predicate,
-        terms,
+        predicate_pairs,
+        predicate_literals,
         gates,
         counts.ands,
         lists::first(&keys, count),
@@ -54,7 +54,7 @@ fn assemble(
 }
 
 // A row with claimed targets, once the model and the boundary are accepted: reasons 14 and 20.
-fn claim(
+fn check_claims(
     counts: Counts,
     inputs: &[u64],
     latches: [AigerLatch; 8],
@@ -62,14 +62,14 @@ fn claim(
     gates: &[u64],
     relevant: &[u64],
     source: u64,
-    predicate: &[u64],
-    terms: &[u32],
+    predicate_pairs: &[u64],
+    predicate_literals: &[u32],
     targets: &[u64],
     pairs: &mut [u64],
     literals: &mut [u32],
 ) -> Made
-    requires { ⌜ Asks (askedOf (recordFrom counts (now inputs) latches (now outputs)) (now gates) (now relevant) (now predicate) (now terms)) ⌝ }
-    ensures { λ r. ⌜ Continues (relationAfter (askedOf (recordFrom counts (now (inputs .entry)) latches (now (outputs .entry))) (now (gates .entry)) (now (relevant .entry)) (now (predicate .entry)) (now (terms .entry))) source (now (targets .entry)) (roomOf (now (pairs .entry)) (now (literals .entry)))) (now (pairs .entry)) (now (literals .entry)) r (now (pairs .exit)) (now (literals .exit)) ⌝ }
+    requires { ⌜ Asks (askedOf (recordFrom counts (now inputs) latches (now outputs)) (now gates) (now relevant) (now «predicate_pairs») (now «predicate_literals»)) ⌝ }
+    ensures { λ r. ⌜ Continues (relationAfter (askedOf (recordFrom counts (now (inputs .entry)) latches (now (outputs .entry))) (now (gates .entry)) (now (relevant .entry)) (now («predicate_pairs» .entry)) (now («predicate_literals» .entry))) source (now (targets .entry)) (roomOf (now (pairs .entry)) (now (literals .entry)))) (now (pairs .entry)) (now (literals .entry)) r (now (pairs .exit)) (now (literals .exit)) ⌝ }
 {
     if !obligation_check::is_state(counts.latches, source) {
         return Made::Refused(14);
@@ -85,8 +85,8 @@ fn claim(
         gates,
         relevant,
         source,
-        predicate,
-        terms,
+        predicate_pairs,
+        predicate_literals,
         targets,
         pairs,
         literals,
@@ -102,14 +102,14 @@ pub fn row_parts(
     gates: &[u64],
     relevant: &[u64],
     source: u64,
-    predicate: &[u64],
-    terms: &[u32],
+    predicate_pairs: &[u64],
+    predicate_literals: &[u32],
     targets: &[u64],
     work: &mut [u64],
     pairs: &mut [u64],
     literals: &mut [u32],
 ) -> Made
-    ensures { λ r. ⌜ MakesRelation (askedOf (recordFrom counts (now (inputs .entry)) latches (now (outputs .entry))) (now (gates .entry)) (now (relevant .entry)) (now (predicate .entry)) (now (terms .entry))) source (now (targets .entry)) (buffersOf (now (pairs .entry)) (now (literals .entry)) (now (work .entry))) r (buffersOf (now (pairs .exit)) (now (literals .exit)) (now (work .exit))) ⌝ }
+    ensures { λ r. ⌜ MakesRelation (askedOf (recordFrom counts (now (inputs .entry)) latches (now (outputs .entry))) (now (gates .entry)) (now (relevant .entry)) (now («predicate_pairs» .entry)) (now («predicate_literals» .entry))) source (now (targets .entry)) (buffersOf (now (pairs .entry)) (now (literals .entry)) (now (work .entry))) r (buffersOf (now (pairs .exit)) (now (literals .exit)) (now (work .exit))) ⌝ }
 {
     let verdict = obligation_check::check(
         counts,
@@ -118,13 +118,13 @@ pub fn row_parts(
         outputs,
         gates,
         relevant,
-        predicate,
-        terms,
+        predicate_pairs,
+        predicate_literals,
         work,
     );
     match verdict {
         Verdict::Refused(reason) => Made::Refused(reason),
-        Verdict::Valid => claim(
+        Verdict::Valid => check_claims(
             counts,
             inputs,
             latches,
@@ -132,8 +132,8 @@ pub fn row_parts(
             gates,
             relevant,
             source,
-            predicate,
-            terms,
+            predicate_pairs,
+            predicate_literals,
             targets,
             pairs,
             literals,

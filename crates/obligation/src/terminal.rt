@@ -21,15 +21,15 @@ fn assemble(
     outputs: &[u64],
     gates: &[u64],
     relevant: &[u64],
-    predicate: &[u64],
-    terms: &[u32],
+    predicate_pairs: &[u64],
+    predicate_literals: &[u32],
     bad: usize,
     states: &[u64],
     pairs: &mut [u64],
     literals: &mut [u32],
 ) -> Made
-    requires { ⌜ Asks (askedOf (recordFrom counts (now inputs) latches (now outputs)) (now gates) (now relevant) (now predicate) (now terms)) × ClaimsOf (statesClaimed (circuit (askedOf (recordFrom counts (now inputs) latches (now outputs)) (now gates) (now relevant) (now predicate) (now terms))) (now states)) ⌝ }
-    ensures { λ r. ⌜ MakesAll (terminalClauses (circuit (askedOf (recordFrom counts (now (inputs .entry)) latches (now (outputs .entry))) (now (gates .entry)) (now (relevant .entry)) (now (predicate .entry)) (now (terms .entry)))) (now (relevant .entry)) (clausesIn (now (terms .entry)) (now (predicate .entry))) bad (now (states .entry))) (now (pairs .entry)) (now (literals .entry)) r (now (pairs .exit)) (now (literals .exit)) ⌝ }
+    requires { ⌜ Asks (askedOf (recordFrom counts (now inputs) latches (now outputs)) (now gates) (now relevant) (now «predicate_pairs») (now «predicate_literals»)) × ClaimsOf (statesClaimed (circuit (askedOf (recordFrom counts (now inputs) latches (now outputs)) (now gates) (now relevant) (now «predicate_pairs») (now «predicate_literals»))) (now states)) ⌝ }
+    ensures { λ r. ⌜ MakesAll (terminalClauses (circuit (askedOf (recordFrom counts (now (inputs .entry)) latches (now (outputs .entry))) (now (gates .entry)) (now (relevant .entry)) (now («predicate_pairs» .entry)) (now («predicate_literals» .entry)))) (now (relevant .entry)) (clausesIn (now («predicate_literals» .entry)) (now («predicate_pairs» .entry))) bad (now (states .entry))) (now (pairs .entry)) (now (literals .entry)) r (now (pairs .exit)) (now (literals .exit)) ⌝ }
 {
     let at = model::currents(latches);
     let mut keys = [0u64; 8];
@@ -40,8 +40,8 @@ fn assemble(
         0,
         lists::first(inputs, counts.inputs),
         relevant,
-        predicate,
-        terms,
+        predicate_pairs,
+        predicate_literals,
         gates,
         counts.ands,
         lists::first(&keys, count),
@@ -54,22 +54,22 @@ fn assemble(
 }
 
 // A terminal list, once the model and the boundary are accepted: reasons 14 and 20.
-fn claim(
+fn check_claims(
     counts: Counts,
     inputs: &[u64],
     latches: [AigerLatch; 8],
     outputs: &[u64],
     gates: &[u64],
     relevant: &[u64],
-    predicate: &[u64],
-    terms: &[u32],
+    predicate_pairs: &[u64],
+    predicate_literals: &[u32],
     bad: u64,
     states: &[u64],
     pairs: &mut [u64],
     literals: &mut [u32],
 ) -> Made
-    requires { ⌜ Asks (askedOf (recordFrom counts (now inputs) latches (now outputs)) (now gates) (now relevant) (now predicate) (now terms)) ⌝ }
-    ensures { λ r. ⌜ Continues (terminalAfter (askedOf (recordFrom counts (now (inputs .entry)) latches (now (outputs .entry))) (now (gates .entry)) (now (relevant .entry)) (now (predicate .entry)) (now (terms .entry))) bad (now (states .entry)) (roomOf (now (pairs .entry)) (now (literals .entry)))) (now (pairs .entry)) (now (literals .entry)) r (now (pairs .exit)) (now (literals .exit)) ⌝ }
+    requires { ⌜ Asks (askedOf (recordFrom counts (now inputs) latches (now outputs)) (now gates) (now relevant) (now «predicate_pairs») (now «predicate_literals»)) ⌝ }
+    ensures { λ r. ⌜ Continues (terminalAfter (askedOf (recordFrom counts (now (inputs .entry)) latches (now (outputs .entry))) (now (gates .entry)) (now (relevant .entry)) (now («predicate_pairs» .entry)) (now («predicate_literals» .entry))) bad (now (states .entry)) (roomOf (now (pairs .entry)) (now (literals .entry)))) (now (pairs .entry)) (now (literals .entry)) r (now (pairs .exit)) (now (literals .exit)) ⌝ }
 {
     if counts.outputs as u64 <= bad {
         return Made::Refused(14);
@@ -84,8 +84,8 @@ fn claim(
         outputs,
         gates,
         relevant,
-        predicate,
-        terms,
+        predicate_pairs,
+        predicate_literals,
         lists::index(bad),
         states,
         pairs,
@@ -101,15 +101,15 @@ pub fn list_parts(
     outputs: &[u64],
     gates: &[u64],
     relevant: &[u64],
-    predicate: &[u64],
-    terms: &[u32],
+    predicate_pairs: &[u64],
+    predicate_literals: &[u32],
     bad: u64,
     states: &[u64],
     work: &mut [u64],
     pairs: &mut [u64],
     literals: &mut [u32],
 ) -> Made
-    ensures { λ r. ⌜ MakesTerminal (askedOf (recordFrom counts (now (inputs .entry)) latches (now (outputs .entry))) (now (gates .entry)) (now (relevant .entry)) (now (predicate .entry)) (now (terms .entry))) bad (now (states .entry)) (buffersOf (now (pairs .entry)) (now (literals .entry)) (now (work .entry))) r (buffersOf (now (pairs .exit)) (now (literals .exit)) (now (work .exit))) ⌝ }
+    ensures { λ r. ⌜ MakesTerminal (askedOf (recordFrom counts (now (inputs .entry)) latches (now (outputs .entry))) (now (gates .entry)) (now (relevant .entry)) (now («predicate_pairs» .entry)) (now («predicate_literals» .entry))) bad (now (states .entry)) (buffersOf (now (pairs .entry)) (now (literals .entry)) (now (work .entry))) r (buffersOf (now (pairs .exit)) (now (literals .exit)) (now (work .exit))) ⌝ }
 {
     let verdict = obligation_check::check(
         counts,
@@ -118,21 +118,21 @@ pub fn list_parts(
         outputs,
         gates,
         relevant,
-        predicate,
-        terms,
+        predicate_pairs,
+        predicate_literals,
         work,
     );
     match verdict {
         Verdict::Refused(reason) => Made::Refused(reason),
-        Verdict::Valid => claim(
+        Verdict::Valid => check_claims(
             counts,
             inputs,
             latches,
             outputs,
             gates,
             relevant,
-            predicate,
-            terms,
+            predicate_pairs,
+            predicate_literals,
             bad,
             states,
             pairs,

@@ -22,15 +22,15 @@ fn assemble(
     gates: &[u64],
     relevant: &[u64],
     source: u64,
-    predicate: &[u64],
-    terms: &[u32],
+    predicate_pairs: &[u64],
+    predicate_literals: &[u32],
     observed: &[u64],
     outcomes: &[u64],
     pairs: &mut [u64],
     literals: &mut [u32],
 ) -> Made
-    requires { ⌜ Asks (askedOf (recordFrom counts (now inputs) latches (now outputs)) (now gates) (now relevant) (now predicate) (now terms)) × ClaimsOf (outcomesClaimed (circuit (askedOf (recordFrom counts (now inputs) latches (now outputs)) (now gates) (now relevant) (now predicate) (now terms))) (now observed) (outcomesOf (now outcomes))) ⌝ }
-    ensures { λ r. ⌜ MakesAll (transducerClauses (circuit (askedOf (recordFrom counts (now (inputs .entry)) latches (now (outputs .entry))) (now (gates .entry)) (now (relevant .entry)) (now (predicate .entry)) (now (terms .entry)))) (now (relevant .entry)) (clausesIn (now (terms .entry)) (now (predicate .entry))) source (now (observed .entry)) (outcomesOf (now (outcomes .entry)))) (now (pairs .entry)) (now (literals .entry)) r (now (pairs .exit)) (now (literals .exit)) ⌝ }
+    requires { ⌜ Asks (askedOf (recordFrom counts (now inputs) latches (now outputs)) (now gates) (now relevant) (now «predicate_pairs») (now «predicate_literals»)) × ClaimsOf (outcomesClaimed (circuit (askedOf (recordFrom counts (now inputs) latches (now outputs)) (now gates) (now relevant) (now «predicate_pairs») (now «predicate_literals»))) (now observed) (outcomesOf (now outcomes))) ⌝ }
+    ensures { λ r. ⌜ MakesAll (transducerClauses (circuit (askedOf (recordFrom counts (now (inputs .entry)) latches (now (outputs .entry))) (now (gates .entry)) (now (relevant .entry)) (now («predicate_pairs» .entry)) (now («predicate_literals» .entry)))) (now (relevant .entry)) (clausesIn (now («predicate_literals» .entry)) (now («predicate_pairs» .entry))) source (now (observed .entry)) (outcomesOf (now (outcomes .entry)))) (now (pairs .entry)) (now (literals .entry)) r (now (pairs .exit)) (now (literals .exit)) ⌝ }
 {
     let at = model::currents(latches);
     let to = model::nexts(latches);
@@ -46,8 +46,8 @@ fn assemble(
         source,
         lists::first(inputs, counts.inputs),
         relevant,
-        predicate,
-        terms,
+        predicate_pairs,
+        predicate_literals,
         gates,
         counts.ands,
         lists::first(&keys, count),
@@ -60,7 +60,7 @@ fn assemble(
 }
 
 // A row with claimed outcomes, once the model and the boundary are accepted: reasons 14 and 20.
-fn claim(
+fn check_claims(
     counts: Counts,
     inputs: &[u64],
     latches: [AigerLatch; 8],
@@ -68,20 +68,25 @@ fn claim(
     gates: &[u64],
     relevant: &[u64],
     source: u64,
-    predicate: &[u64],
-    terms: &[u32],
+    predicate_pairs: &[u64],
+    predicate_literals: &[u32],
     observed: &[u64],
     outcomes: &[u64],
     pairs: &mut [u64],
     literals: &mut [u32],
 ) -> Made
-    requires { ⌜ Asks (askedOf (recordFrom counts (now inputs) latches (now outputs)) (now gates) (now relevant) (now predicate) (now terms)) ⌝ }
-    ensures { λ r. ⌜ Continues (transducerAfter (askedOf (recordFrom counts (now (inputs .entry)) latches (now (outputs .entry))) (now (gates .entry)) (now (relevant .entry)) (now (predicate .entry)) (now (terms .entry))) source (now (observed .entry)) (now (outcomes .entry)) (roomOf (now (pairs .entry)) (now (literals .entry)))) (now (pairs .entry)) (now (literals .entry)) r (now (pairs .exit)) (now (literals .exit)) ⌝ }
+    requires { ⌜ Asks (askedOf (recordFrom counts (now inputs) latches (now outputs)) (now gates) (now relevant) (now «predicate_pairs») (now «predicate_literals»)) ⌝ }
+    ensures { λ r. ⌜ Continues (transducerAfter (askedOf (recordFrom counts (now (inputs .entry)) latches (now (outputs .entry))) (now (gates .entry)) (now (relevant .entry)) (now («predicate_pairs» .entry)) (now («predicate_literals» .entry))) source (now (observed .entry)) (now (outcomes .entry)) (roomOf (now (pairs .entry)) (now (literals .entry)))) (now (pairs .entry)) (now (literals .entry)) r (now (pairs .exit)) (now (literals .exit)) ⌝ }
 {
     if !obligation_check::is_state(counts.latches, source) {
         return Made::Refused(14);
     }
-    if !obligation_check::outcomes_claimed(counts.latches, counts.outputs as u64, observed, outcomes) {
+    if !obligation_check::outcomes_claimed(
+        counts.latches,
+        counts.outputs as u64,
+        observed,
+        outcomes,
+    ) {
         return Made::Refused(14);
     }
     assemble(
@@ -92,8 +97,8 @@ fn claim(
         gates,
         relevant,
         source,
-        predicate,
-        terms,
+        predicate_pairs,
+        predicate_literals,
         observed,
         outcomes,
         pairs,
@@ -110,15 +115,15 @@ pub fn row_parts(
     gates: &[u64],
     relevant: &[u64],
     source: u64,
-    predicate: &[u64],
-    terms: &[u32],
+    predicate_pairs: &[u64],
+    predicate_literals: &[u32],
     observed: &[u64],
     outcomes: &[u64],
     work: &mut [u64],
     pairs: &mut [u64],
     literals: &mut [u32],
 ) -> Made
-    ensures { λ r. ⌜ MakesTransducer (askedOf (recordFrom counts (now (inputs .entry)) latches (now (outputs .entry))) (now (gates .entry)) (now (relevant .entry)) (now (predicate .entry)) (now (terms .entry))) source (now (observed .entry)) (now (outcomes .entry)) (buffersOf (now (pairs .entry)) (now (literals .entry)) (now (work .entry))) r (buffersOf (now (pairs .exit)) (now (literals .exit)) (now (work .exit))) ⌝ }
+    ensures { λ r. ⌜ MakesTransducer (askedOf (recordFrom counts (now (inputs .entry)) latches (now (outputs .entry))) (now (gates .entry)) (now (relevant .entry)) (now («predicate_pairs» .entry)) (now («predicate_literals» .entry))) source (now (observed .entry)) (now (outcomes .entry)) (buffersOf (now (pairs .entry)) (now (literals .entry)) (now (work .entry))) r (buffersOf (now (pairs .exit)) (now (literals .exit)) (now (work .exit))) ⌝ }
 {
     let verdict = obligation_check::check(
         counts,
@@ -127,13 +132,13 @@ pub fn row_parts(
         outputs,
         gates,
         relevant,
-        predicate,
-        terms,
+        predicate_pairs,
+        predicate_literals,
         work,
     );
     match verdict {
         Verdict::Refused(reason) => Made::Refused(reason),
-        Verdict::Valid => claim(
+        Verdict::Valid => check_claims(
             counts,
             inputs,
             latches,
@@ -141,8 +146,8 @@ pub fn row_parts(
             gates,
             relevant,
             source,
-            predicate,
-            terms,
+            predicate_pairs,
+            predicate_literals,
             observed,
             outcomes,
             pairs,

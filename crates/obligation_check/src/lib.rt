@@ -214,17 +214,22 @@ pub fn check(
     outputs: &[u64],
     gates: &[u64],
     relevant: &[u64],
-    predicate: &[u64],
-    terms: &[u32],
+    predicate_pairs: &[u64],
+    predicate_literals: &[u32],
     work: &mut [u64],
 ) -> Verdict
-    ensures { λ r. ⌜ Checks (askedOf (recordFrom counts (now (inputs .entry)) latches (now (outputs .entry))) (now (gates .entry)) (now (relevant .entry)) (now (predicate .entry)) (now (terms .entry))) (length (now (work .entry))) r (now (work .exit)) ⌝ }
+    ensures { λ r. ⌜ Checks (askedOf (recordFrom counts (now (inputs .entry)) latches (now (outputs .entry))) (now (gates .entry)) (now (relevant .entry)) (now («predicate_pairs» .entry)) (now («predicate_literals» .entry))) (length (now (work .entry))) r (now (work .exit)) ⌝ }
 {
     let verdict = model::validate_parts(counts, inputs, latches, outputs, gates, work);
     let Verdict::Valid = verdict else {
         return verdict;
     };
-    if validate_boundary(counts.inputs as u64, relevant, predicate, terms) {
+    if validate_boundary(
+        counts.inputs as u64,
+        relevant,
+        predicate_pairs,
+        predicate_literals,
+    ) {
         return verdict;
     }
     Verdict::Refused(13)

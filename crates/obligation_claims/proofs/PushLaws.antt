@@ -14,7 +14,7 @@ use Rattle.lists.proofs.PartLaws.{Copied, copied-none, copied-more, copied-done
 use Rattle.lists.proofs.RestLaws.{rest-more}
 use Rattle.lists.proofs.TestLaws.{each-append}
 use Rattle.lists.proofs.WordLaws.{triples-at, triples-count}
-use Rattle.cnf.specs.declared.Table.{Table}
+use Rattle.cnf.specs.declared.ClauseCounts.{ClauseCounts}
 use Rattle.cnf.specs.Simplified.{simplified}
 use Rattle.cnf.specs.Appending.{Appends, Space, Filled, Narrow, NarrowWords}
 use Rattle.cnf.proofs.AppendLaws.{appends-none, appends-same, appends-dropped, appends-next, appends-end, space-next}
@@ -66,7 +66,7 @@ module _ (keys claim : List ℕ) where
         (claim-narrow keys claim h)
         (zeros-left (λ l. l < 2 ^ 32) (omega arith) (0 + length (claimList keys claim))))
 
-    pub few-appends : (at : Table) (pairs words : List ℕ) (at' : Table) (pairs' words' : List ℕ)
+    pub few-appends : (at : ClauseCounts) (pairs words : List ℕ) (at' : ClauseCounts) (pairs' words' : List ℕ)
         → Appends (clause ∷ []) at pairs words at' pairs' words' → Appends (claimList keys claim ∷ []) at pairs words at' pairs' words'
     few-appends at pairs words at' pairs' words' g =
         let s : simplified clause ≡ simplified (claimList keys claim) =
@@ -76,7 +76,7 @@ module _ (keys claim : List ℕ) where
 -- ---- push_claim
 
 module _ (ls : List ℕ) (r : Fill) (list : List ℕ) (f : Fills ls r list) where
-  pub claim-dropped : r ≡ True → (at : Table) (pairs words : List ℕ) → Appends (ls ∷ []) at pairs words at pairs words
+  pub claim-dropped : r ≡ True → (at : ClauseCounts) (pairs words : List ℕ) → Appends (ls ∷ []) at pairs words at pairs words
   claim-dropped e at pairs words = appends-dropped ls at pairs words (simplified-one-true ls (f .whenTrue e))
 
 module _ (keys claim list : List ℕ) (n : ℕ) (f : Filled (claimList keys claim) list n) where
@@ -89,7 +89,7 @@ module _ (keys claim list : List ℕ) (n : ℕ) (f : Filled (claimList keys clai
 -- ---- all claims
 
 -- the clauses of the first i lists were appended, and the lists in which clauses are made still fit
-pub record Pushing (lists : List (List ℕ)) (keys : List ℕ) (at : Table) (list₀ work₀ pairs₀ words₀ : List ℕ) (at' : Table) (list work pairs words : List ℕ) (i : ℕ) : Type 0 where
+pub record Pushing (lists : List (List ℕ)) (keys : List ℕ) (at : ClauseCounts) (list₀ work₀ pairs₀ words₀ : List ℕ) (at' : ClauseCounts) (list work pairs words : List ℕ) (i : ℕ) : Type 0 where
   pub appends : Appends (take i lists) at pairs₀ words₀ at' pairs words
   pub passed : i ≤ length lists
   pub sameList : length list ≡ length list₀
@@ -104,17 +104,17 @@ fits-few keys n m h e = record { low = e; short = omega arith; listFits = λ k. 
 pub fits-same : (keys : List ℕ) (n m n' m' : ℕ) → Fits keys n m → n' ≡ n → m' ≡ m → Fits keys n' m'
 fits-same keys n m n' m' f e g = rw (e, g) f
 
-module _ (lists : List (List ℕ)) (keys : List ℕ) (at : Table) (list₀ work₀ pairs₀ words₀ : List ℕ) where
+module _ (lists : List (List ℕ)) (keys : List ℕ) (at : ClauseCounts) (list₀ work₀ pairs₀ words₀ : List ℕ) where
   pub pushing-none : Pushing lists keys at list₀ work₀ pairs₀ words₀ at list₀ work₀ pairs₀ words₀ 0
   pushing-none = record { appends = appends-none at pairs₀ words₀; passed = omega arith; sameList = refl; sameWork = refl; samePairs = refl; sameWords = refl }
 
-  module _ (at' : Table) (list work pairs words : List ℕ) (i : ℕ) (k : Pushing lists keys at list₀ work₀ pairs₀ words₀ at' list work pairs words i) where
+  module _ (at' : ClauseCounts) (list work pairs words : List ℕ) (i : ℕ) (k : Pushing lists keys at list₀ work₀ pairs₀ words₀ at' list work pairs words i) where
     pub pushing-fits : Fits keys (length list₀) (length work₀) → Fits keys (length list) (length work)
     pushing-fits f = fits-same keys (length list₀) (length work₀) (length list) (length work) f (k .sameList) (k .sameWork)
 
     module _ (n : ℕ) (all : length lists ≡ n) where
       pub pushing-more : i < n → (claim : List ℕ) → getD lists i [] ≡ claimList keys claim
-          → (at'' : Table) (list' work' pairs' words' : List ℕ) → Appends (claimList keys claim ∷ []) at' pairs words at'' pairs' words'
+          → (at'' : ClauseCounts) (list' work' pairs' words' : List ℕ) → Appends (claimList keys claim ∷ []) at' pairs words at'' pairs' words'
           → length list' ≡ length list → length work' ≡ length work → length pairs' ≡ length pairs → length words' ≡ length words
           → Pushing lists keys at list₀ work₀ pairs₀ words₀ at'' list' work' pairs' words' (i + 1)
       pushing-more h claim e at'' list' work' pairs' words' g a b c d =

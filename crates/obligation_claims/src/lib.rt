@@ -15,7 +15,7 @@ ghost use Rattle.cnf.specs.Appending.{Appends, Space};
 ghost use Rattle.obligation_spec.specs.Lists.{valued};
 ghost use Rattle.obligation_claims.specs.Claims.{keysFrom, observedKeys, outcomeKeys, claimList, stateClaims, outcomeClaims, LowKeys, LowLiterals};
 ghost use Rattle.obligation_claims.specs.Filling.{InOrder, Fills, Fits};
-use cnf::Table;
+use cnf::ClauseCounts;
 
 // What became of a claim's literals: one is the true constant, or so many words were filled in.
 pub enum Fill {
@@ -154,8 +154,8 @@ fn push_few(
     claim: &[u64],
     pairs: &mut [u64],
     literals: &mut [u32],
-    at: Table,
-) -> Table
+    at: ClauseCounts,
+) -> ClauseCounts
     requires { ⌜ Space at 1 × (length (now keys) ≤ 3) × LowKeys (now keys) ⌝ }
     ensures { λ r. ⌜ Appends (claimList (now (keys .entry)) (now (claim .entry)) ∷ []) at (now (pairs .entry)) (now (literals .entry)) r (now (pairs .exit)) (now (literals .exit)) ⌝ }
 {
@@ -176,8 +176,8 @@ fn push_claim(
     work: &mut [u64],
     pairs: &mut [u64],
     literals: &mut [u32],
-    at: Table,
-) -> Table
+    at: ClauseCounts,
+) -> ClauseCounts
     requires { ⌜ Space at 1 × Fits (now keys) (length (now list)) (length (now work)) ⌝ }
     ensures { λ r. ⌜ Appends (claimList (now (keys .entry)) (now (claim .entry)) ∷ []) at (now (pairs .entry)) (now (literals .entry)) r (now (pairs .exit)) (now (literals .exit)) ⌝ }
 {
@@ -198,18 +198,26 @@ fn push_states(
     work: &mut [u64],
     pairs: &mut [u64],
     literals: &mut [u32],
-    at: Table,
-) -> Table
+    at: ClauseCounts,
+) -> ClauseCounts
     requires { ⌜ Space at (length (now states)) × Fits (now keys) (length (now list)) (length (now work)) ⌝ }
     ensures { λ r. ⌜ Appends (stateClaims (now (keys .entry)) (now (states .entry))) at (now (pairs .entry)) (now (literals .entry)) r (now (pairs .exit)) (now (literals .exit)) ⌝ }
 {
-    let mut table = at;
+    let mut appended = at;
     let mut i = 0;
     while i < states.len() {
-        table = push_claim(keys, &states[i..i + 1], list, work, pairs, literals, table);
+        appended = push_claim(
+            keys,
+            &states[i..i + 1],
+            list,
+            work,
+            pairs,
+            literals,
+            appended,
+        );
         i += 1;
     }
-    table
+    appended
 }
 
 // Appends the clauses of claimed outcomes, three words each.
@@ -220,27 +228,27 @@ fn push_outcomes(
     work: &mut [u64],
     pairs: &mut [u64],
     literals: &mut [u32],
-    at: Table,
-) -> Table
+    at: ClauseCounts,
+) -> ClauseCounts
     requires { ⌜ Space at (length (now words) / 3) × Fits (now keys) (length (now list)) (length (now work)) ⌝ }
     ensures { λ r. ⌜ Appends (outcomeClaims (now (keys .entry)) (now (words .entry))) at (now (pairs .entry)) (now (literals .entry)) r (now (pairs .exit)) (now (literals .exit)) ⌝ }
 {
     let count = words.len() / 3;
-    let mut table = at;
+    let mut appended = at;
     let mut i = 0;
     while i < count {
-        table = push_claim(
+        appended = push_claim(
             keys,
             &words[3 * i..3 * i + 3],
             list,
             work,
             pairs,
             literals,
-            table,
+            appended,
         );
         i += 1;
     }
-    table
+    appended
 }
 
 // Appends the clauses of claimed states, by the keys in order. A clause is filled, sorted and made free of repeats in a local list
@@ -250,8 +258,8 @@ pub fn append_states(
     states: &[u64],
     pairs: &mut [u64],
     literals: &mut [u32],
-    at: Table,
-) -> Table
+    at: ClauseCounts,
+) -> ClauseCounts
     requires { ⌜ Space at (length (now states)) × (length (now keys) ≤ 1024) × LowKeys (now keys) ⌝ }
     ensures { λ r. ⌜ Appends (stateClaims (now (keys .entry)) (now (states .entry))) at (now (pairs .entry)) (now (literals .entry)) r (now (pairs .exit)) (now (literals .exit)) ⌝ }
 {
@@ -271,8 +279,8 @@ pub fn append_outcomes(
     words: &[u64],
     pairs: &mut [u64],
     literals: &mut [u32],
-    at: Table,
-) -> Table
+    at: ClauseCounts,
+) -> ClauseCounts
     requires { ⌜ Space at (length (now words) / 3) × (length (now keys) ≤ 1024) × LowKeys (now keys) ⌝ }
     ensures { λ r. ⌜ Appends (outcomeClaims (now (keys .entry)) (now (words .entry))) at (now (pairs .entry)) (now (literals .entry)) r (now (pairs .exit)) (now (literals .exit)) ⌝ }
 {

@@ -14,7 +14,7 @@ use Rattle.lists.proofs.BoolLaws.{and-left, and-right}
 use Rattle.lists.proofs.MapLaws.{map-at}
 use Rattle.lists.proofs.TestLaws.{all-at, each-of-all, each-so}
 use Rattle.lists.proofs.WordLaws.{pairs-count, pairs-at, twice}
-use Rattle.cnf.specs.declared.Table.{Table}
+use Rattle.cnf.specs.declared.ClauseCounts.{ClauseCounts}
 use Rattle.cnf.specs.Clauses.{clausesIn}
 use Rattle.cnf.specs.Appending.{Appends, Space}
 use Rattle.cnf.proofs.AppendLaws.{appends-none, appends-next, appends-end, space-next}
@@ -57,7 +57,7 @@ module _ (inputs relevant pairs words : List ℕ) where
   lists-count = length-map (clausesIn words pairs) (map (predicateLiteral inputs relevant)) ∙ pairs-count (λ offset size. take size (drop offset words)) pairs
 
   -- no pair: no clause
-  pub clauses-none : length pairs < 2 → (at : Table) (p w : List ℕ) → Appends clauseLists at p w at p w
+  pub clauses-none : length pairs < 2 → (at : ClauseCounts) (p w : List ℕ) → Appends clauseLists at p w at p w
   clauses-none h at p w = appends-end clauseLists 0 at at at p w p w p w (omega (arith, lists-count)) (appends-none at p w)
 
   -- the pair at i has this offset and this length
@@ -106,14 +106,14 @@ module _ (inputs relevant pairs words : List ℕ) where
                 (each-of-all (λ w. ltb (w / 2) (length relevant)) (part words start (start + size)) clause-indexes);
           }
 
-    module _ (a₁ a₂ : Table) (p₁ w₁ p₂ w₂ : List ℕ) (g : Appends (take i clauseLists) a₁ p₁ w₁ a₂ p₂ w₂) where
+    module _ (a₁ a₂ : ClauseCounts) (p₁ w₁ p₂ w₂ : List ℕ) (g : Appends (take i clauseLists) a₁ p₁ w₁ a₂ p₂ w₂) where
       pub clause-space : Space a₁ (length pairs / 2) → Space a₂ 1
       clause-space s = space-next clauseLists i a₁ p₁ w₁ a₂ p₂ w₂ (rw lists-count h) g (rw lists-count s)
 
-      pub clause-next : (a₃ : Table) (p₃ w₃ : List ℕ)
+      pub clause-next : (a₃ : ClauseCounts) (p₃ w₃ : List ℕ)
           → Appends (map (predicateLiteral inputs relevant) (part words start (start + size)) ∷ []) a₂ p₂ w₂ a₃ p₃ w₃
           → Appends (take (i + 1) clauseLists) a₁ p₁ w₁ a₃ p₃ w₃
       clause-next a₃ p₃ w₃ k = appends-next clauseLists i a₁ a₂ a₃ p₁ w₁ p₂ w₂ p₃ w₃ [] (rw lists-count h) g (rw list-is k)
 
-  pub clauses-end : (i : ℕ) (a₁ a₂ : Table) (p₁ w₁ p₂ w₂ : List ℕ) → length pairs / 2 ≤ i → Appends (take i clauseLists) a₁ p₁ w₁ a₂ p₂ w₂ → Appends clauseLists a₁ p₁ w₁ a₂ p₂ w₂
+  pub clauses-end : (i : ℕ) (a₁ a₂ : ClauseCounts) (p₁ w₁ p₂ w₂ : List ℕ) → length pairs / 2 ≤ i → Appends (take i clauseLists) a₁ p₁ w₁ a₂ p₂ w₂ → Appends clauseLists a₁ p₁ w₁ a₂ p₂ w₂
   clauses-end i a₁ a₂ p₁ w₁ p₂ w₂ h g = appends-end clauseLists i a₁ a₂ a₂ p₁ w₁ p₂ w₂ p₂ w₂ (rw lists-count h) g

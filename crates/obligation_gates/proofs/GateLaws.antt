@@ -11,7 +11,7 @@ use Rattle.lists.proofs.TestLaws.{each-at}
 use Rattle.lists.proofs.WordLaws.{triples-count, triples-at, words-length}
 use Rattle.aiger.specs.declared.Gate.{Gate}
 use Rattle.aiger.specs.Gates.{gateFrom}
-use Rattle.cnf.specs.declared.Table.{Table}
+use Rattle.cnf.specs.declared.ClauseCounts.{ClauseCounts}
 use Rattle.cnf.specs.Simplified.{opposite}
 use Rattle.cnf.specs.Appending.{Appends, Space, Narrow}
 use Rattle.cnf.proofs.AppendLaws.{appends-then, appends-item, space-left}
@@ -38,7 +38,7 @@ module _ (g : Gate) (arrays : List (List ℕ)) (is : arrays ≡ gateArrays g) wh
     pub third-narrow : (d : List ℕ) → Narrow (getD arrays 2 d)
     third-narrow d = rw is (omega (arith, low .output), (opposite-low (g .left) (low .left), (opposite-low (g .right) (low .right), tt)))
 
-  module _ (d : List ℕ) (a₁ a₂ a₃ a₄ : Table) (p₁ w₁ p₂ w₂ p₃ w₃ p₄ w₄ : List ℕ) where
+  module _ (d : List ℕ) (a₁ a₂ a₃ a₄ : ClauseCounts) (p₁ w₁ p₂ w₂ p₃ w₃ p₄ w₄ : List ℕ) where
     pub appends-gate : Appends (getD arrays 0 d ∷ []) a₁ p₁ w₁ a₂ p₂ w₂ → Appends (getD arrays 1 d ∷ []) a₂ p₂ w₂ a₃ p₃ w₃
         → Appends (getD arrays 2 d ∷ []) a₃ p₃ w₃ a₄ p₄ w₄ → Appends (gateLists g) a₁ p₁ w₁ a₄ p₄ w₄
     appends-gate f h k =
@@ -54,7 +54,7 @@ module _ (g : Gate) (arrays : List (List ℕ)) (is : arrays ≡ gateArrays g) wh
         (appends-then (y ∷ []) (z ∷ []) a₂ a₃ a₄ p₂ w₂ p₃ w₃ p₄ w₄ h' k')
 
 -- after one array, or two
-module _ (l : List ℕ) (a b : Table) (p w p' w' : List ℕ) (g : Appends (l ∷ []) a p w b p' w') where
+module _ (l : List ℕ) (a b : ClauseCounts) (p w p' w' : List ℕ) (g : Appends (l ∷ []) a p w b p' w') where
   pub space-one-less : (n : ℕ) → Space a (n + 1) → Space b n
   space-one-less n s = space-left (l ∷ []) a p w b p' w' g n (n + 1) (omega arith) s
 
@@ -80,17 +80,17 @@ module _ (ws : List ℕ) (count i : ℕ) (room : 3 * count ≤ length ws) (h : i
       rw (length-take-le count (triplesOf gateFrom ws) (rw (triples-count gateFrom ws) (omega arith))) h in
       rw (← gate-is, ← getD-take count (triplesOf gateFrom ws) i noGate h) (each-at LowGate (take count (triplesOf gateFrom ws)) i noGate e k)
 
-  module _ (a₁ a₂ : Table) (p₁ w₁ p₂ w₂ : List ℕ) (g : Appends (wordsOf gateLists (take i (triplesOf gateFrom ws))) a₁ p₁ w₁ a₂ p₂ w₂) where
+  module _ (a₁ a₂ : ClauseCounts) (p₁ w₁ p₂ w₂ : List ℕ) (g : Appends (wordsOf gateLists (take i (triplesOf gateFrom ws))) a₁ p₁ w₁ a₂ p₂ w₂) where
     pub gate-space : Space a₁ (3 * count) → Space a₂ 3
     gate-space s =
         let n : length (wordsOf gateLists (take i (triplesOf gateFrom ws))) ≡ 3 * i =
         words-length gateLists 3 (λ x. refl) (take i (triplesOf gateFrom ws)) ∙ ap (λ (k : ℕ). 3 * k) (length-take-le i (triplesOf gateFrom ws) (omega (arith, inside))) in
         space-left (wordsOf gateLists (take i (triplesOf gateFrom ws))) a₁ p₁ w₁ a₂ p₂ w₂ g 3 (3 * count) (omega arith) s
 
-    pub gate-next : (a₃ : Table) (p₃ w₃ : List ℕ) → Appends (gateLists (gateAt ws i)) a₂ p₂ w₂ a₃ p₃ w₃
+    pub gate-next : (a₃ : ClauseCounts) (p₃ w₃ : List ℕ) → Appends (gateLists (gateAt ws i)) a₂ p₂ w₂ a₃ p₃ w₃
         → Appends (wordsOf gateLists (take (i + 1) (triplesOf gateFrom ws))) a₁ p₁ w₁ a₃ p₃ w₃
     gate-next a₃ p₃ w₃ k = appends-item gateLists (triplesOf gateFrom ws) i a₁ a₂ a₃ p₁ w₁ p₂ w₂ p₃ w₃ noGate inside g (rw gate-is k)
 
-pub gate-end : (ws : List ℕ) (count i : ℕ) (a₁ a₂ : Table) (p₁ w₁ p₂ w₂ : List ℕ) → i ≤ count → count ≤ i
+pub gate-end : (ws : List ℕ) (count i : ℕ) (a₁ a₂ : ClauseCounts) (p₁ w₁ p₂ w₂ : List ℕ) → i ≤ count → count ≤ i
     → Appends (wordsOf gateLists (take i (triplesOf gateFrom ws))) a₁ p₁ w₁ a₂ p₂ w₂ → Appends (wordsOf gateLists (take count (triplesOf gateFrom ws))) a₁ p₁ w₁ a₂ p₂ w₂
 gate-end ws count i a₁ a₂ p₁ w₁ p₂ w₂ h k g = let e : count ≡ i = omega arith in rw e g

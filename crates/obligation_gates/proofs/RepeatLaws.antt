@@ -17,7 +17,7 @@ use Rattle.lists.proofs.OnceLaws.{marked-no-bit, marked-bit, member-snoc}
 use Rattle.lists.proofs.RestLaws.{take-next}
 use Rattle.lists.proofs.TestLaws.{any-map, each-map, each-append, each-at, each-any}
 use Rattle.lists.proofs.AnyLaws.{member-any, any-same}
-use Rattle.cnf.specs.declared.Table.{Table}
+use Rattle.cnf.specs.declared.ClauseCounts.{ClauseCounts}
 use Rattle.cnf.specs.Appending.{Appends, PushesFilled, NarrowWords}
 use Rattle.cnf.specs.Simplified.{cnfWord}
 use Rattle.cnf.proofs.AppendLaws.{appends-same}
@@ -129,7 +129,7 @@ module _ (inputs relevant clause list : List ℕ) (n : ℕ) (f : FilledAs inputs
       filled-narrow (map p (f .kept)) list n (f .filled)
       (each-map p (λ l. l < 2 ^ 32) (f .kept) (each-any (λ w. p w < 2 ^ 32) (literal-narrow inputs relevant (f .kept) (f .clausal)) (f .kept)))
 
-  pub kept-appends : (at : Table) (pairs literals : List ℕ) (at' : Table) (pairs' literals' : List ℕ) → PushesFilled list n at pairs literals at' pairs' literals'
+  pub kept-appends : (at : ClauseCounts) (pairs literals : List ℕ) (at' : ClauseCounts) (pairs' literals' : List ℕ) → PushesFilled list n at pairs literals at' pairs' literals'
       → Appends (map (predicateLiteral inputs relevant) clause ∷ []) at pairs literals at' pairs' literals'
   kept-appends at pairs literals at' pairs' literals' g =
       let p : ℕ → ℕ = predicateLiteral inputs relevant in

@@ -1,4 +1,4 @@
-// The clauses of source latches, predicate and gates (01, item 7), appended to a table.
+// The clauses of source latches, predicate and gates (01, item 7).
 ghost use mathlib.Core.Path.{_≡_};
 ghost use mathlib.Core.List.{map, [], _∷_};
 ghost use Prim.Native.Nat.{_*_, _/_, _≤_, _<_, _^_};
@@ -12,7 +12,7 @@ ghost use Rattle.cnf.specs.Appending.{Appends, Space};
 ghost use Rattle.obligation_spec.specs.Lists.{valued, sourceLists, predicateLiteral, gateLists};
 ghost use Rattle.obligation_gates.specs.Encoding.{Low, LowGate, gateArrays, Clausal, Bounded, FilledAs};
 use aiger::Gate;
-use cnf::Table;
+use cnf::ClauseCounts;
 
 // A gate's three clauses, three literals at most in each: not output or left; not output or right; output or not left or not right.
 fn gate_clauses(gate: Gate) -> [[u64; 3]; 3]
@@ -75,8 +75,8 @@ fn push_clause(
     work: &mut [u64],
     pairs: &mut [u64],
     literals: &mut [u32],
-    at: Table,
-) -> Table
+    at: ClauseCounts,
+) -> ClauseCounts
     requires { ⌜ Clausal (now inputs) (now relevant) (now clause) × (length (now clause) ≤ 1024) × (length (now list) ≡ 1024) × (length (now work) ≡ 1024) × Space at 1 ⌝ }
     ensures { λ r. ⌜ Appends (map (predicateLiteral (now (inputs .entry)) (now (relevant .entry))) (now (clause .entry)) ∷ []) at (now (pairs .entry)) (now (literals .entry)) r (now (pairs .exit)) (now (literals .exit)) ⌝ }
 {
@@ -89,27 +89,36 @@ fn push_clauses(
     inputs: &[u64],
     relevant: &[u64],
     predicate_pairs: &[u64],
-    predicate_words: &[u32],
+    predicate_literals: &[u32],
     list: &mut [u64],
     work: &mut [u64],
     pairs: &mut [u64],
     literals: &mut [u32],
-    at: Table,
-) -> Table
-    requires { ⌜ Bounded (now inputs) (now relevant) (now «predicate_pairs») (now «predicate_words») × (length (now list) ≡ 1024) × (length (now work) ≡ 1024) × Space at (length (now «predicate_pairs») / 2) ⌝ }
-    ensures { λ r. ⌜ Appends (map (map (predicateLiteral (now (inputs .entry)) (now (relevant .entry)))) (clausesIn (now («predicate_words» .entry)) (now («predicate_pairs» .entry)))) at (now (pairs .entry)) (now (literals .entry)) r (now (pairs .exit)) (now (literals .exit)) ⌝ }
+    at: ClauseCounts,
+) -> ClauseCounts
+    requires { ⌜ Bounded (now inputs) (now relevant) (now «predicate_pairs») (now «predicate_literals») × (length (now list) ≡ 1024) × (length (now work) ≡ 1024) × Space at (length (now «predicate_pairs») / 2) ⌝ }
+    ensures { λ r. ⌜ Appends (map (map (predicateLiteral (now (inputs .entry)) (now (relevant .entry)))) (clausesIn (now («predicate_literals» .entry)) (now («predicate_pairs» .entry)))) at (now (pairs .entry)) (now (literals .entry)) r (now (pairs .exit)) (now (literals .exit)) ⌝ }
 {
     let count = predicate_pairs.len() / 2;
-    let mut table = at;
+    let mut appended = at;
     let mut i = 0;
     while i < count {
         let start = lists::index(predicate_pairs[2 * i]);
         let end = start + lists::index(predicate_pairs[2 * i + 1]);
-        let clause = &predicate_words[start..end];
-        table = push_clause(inputs, relevant, clause, list, work, pairs, literals, table);
+        let clause = &predicate_literals[start..end];
+        appended = push_clause(
+            inputs,
+            relevant,
+            clause,
+            list,
+            work,
+            pairs,
+            literals,
+            appended,
+        );
         i += 1;
     }
-    table
+    appended
 }
 
 // Appends the predicate's clauses. Each is made simple in a local list: filled, sorted and made free of repeats before its words are written out.
@@ -117,13 +126,13 @@ pub fn append_predicate(
     inputs: &[u64],
     relevant: &[u64],
     predicate_pairs: &[u64],
-    predicate_words: &[u32],
+    predicate_literals: &[u32],
     pairs: &mut [u64],
     literals: &mut [u32],
-    at: Table,
-) -> Table
-    requires { ⌜ Bounded (now inputs) (now relevant) (now «predicate_pairs») (now «predicate_words») × Space at (length (now «predicate_pairs») / 2) ⌝ }
-    ensures { λ r. ⌜ Appends (map (map (predicateLiteral (now (inputs .entry)) (now (relevant .entry)))) (clausesIn (now («predicate_words» .entry)) (now («predicate_pairs» .entry)))) at (now (pairs .entry)) (now (literals .entry)) r (now (pairs .exit)) (now (literals .exit)) ⌝ }
+    at: ClauseCounts,
+) -> ClauseCounts
+    requires { ⌜ Bounded (now inputs) (now relevant) (now «predicate_pairs») (now «predicate_literals») × Space at (length (now «predicate_pairs») / 2) ⌝ }
+    ensures { λ r. ⌜ Appends (map (map (predicateLiteral (now (inputs .entry)) (now (relevant .entry)))) (clausesIn (now («predicate_literals» .entry)) (now («predicate_pairs» .entry)))) at (now (pairs .entry)) (now (literals .entry)) r (now (pairs .exit)) (now (literals .exit)) ⌝ }
 {
     if predicate_pairs.len() < 2 {
         return at;
@@ -134,7 +143,7 @@ pub fn append_predicate(
         inputs,
         relevant,
         predicate_pairs,
-        predicate_words,
+        predicate_literals,
         &mut list,
         &mut work,
         pairs,
@@ -144,7 +153,12 @@ pub fn append_predicate(
 }
 
 // Appends the clause of one literal.
-pub fn push_literal(literal: u64, pairs: &mut [u64], literals: &mut [u32], at: Table) -> Table
+pub fn push_literal(
+    literal: u64,
+    pairs: &mut [u64],
+    literals: &mut [u32],
+    at: ClauseCounts,
+) -> ClauseCounts
     requires { ⌜ (literal < 2 ^ 32) × Space at 1 ⌝ }
     ensures { λ r. ⌜ Appends ((literal ∷ []) ∷ []) at (now (pairs .entry)) (now (literals .entry)) r (now (pairs .exit)) (now (literals .exit)) ⌝ }
 {
@@ -168,23 +182,23 @@ pub fn append_sources(
     source: u64,
     pairs: &mut [u64],
     literals: &mut [u32],
-    at: Table,
-) -> Table
+    at: ClauseCounts,
+) -> ClauseCounts
     requires { ⌜ Low (now currents) × (length (now currents) ≤ 64) × Space at (length (now currents)) ⌝ }
     ensures { λ r. ⌜ Appends (sourceLists (now (currents .entry)) (bits (length (now (currents .entry))) source)) at (now (pairs .entry)) (now (literals .entry)) r (now (pairs .exit)) (now (literals .exit)) ⌝ }
 {
-    let mut table = at;
+    let mut appended = at;
     let mut i = 0;
     while i < currents.len() {
         let literal = source_literal(currents[i], source, i);
-        table = push_literal(literal, pairs, literals, table);
+        appended = push_literal(literal, pairs, literals, appended);
         i += 1;
     }
-    table
+    appended
 }
 
 // Appends the three clauses of a gate.
-fn push_gate(gate: Gate, pairs: &mut [u64], literals: &mut [u32], at: Table) -> Table
+fn push_gate(gate: Gate, pairs: &mut [u64], literals: &mut [u32], at: ClauseCounts) -> ClauseCounts
     requires { ⌜ LowGate gate × Space at 3 ⌝ }
     ensures { λ r. ⌜ Appends (gateLists gate) at (now (pairs .entry)) (now (literals .entry)) r (now (pairs .exit)) (now (literals .exit)) ⌝ }
 {
@@ -200,12 +214,12 @@ pub fn append_ands(
     count: usize,
     pairs: &mut [u64],
     literals: &mut [u32],
-    at: Table,
-) -> Table
+    at: ClauseCounts,
+) -> ClauseCounts
     requires { ⌜ (3 * count ≤ length (now gates)) × Each LowGate (take count (triplesOf gateFrom (now gates))) × Space at (3 * count) ⌝ }
     ensures { λ r. ⌜ Appends (wordsOf gateLists (take count (triplesOf gateFrom (now (gates .entry))))) at (now (pairs .entry)) (now (literals .entry)) r (now (pairs .exit)) (now (literals .exit)) ⌝ }
 {
-    let mut table = at;
+    let mut appended = at;
     let mut i = 0;
     while i < count {
         let gate = Gate {
@@ -213,8 +227,8 @@ pub fn append_ands(
             left: gates[3 * i + 1],
             right: gates[3 * i + 2],
         };
-        table = push_gate(gate, pairs, literals, table);
+        appended = push_gate(gate, pairs, literals, appended);
         i += 1;
     }
-    table
+    appended
 }

@@ -11,7 +11,7 @@ mod obligations;
 mod texts;
 
 // Where the next case begins, and where printing goes on.
-struct Place {
+struct Progress {
     input: usize,
     output: usize,
 }
@@ -31,15 +31,21 @@ fn answer(numbers: &[u64], block: &[u8], out: &mut [u8], at: usize) -> usize {
 }
 
 // Prints that the case is malformed; then nothing more is replayed.
-fn stop(input: &[u8], out: &mut [u8], to: usize) -> Place {
-    Place {
+fn stop(input: &[u8], out: &mut [u8], to: usize) -> Progress {
+    Progress {
         input: input.len(),
         output: show::malformed(out, to),
     }
 }
 
 // Replays the case whose numbers are these and whose block begins at a place.
-fn replay_block(input: &[u8], numbers: &[u64], start: usize, out: &mut [u8], to: usize) -> Place {
+fn replay_block(
+    input: &[u8],
+    numbers: &[u64],
+    start: usize,
+    out: &mut [u8],
+    to: usize,
+) -> Progress {
     let end = text_print::advance(start, form::size(numbers, 1));
     if input.len() <= end {
         return stop(input, out, to);
@@ -48,14 +54,14 @@ fn replay_block(input: &[u8], numbers: &[u64], start: usize, out: &mut [u8], to:
         return stop(input, out, to);
     }
     let printed = answer(numbers, form::bytes(input, start, end), out, to);
-    Place {
+    Progress {
         input: end + 1,
         output: text_print::print_byte(out, printed, 10),
     }
 }
 
 // Replays the case at a place.
-fn replay_case(input: &[u8], at: usize, out: &mut [u8], to: usize) -> Place {
+fn replay_case(input: &[u8], at: usize, out: &mut [u8], to: usize) -> Progress {
     let mut room = [0u64; 8192];
     let end = scan::line_end(input, at);
     let Count::Of(n) = form::numbers(form::bytes(input, at, end), &mut room) else {

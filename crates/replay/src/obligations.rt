@@ -35,7 +35,7 @@ fn part(numbers: &[u64], k: usize) -> &[u64] {
 // A row with claimed targets.
 fn relation(
     numbers: &[u64],
-    predicate: &[u32],
+    predicate_pairs: &[u32],
     work: &mut [u64],
     pairs: &mut [u64],
     literals: &mut [u32],
@@ -46,7 +46,7 @@ fn relation(
         part(numbers, 2),
         lists::word(numbers, 5),
         part(numbers, 3),
-        predicate,
+        predicate_pairs,
         part(numbers, 5),
         work,
         pairs,
@@ -57,7 +57,7 @@ fn relation(
 // A row with claimed outcomes.
 fn transducer(
     numbers: &[u64],
-    predicate: &[u32],
+    predicate_pairs: &[u32],
     work: &mut [u64],
     pairs: &mut [u64],
     literals: &mut [u32],
@@ -68,7 +68,7 @@ fn transducer(
         part(numbers, 2),
         lists::word(numbers, 5),
         part(numbers, 3),
-        predicate,
+        predicate_pairs,
         part(numbers, 5),
         part(numbers, 6),
         work,
@@ -80,7 +80,7 @@ fn transducer(
 // A terminal list.
 fn terminal(
     numbers: &[u64],
-    predicate: &[u32],
+    predicate_pairs: &[u32],
     work: &mut [u64],
     pairs: &mut [u64],
     literals: &mut [u32],
@@ -90,7 +90,7 @@ fn terminal(
         part(numbers, 1),
         part(numbers, 2),
         part(numbers, 3),
-        predicate,
+        predicate_pairs,
         lists::word(numbers, 5),
         part(numbers, 5),
         work,
@@ -102,16 +102,16 @@ fn terminal(
 // Makes the call that a case names.
 fn make(
     numbers: &[u64],
-    predicate: &[u32],
+    predicate_pairs: &[u32],
     work: &mut [u64],
     pairs: &mut [u64],
     literals: &mut [u32],
 ) -> NitMade {
     let call = lists::word(numbers, 0);
     match call {
-        3 => relation(numbers, predicate, work, pairs, literals),
-        4 => transducer(numbers, predicate, work, pairs, literals),
-        _ => terminal(numbers, predicate, work, pairs, literals),
+        3 => relation(numbers, predicate_pairs, work, pairs, literals),
+        4 => transducer(numbers, predicate_pairs, work, pairs, literals),
+        _ => terminal(numbers, predicate_pairs, work, pairs, literals),
     }
 }
 
@@ -127,14 +127,14 @@ fn show_name(call: u64, out: &mut [u8], at: usize) -> usize {
 // Makes the call with exactly these words lent, and prints the answer: the counts, the pairs and the literals.
 fn made_lent(
     numbers: &[u64],
-    predicate: &[u32],
+    predicate_pairs: &[u32],
     work: &mut [u64],
     pairs: &mut [u64],
     literals: &mut [u32],
     out: &mut [u8],
     at: usize,
 ) -> usize {
-    let made = make(numbers, predicate, work, pairs, literals);
+    let made = make(numbers, predicate_pairs, work, pairs, literals);
     let answer: [u64; 3] = [made.reason, made.clauses as u64, made.literals as u64];
     let named = show_name(lists::word(numbers, 0), out, at);
     let counted = show::words(out, named, &answer);
@@ -151,7 +151,7 @@ fn made_lent(
 // Makes the call with so many words lent.
 fn made_with(
     numbers: &[u64],
-    predicate: &[u32],
+    predicate_pairs: &[u32],
     work: &mut [u64],
     pairs: &mut [u64],
     literals: &mut [u32],
@@ -172,7 +172,7 @@ fn made_with(
     }
     made_lent(
         numbers,
-        predicate,
+        predicate_pairs,
         &mut work[..work_words],
         &mut pairs[..pair_words],
         &mut literals[..literal_words],
@@ -184,7 +184,7 @@ fn made_with(
 // Makes the call with the predicate's literals in front of the room that is lent for them.
 fn made_for(
     numbers: &[u64],
-    predicate: &mut [u32],
+    predicate_pairs: &mut [u32],
     work: &mut [u64],
     pairs: &mut [u64],
     literals: &mut [u32],
@@ -195,22 +195,30 @@ fn made_for(
         return show::malformed(out, at);
     }
     let count = form::size(numbers, 10);
-    if predicate.len() < count {
+    if predicate_pairs.len() < count {
         return show::malformed(out, at);
     }
-    copy_literals(part(numbers, 4), predicate);
-    made_with(numbers, &predicate[..count], work, pairs, literals, out, at)
+    copy_literals(part(numbers, 4), predicate_pairs);
+    made_with(
+        numbers,
+        &predicate_pairs[..count],
+        work,
+        pairs,
+        literals,
+        out,
+        at,
+    )
 }
 
 // A case of one of the three calls.
 pub fn made_case(numbers: &[u64], out: &mut [u8], at: usize) -> usize {
-    let mut predicate = [0u32; 2048];
+    let mut predicate_pairs = [0u32; 2048];
     let mut work = [show::WORD; 4096];
     let mut pairs = [show::WORD; 8192];
     let mut literals = [show::LITERAL; 8192];
     made_for(
         numbers,
-        &mut predicate,
+        &mut predicate_pairs,
         &mut work,
         &mut pairs,
         &mut literals,

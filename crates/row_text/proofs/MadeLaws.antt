@@ -10,7 +10,7 @@ use lib.ListN.{length, drop, length-append}
 use Rattle.lists.specs.Answer.{Answer, got, refused, unless, andThen}
 use Rattle.lists.specs.Parts.{Bytes, front}
 use Rattle.model.specs.Circuit.{Circuit}
-use Rattle.cnf.specs.declared.Table.{Table}
+use Rattle.cnf.specs.declared.ClauseCounts.{ClauseCounts}
 use Rattle.cnf.specs.Clauses.{Clause, literalsOf, pairsFrom, returned}
 use Rattle.cnf.proofs.ReturnedLaws.{returned-back}
 use Rattle.obligation_spec.specs.Calls.{Asked, Lent, asked, predicate, within, relationRow, relationOn}
@@ -65,17 +65,17 @@ module _ (lent : Lent) (cs : List Clause) where
 -- ---- what was made
 
 -- the clauses of an accepted answer, as they stand in the buffers
-record Rows (answer : Answer (List Clause)) (t : Table) (after : Buffers) : Type 0 where
+record Rows (answer : Answer (List Clause)) (t : ClauseCounts) (after : Buffers) : Type 0 where
   cs : List Clause
   is : answer ≡ got cs
   back : returned (t .clauses) (after .pairs) (after .literals) ≡ cs
   front : InFront cs (t .clauses) (after .pairs) (after .literals)
 
-rows-made : (answer : Answer (List Clause)) (b : Buffers) (r : Made) (after : Buffers) → Makes answer b r after → (t : Table) → r ≡ Clauses t → Rows answer t after
+rows-made : (answer : Answer (List Clause)) (b : Buffers) (r : Made) (after : Buffers) → Makes answer b r after → (t : ClauseCounts) → r ≡ Clauses t → Rows answer t after
 rows-made (got cs) b r after k t e =
     let told : got t ≡ got (sizes cs) = ap answerOf (sym e) ∙ k .answers in
     let same : t ≡ sizes cs = cc in
-    let n : t .clauses ≡ length cs = ap (λ (s : Table). s .clauses) same in
+    let n : t .clauses ≡ length cs = ap (λ (s : ClauseCounts). s .clauses) same in
     record {
       cs = cs;
       is = refl;
@@ -97,16 +97,16 @@ none-made (got cs) b r after k n e =
     let told : refused n ≡ got (sizes cs) = ap answerOf (sym e) ∙ k .answers in
     never (sym told)
 none-made (refused m) b r after k n e =
-    let told : _≡_ {A = Answer Table} (refused n) (refused m) = ap answerOf (sym e) ∙ k .answers in
+    let told : _≡_ {A = Answer ClauseCounts} (refused n) (refused m) = ap answerOf (sym e) ∙ k .answers in
     let same : n ≡ m = cc in
     ap refused same
 
 -- the same of the call
 module _ (q : Asked) (source : ℕ) (targets : List ℕ) (b : Buffers) (r : Made) (after : Buffers) (k : MakesRelation q source targets b r after) where
-  rows : (t : Table) → r ≡ Clauses t → Rows (relationRow q source targets (lentOf b)) t after
+  rows : (t : ClauseCounts) → r ≡ Clauses t → Rows (relationRow q source targets (lentOf b)) t after
   rows t e = rows-made (relationRow q source targets (lentOf b)) b r after (k .makes) t e
 
-  standing : (t : Table) → r ≡ Clauses t → (room : ℕ) → 21 * (length (b .pairs) + length (b .literals)) + 29 ≤ room → Standing (t .clauses) (after .pairs) (after .literals) room
+  standing : (t : ClauseCounts) → r ≡ Clauses t → (room : ℕ) → 21 * (length (b .pairs) + length (b .literals)) + 29 ≤ room → Standing (t .clauses) (after .pairs) (after .literals) room
   standing t e room h =
       let w : Rows (relationRow q source targets (lentOf b)) t after = rows t e in
       let f : Fits (lentOf b) (w .cs) = row-fits (lentOf b) (w .cs) q source targets (w .is) in
@@ -125,13 +125,13 @@ module _ (q : Asked) (source : ℕ) (targets : List ℕ) (b : Buffers) (r : Made
 -- ---- printing an answer
 
 module _ (r : Made) (pairs words : List ℕ) (room : ℕ) (k : Printable r pairs words room) where
-  pub rows-front : (t : Table) → r ≡ Clauses t → InFront (returned (t .clauses) pairs words) (t .clauses) pairs words
+  pub rows-front : (t : ClauseCounts) → r ≡ Clauses t → InFront (returned (t .clauses) pairs words) (t .clauses) pairs words
   rows-front t e = k .rows t e .front
 
-  pub rows-room : (t : Table) → r ≡ Clauses t → 21 * numbersIn (returned (t .clauses) pairs words) + 26 ≤ room
+  pub rows-room : (t : ClauseCounts) → r ≡ Clauses t → 21 * numbersIn (returned (t .clauses) pairs words) + 26 ≤ room
   rows-room t e = k .rows t e .fits
 
-pub rows-text : (r : Made) (pairs words o o′ : List ℕ) (n : ℕ) (t : Table) → r ≡ Clauses t → Wrote o 0 (printed (got (returned (t .clauses) pairs words))) o′ n
+pub rows-text : (r : Made) (pairs words o o′ : List ℕ) (n : ℕ) (t : ClauseCounts) → r ≡ Clauses t → Wrote o 0 (printed (got (returned (t .clauses) pairs words))) o′ n
     → Wrote o 0 (printed (madeAnswer r pairs words)) o′ n
 rows-text r pairs words o o′ n t e w = rw e w
 

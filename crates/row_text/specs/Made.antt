@@ -5,7 +5,7 @@ use mathlib.Core.List.{List}
 use Rattle.lists.specs.Answer.{Answer, got, refused}
 use Rattle.lists.specs.Parts.{Bytes}
 use Rattle.text_decimal.specs.Writing.{Wrote}
-use Rattle.cnf.specs.declared.Table.{Table}
+use Rattle.cnf.specs.declared.ClauseCounts.{ClauseCounts}
 use Rattle.cnf.specs.Clauses.{Clause, returned}
 use Rattle.obligation.specs.declared.Made.{Made}
 use Rattle.obligation.specs.declared.Made.the-variants.{Clauses, Refused}
@@ -24,7 +24,7 @@ pub record Standing (count : ℕ) (pairs words : List ℕ) (room : ℕ) : Type 0
 
 -- the answer can be printed
 pub record Printable (r : Made) (pairs words : List ℕ) (room : ℕ) : Type 0 where
-  pub rows : (t : Table) → r ≡ Clauses t → Standing (t .clauses) pairs words room
+  pub rows : (t : ClauseCounts) → r ≡ Clauses t → Standing (t .clauses) pairs words room
   pub fits : 29 ≤ room
 
 -- the buffer o becomes o′, r bytes of it the printed row with what is lent

@@ -15,8 +15,8 @@ use Rattle.text.specs.declared.Reader.the-variants.{Witness}
 use Rattle.aiger.specs.declared.Gate.{Gate}
 use Rattle.aiger.specs.Sections.{Section, section}
 use Rattle.aiger.proofs.SectionLaws.{sectionOf, same-items, same-rest, section-length, section-rest, section-join}
-use Rattle.circuit_lines.specs.declared.Place.{Place}
-use Rattle.circuit_lines.specs.declared.Place.the-variants as place
+use Rattle.circuit_lines.specs.declared.SectionEnd.{SectionEnd}
+use Rattle.circuit_lines.specs.declared.SectionEnd.the-variants as section-end
 use Rattle.circuit_lines.specs.SectionLines.{literalLine, gateLine}
 use Rattle.circuit_lines.specs.Places.{linesFrom}
 use Rattle.witness_text.specs.declared.AagCounts.{AagCounts}
@@ -38,26 +38,26 @@ middle n ls d p =
 
 -- ---- load_rest
 
-module _ (s : Bytes) (c : Cursor) (n : AagCounts) (at : ℕ) (o₀ o₁ : List ℕ) (r₁ : Place) (k₁ : LoadsSection (literalLine Witness) literalWord s c (literalCount n) o₀ at o₁ r₁) where
-  pub rest-no-literals : r₁ ≡ place.Bad → (e : Cursor) → LoadsRest s c n o₀ at o₁ e
+module _ (s : Bytes) (c : Cursor) (n : AagCounts) (at : ℕ) (o₀ o₁ : List ℕ) (r₁ : SectionEnd) (k₁ : LoadsSection (literalLine Witness) literalWord s c (literalCount n) o₀ at o₁ r₁) where
+  pub rest-no-literals : r₁ ≡ section-end.Bad → (e : Cursor) → LoadsRest s c n o₀ at o₁ e
   rest-no-literals u e x y f g = got-refused f (rw u at k₁)
 
-  module _ (c₁ : Cursor) (u₁ : r₁ ≡ place.At c₁) where
+  module _ (c₁ : Cursor) (u₁ : r₁ ≡ section-end.At c₁) where
     stored₁ : Stored (literalLine Witness) literalWord s c (literalCount n) o₀ at o₁ c₁
     stored₁ = rw u₁ at k₁
 
     same₁ : (x : Section ℕ) → section (literalLine Witness) (literalCount n) (linesFrom s c) ≡ got x → sectionOf (stored₁ .items) (linesFrom s c₁) ≡ got x
     same₁ x f = sym (stored₁ .takes) ∙ f
 
-    module _ (o₂ : List ℕ) (r₂ : Place) (k₂ : LoadsSection (gateLine Witness) operandWords s c₁ (n .gates) o₁ (at + literalCount n) o₂ r₂) where
+    module _ (o₂ : List ℕ) (r₂ : SectionEnd) (k₂ : LoadsSection (gateLine Witness) operandWords s c₁ (n .gates) o₁ (at + literalCount n) o₂ r₂) where
       gates-are : (x : Section ℕ) (y : Section Gate) → section (literalLine Witness) (literalCount n) (linesFrom s c) ≡ got x → section (gateLine Witness) (n .gates) (x .rest) ≡ got y
           → section (gateLine Witness) (n .gates) (linesFrom s c₁) ≡ got y
       gates-are x y f g = ap (section (gateLine Witness) (n .gates)) (same-rest (stored₁ .items) (x .items) (linesFrom s c₁) (x .rest) (same₁ x f)) ∙ g
 
-      pub rest-no-gates : r₂ ≡ place.Bad → (e : Cursor) → LoadsRest s c n o₀ at o₂ e
+      pub rest-no-gates : r₂ ≡ section-end.Bad → (e : Cursor) → LoadsRest s c n o₀ at o₂ e
       rest-no-gates u e x y f g = got-refused (gates-are x y f g) (rw u at k₂)
 
-      pub rest-loaded : at + restRoom n ≤ length o₀ → (c₂ : Cursor) → r₂ ≡ place.At c₂ → LoadsRest s c n o₀ at o₂ c₂
+      pub rest-loaded : at + restRoom n ≤ length o₀ → (c₂ : Cursor) → r₂ ≡ section-end.At c₂ → LoadsRest s c n o₀ at o₂ c₂
       rest-loaded h c₂ u x y f g =
           let k : Stored (gateLine Witness) operandWords s c₁ (n .gates) o₁ (at + literalCount n) o₂ c₂ = rw u at k₂ in
           let same₂ : sectionOf (k .items) (linesFrom s c₂) ≡ got y = sym (k .takes) ∙ gates-are x y f g in
@@ -70,15 +70,15 @@ module _ (s : Bytes) (c : Cursor) (n : AagCounts) (at : ℕ) (o₀ o₁ : List �
 -- ---- load_body
 
 module _ (s : Bytes) (c : Cursor) (n : AagCounts) (at : ℕ) (o₀ : List ℕ) (c₁ : Cursor) (q₁ : linesFrom s c₁ ≡ drop (n .inputs) (linesFrom s c))
-    (o₁ : List ℕ) (r₁ : Place) (k₁ : LoadsSection latchLine storedWords s c₁ (n .latches) o₀ at o₁ r₁) where
+    (o₁ : List ℕ) (r₁ : SectionEnd) (k₁ : LoadsSection latchLine storedWords s c₁ (n .latches) o₀ at o₁ r₁) where
   latches-are : (d : Body) (p : Parts n (linesFrom s c) d) → section latchLine (n .latches) (linesFrom s c₁) ≡ sectionOf (d .latches) (p .after-latches)
   latches-are d p =
       ap (section latchLine (n .latches)) (q₁ ∙ sym (section-rest (literalLine Witness) (n .inputs) (linesFrom s c) (d .inputs) (p .after-inputs) (p .inputs))) ∙ p .latches
 
-  pub body-no-latches : r₁ ≡ place.Bad → (e : Cursor) → LoadsBody s c n o₀ at o₁ e
+  pub body-no-latches : r₁ ≡ section-end.Bad → (e : Cursor) → LoadsBody s c n o₀ at o₁ e
   body-no-latches u e d h = got-refused (latches-are d (body-parts n (linesFrom s c) d h)) (rw u at k₁)
 
-  pub body-loaded : at + bodyRoom n ≤ length o₀ → (c₂ : Cursor) → r₁ ≡ place.At c₂ → (o₂ : List ℕ) (e : Cursor) → LoadsRest s c₂ n o₁ (at + 2 * n .latches) o₂ e
+  pub body-loaded : at + bodyRoom n ≤ length o₀ → (c₂ : Cursor) → r₁ ≡ section-end.At c₂ → (o₂ : List ℕ) (e : Cursor) → LoadsRest s c₂ n o₁ (at + 2 * n .latches) o₂ e
       → LoadsBody s c n o₀ at o₂ e
   body-loaded b c₂ u o₂ e k d h =
       let p = body-parts n (linesFrom s c) d h in

@@ -15,8 +15,8 @@ use Rattle.text.specs.declared.Reader.the-variants.{Witness}
 use Rattle.aiger.specs.declared.Gate.{Gate}
 use Rattle.aiger.specs.Sections.{section}
 use Rattle.aiger.proofs.SectionLaws.{sectionOf, Taking, taking-none, taking-more, taking-bad, taking-done}
-use Rattle.circuit_lines.specs.declared.Place.{Place}
-use Rattle.circuit_lines.specs.declared.Place.the-variants as place
+use Rattle.circuit_lines.specs.declared.SectionEnd.{SectionEnd}
+use Rattle.circuit_lines.specs.declared.SectionEnd.the-variants as section-end
 use Rattle.circuit_lines.specs.declared.TakenGate.{TakenGate}
 use Rattle.circuit_lines.specs.declared.TakenGate.the-variants as gate
 use Rattle.circuit_lines.specs.SectionLines.{literalLine, gateLine}
@@ -59,10 +59,10 @@ module _ {A : Type 0} (item : Bytes → Answer A) (words : A → List ℕ) (s : 
               ∙ ap (put o₀ at) (sym join);
         }
 
-    loading-bad : i < n → section item 1 (linesFrom s p) ≡ refused 8 → LoadsSection item words s c n o₀ at o place.Bad
+    loading-bad : i < n → section item 1 (linesFrom s p) ≡ refused 8 → LoadsSection item words s c n o₀ at o section-end.Bad
     loading-bad h e = taking-bad item n (linesFrom s c) (k .items) (linesFrom s p) (k .taking) (omega (arith, k .count)) e
 
-    loading-done : n ≤ i → LoadsSection item words s c n o₀ at o (place.At p)
+    loading-done : n ≤ i → LoadsSection item words s c n o₀ at o (section-end.At p)
     loading-done h =
         record {
           items = k .items;
@@ -85,10 +85,10 @@ module _ (s : Bytes) (c : Cursor) (n : ℕ) (o₀ : List ℕ) (at : ℕ) where
           → Latches s c n o₀ at o' p' (i + 1)
       latches-more a p' e f o' g = loading-more latchLine storedWords s c n o₀ at o p i k (λ x. refl) (omega arith) h a p' (rw e at q) o' g
 
-      pub latches-bad : t ≡ latch.Bad → LoadsSection latchLine storedWords s c n o₀ at o place.Bad
+      pub latches-bad : t ≡ latch.Bad → LoadsSection latchLine storedWords s c n o₀ at o section-end.Bad
       latches-bad e = loading-bad latchLine storedWords s c n o₀ at o p i k h (rw e at q)
 
-    pub latches-done : n ≤ i → LoadsSection latchLine storedWords s c n o₀ at o (place.At p)
+    pub latches-done : n ≤ i → LoadsSection latchLine storedWords s c n o₀ at o (section-end.At p)
     latches-done h = loading-done latchLine storedWords s c n o₀ at o p i k h
 
 -- ---- gates
@@ -106,10 +106,10 @@ module _ (s : Bytes) (c : Cursor) (n : ℕ) (o₀ : List ℕ) (at : ℕ) where
           → Gates s c n o₀ at o' p' (i + 1)
       gates-more a p' e f o' g = loading-more (gateLine Witness) operandWords s c n o₀ at o p i k (λ x. refl) (omega arith) h a p' (rw e at q) o' g
 
-      pub gates-bad : t ≡ gate.Bad → LoadsSection (gateLine Witness) operandWords s c n o₀ at o place.Bad
+      pub gates-bad : t ≡ gate.Bad → LoadsSection (gateLine Witness) operandWords s c n o₀ at o section-end.Bad
       gates-bad e = loading-bad (gateLine Witness) operandWords s c n o₀ at o p i k h (rw e at q)
 
-    pub gates-done : n ≤ i → LoadsSection (gateLine Witness) operandWords s c n o₀ at o (place.At p)
+    pub gates-done : n ≤ i → LoadsSection (gateLine Witness) operandWords s c n o₀ at o (section-end.At p)
     gates-done h = loading-done (gateLine Witness) operandWords s c n o₀ at o p i k h
 
 -- ---- literals
@@ -119,7 +119,7 @@ literal-words [] = refl
 literal-words (x ∷ l) = ap (λ (t : List ℕ). x ∷ t) (literal-words l)
 
 -- the part `&mut o[at..at + n]`, given back with the literals
-pub literals-stored : (s : Bytes) (c : Cursor) (n : ℕ) (o : List ℕ) (at : ℕ) → at + n ≤ length o → (r : Place) (b : List ℕ) → length b ≡ length (part o at (at + n))
+pub literals-stored : (s : Bytes) (c : Cursor) (n : ℕ) (o : List ℕ) (at : ℕ) → at + n ≤ length o → (r : SectionEnd) (b : List ℕ) → length b ≡ length (part o at (at + n))
     → Takes (literalLine Witness) s c (length (part o at (at + n))) r b → LoadsSection (literalLine Witness) literalWord s c n o at (putMid at (at + n - at) o b) r
 literals-stored s c n o at h r b g k = by r (rw size at k)
   where
@@ -131,6 +131,6 @@ literals-stored s c n o at h r b g k = by r (rw size at k)
         let e : b ≡ front (part o at (at + n)) b = sym (rw (drop-of-length-le (part o at (at + n)) {i = length b} (omega (arith, g))) (append-nil b)) in
         ap (putMid at (at + n - at) o) e ∙ put-back o at b (omega arith) (at + n) (omega (arith, g, size)) h
 
-    by : (p : Place) → Takes (literalLine Witness) s c n p b → LoadsSection (literalLine Witness) literalWord s c n o at (putMid at (at + n - at) o b) p
-    by (place.At e) t = record { items = b; takes = t; stand = whole ∙ ap (put o at) (sym (literal-words b)) }
-    by place.Bad t = t
+    by : (p : SectionEnd) → Takes (literalLine Witness) s c n p b → LoadsSection (literalLine Witness) literalWord s c n o at (putMid at (at + n - at) o b) p
+    by (section-end.At e) t = record { items = b; takes = t; stand = whole ∙ ap (put o at) (sym (literal-words b)) }
+    by section-end.Bad t = t

@@ -21,8 +21,8 @@ use Rattle.aiger.proofs.SectionLaws.{section-shorter}
 use Rattle.circuit_lines.specs.SectionLines.{literalLine, gateLine}
 use Rattle.circuit_lines.specs.Places.{linesFrom}
 use Rattle.witness_text.specs.declared.AagCounts.{AagCounts}
-use Rattle.witness_text.specs.declared.Header.{Header}
-use Rattle.witness_text.specs.declared.Header.the-variants as header
+use Rattle.witness_text.specs.declared.WitnessHeader.{WitnessHeader}
+use Rattle.witness_text.specs.declared.WitnessHeader.the-variants as header
 use Rattle.witness_text.specs.declared.Latch.{Latch}
 use Rattle.witness_text.specs.Header.{headerOf}
 use Rattle.witness_text.specs.LatchLines.{latchLine}
@@ -104,7 +104,7 @@ module _ (s : Bytes) (n : AagCounts) (w₀ : List ℕ) where
   pub load-room : Loadable s n w₀ → leafWords n + bodyRoom n ≤ length w₀
   load-room a = rw (a .accepted .counts, ← words-counted (a .sections)) (a .accepted .fits)
 
-  module _ (r : Header) (q : TakesCounts s r) where
+  module _ (r : WitnessHeader) (q : TakesCounts s r) where
     pub load-no-header : r ≡ header.Refused → (w : List ℕ) → LoadsText s n w₀ w
     load-no-header u w x a = got-refused (text-taken s n w₀ x a .1 .heads) (rw u at q)
 

@@ -13,8 +13,8 @@ use Rattle.text.specs.Texts.{limited}
 use Rattle.text.specs.declared.Reader.the-variants.{Witness}
 use Rattle.aiger.specs.declared.Gate.{Gate}
 use Rattle.aiger.specs.Sections.{Section, section}
-use Rattle.circuit_lines.specs.declared.Place.{Place}
-use Rattle.circuit_lines.specs.declared.Place.the-variants as place
+use Rattle.circuit_lines.specs.declared.SectionEnd.{SectionEnd}
+use Rattle.circuit_lines.specs.declared.SectionEnd.the-variants as section-end
 use Rattle.circuit_lines.specs.SectionLines.{literalLine, gateLine}
 use Rattle.circuit_lines.specs.Places.{linesFrom}
 use Rattle.witness_text.specs.declared.AagCounts.{AagCounts}
@@ -45,9 +45,9 @@ module _ {A : Type 0} (item : Bytes → Answer A) (words : A → List ℕ) (s : 
     pub takes : section item n (linesFrom s c) ≡ got (record { items = items; rest = linesFrom s e })
     pub stand : o ≡ put o₀ at (wordsOf words items)
 
-  abbrev pub LoadsSection : Place → Type 0
-  LoadsSection (place.At e) = Stored e
-  LoadsSection place.Bad = section item n (linesFrom s c) ≡ refused 8
+  abbrev pub LoadsSection : SectionEnd → Type 0
+  LoadsSection (section-end.At e) = Stored e
+  LoadsSection section-end.Bad = section item n (linesFrom s c) ≡ refused 8
 
 -- outputs, bads and constraints are consecutive lines with one literal each, so they are taken as one section; then come the gates
 abbrev pub literalCount : AagCounts → ℕ

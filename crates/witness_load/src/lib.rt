@@ -16,17 +16,17 @@ ghost use Rattle.witness_text.specs.Symbols.{countOf};
 ghost use Rattle.witness_read.specs.Reading.{readAag};
 ghost use Rattle.witness_load.specs.Loaded.{operandWords, Loads};
 ghost use Rattle.witness_load.specs.Loading.{storedWords, literalWord, LoadsSection, restRoom, LoadsRest, bodyRoom, LoadsBody, leafWords, withWords, NamesLine, LoadsNames, Loadable, LoadsText};
-use circuit_lines::Place;
+use circuit_lines::SectionEnd;
 use circuit_lines::TakenGate;
 use text::Cursor;
 use text::Line;
 use text::Reader;
 use witness_read::ReadAag;
 use witness_text::AagCounts;
-use witness_text::Header;
 use witness_text::Kind;
 use witness_text::SymbolLine;
 use witness_text::TakenLatch;
+use witness_text::WitnessHeader;
 
 // The cursor after n lines, or at the end where there are fewer.
 fn pass_lines(s: &[u8], cursor: Cursor, n: usize) -> Cursor
@@ -53,7 +53,7 @@ fn store_pair(out: &mut [u64], at: usize, x: u64, y: u64)
 }
 
 // Next literal and reset of the latches of the n lines from a cursor on, stored from a place on.
-fn load_latches(s: &[u8], cursor: Cursor, n: usize, out: &mut [u64], at: usize) -> Place
+fn load_latches(s: &[u8], cursor: Cursor, n: usize, out: &mut [u64], at: usize) -> SectionEnd
     requires { ⌜ at + 2 * n ≤ length (now out) ⌝ }
     ensures { λ r. ⌜ LoadsSection latchLine storedWords (now (s .entry)) cursor n (now (out .entry)) at (now (out .exit)) r ⌝ }
 {
@@ -61,17 +61,17 @@ fn load_latches(s: &[u8], cursor: Cursor, n: usize, out: &mut [u64], at: usize) 
     let mut i = 0;
     while i < n {
         let TakenLatch::Got { latch, next } = witness_text::take_latch(s, p) else {
-            return Place::Bad;
+            return SectionEnd::Bad;
         };
         store_pair(out, at + 2 * i, latch.next, latch.reset);
         p = next;
         i += 1;
     }
-    Place::At(p)
+    SectionEnd::At(p)
 }
 
 // The operands of the gates of the n lines from a cursor on, stored from a place on.
-fn load_gates(s: &[u8], cursor: Cursor, n: usize, out: &mut [u64], at: usize) -> Place
+fn load_gates(s: &[u8], cursor: Cursor, n: usize, out: &mut [u64], at: usize) -> SectionEnd
     requires { ⌜ at + 2 * n ≤ length (now out) ⌝ }
     ensures { λ r. ⌜ LoadsSection (gateLine Witness) operandWords (now (s .entry)) cursor n (now (out .entry)) at (now (out .exit)) r ⌝ }
 {
@@ -79,17 +79,17 @@ fn load_gates(s: &[u8], cursor: Cursor, n: usize, out: &mut [u64], at: usize) ->
     let mut i = 0;
     while i < n {
         let TakenGate::Got { gate, next } = circuit_lines::take_gate(Reader::Witness, s, p) else {
-            return Place::Bad;
+            return SectionEnd::Bad;
         };
         store_pair(out, at + 2 * i, gate.left, gate.right);
         p = next;
         i += 1;
     }
-    Place::At(p)
+    SectionEnd::At(p)
 }
 
 // The literals of the n lines from a cursor on, stored from a place on.
-fn load_literals(s: &[u8], cursor: Cursor, n: usize, out: &mut [u64], at: usize) -> Place
+fn load_literals(s: &[u8], cursor: Cursor, n: usize, out: &mut [u64], at: usize) -> SectionEnd
     requires { ⌜ at + n ≤ length (now out) ⌝ }
     ensures { λ r. ⌜ LoadsSection (literalLine Witness) literalWord (now (s .entry)) cursor n (now (out .entry)) at (now (out .exit)) r ⌝ }
 {
@@ -103,10 +103,10 @@ fn load_rest(s: &[u8], cursor: Cursor, counts: AagCounts, out: &mut [u64], at: u
     ensures { λ r. ⌜ LoadsRest (now (s .entry)) cursor counts (now (out .entry)) at (now (out .exit)) r ⌝ }
 {
     let count = counts.outputs + counts.bads + counts.constraints;
-    let Place::At(gates) = load_literals(s, cursor, count, out, at) else {
+    let SectionEnd::At(gates) = load_literals(s, cursor, count, out, at) else {
         return cursor;
     };
-    let Place::At(end) = load_gates(s, gates, counts.gates, out, at + count) else {
+    let SectionEnd::At(end) = load_gates(s, gates, counts.gates, out, at + count) else {
         return cursor;
     };
     end
@@ -118,7 +118,7 @@ fn load_body(s: &[u8], cursor: Cursor, counts: AagCounts, out: &mut [u64], at: u
     ensures { λ r. ⌜ LoadsBody (now (s .entry)) cursor counts (now (out .entry)) at (now (out .exit)) r ⌝ }
 {
     let latches = pass_lines(s, cursor, counts.inputs);
-    let Place::At(rest) = load_latches(s, latches, counts.latches, out, at) else {
+    let SectionEnd::At(rest) = load_latches(s, latches, counts.latches, out, at) else {
         return cursor;
     };
     load_rest(s, rest, counts, out, at + 2 * counts.latches)
@@ -196,7 +196,7 @@ pub fn load(s: &[u8], known: AagCounts, words: &mut [u64])
     requires { ⌜ Loadable (now s) known (now words) ⌝ }
     ensures { λ _. ⌜ LoadsText (now (s .entry)) known (now (words .entry)) (now (words .exit)) ⌝ }
 {
-    let Header::Got { counts, next } = witness_text::take_header(s) else {
+    let WitnessHeader::Got { counts, next } = witness_text::take_witness_header(s) else {
         return;
     };
     let names = 2 * (known.inputs + known.latches);

@@ -12,7 +12,7 @@ use Rattle.text.specs.Lines.{linesOf}
 use Rattle.text.specs.Texts.{limited, goodText}
 use Rattle.circuit_lines.specs.Places.{linesFrom}
 use Rattle.witness_text.specs.declared.AagCounts.{AagCounts}
-use Rattle.witness_text.specs.declared.Header.{Header}
+use Rattle.witness_text.specs.declared.WitnessHeader.{WitnessHeader}
 use Rattle.witness_text.specs.Header.{headerOf, counted, withoutLiveness}
 use Rattle.witness_text.specs.Inner.{Headed, TakesCounts}
 use Rattle.witness_read.specs.declared.Checked.{Checked}
@@ -24,7 +24,7 @@ use Rattle.witness_read.specs.Order.{bodyOf, wellNumbered}
 use Rattle.witness_read.specs.Reading.{sectionsFrom, sectionsOf, afterHeader, readAag, countsIn, countsRead}
 use Rattle.witness_read.proofs.AcceptedLaws.{body-parts, parts-counts, counts-same}
 use Rattle.witness_read.specs.Passes.{PassedAll, ChecksBody, PassedSymbols, ChecksSymbols}
-use Rattle.witness_text.specs.declared.Header.the-variants as header
+use Rattle.witness_text.specs.declared.WitnessHeader.the-variants as header
 use Rattle.witness_read.specs.declared.Checked.the-variants as checked
 use Rattle.witness_read.specs.declared.ReadAag.the-variants as read
 use Rattle.witness_read.specs.declared.Symbols.the-variants as symbols
@@ -96,7 +96,7 @@ module _ (s : Bytes) (witness : Bool) (a : Bool) (p : a ≡ goodText limited Wit
   unfolding readAag
   text-refused h = rw (← p, not-true a h)
 
-  module _ (h : not a ≡ false) (r : Header) (q : TakesCounts s r) where
+  module _ (h : not a ≡ false) (r : WitnessHeader) (q : TakesCounts s r) where
     good : goodText limited Witness s ≡ true
     good = told-not (goodText limited Witness s) a p h
 

@@ -217,7 +217,12 @@ pub fn check_body(s: &[u8], cursor: Cursor, counts: AagCounts) -> Checked
     let Checked::Done { next: q, fine: b } = check_properties(s, p, counts) else {
         return Checked::Bad;
     };
-    let Checked::Done { next: e, fine: d } = check_gates(s, q, counts.gates, counts.inputs + counts.latches) else {
+    let Checked::Done { next: e, fine: d } = check_gates(
+        s,
+        q,
+        counts.gates,
+        counts.inputs + counts.latches,
+    ) else {
         return Checked::Bad;
     };
     Checked::Done {

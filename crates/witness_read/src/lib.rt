@@ -12,8 +12,8 @@ mod tail;
 use text::Cursor;
 use text::Reader;
 use witness_text::AagCounts;
-use witness_text::Header;
 use witness_text::Kind;
+use witness_text::WitnessHeader;
 
 // The counts of a text that is accepted, or the number of the reason.
 pub enum ReadAag {
@@ -86,7 +86,7 @@ pub fn parse_aag(s: &[u8], witness: bool) -> ReadAag
     if !text::good_text(Reader::Witness, s) {
         return ReadAag::Refused(3);
     }
-    let Header::Got { counts, next } = witness_text::take_header(s) else {
+    let WitnessHeader::Got { counts, next } = witness_text::take_witness_header(s) else {
         return ReadAag::Refused(4);
     };
     read_body(s, next, counts, witness)

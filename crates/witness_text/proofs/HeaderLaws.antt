@@ -14,15 +14,15 @@ use Rattle.lists.proofs.ZeroLaws.{front-zeros}
 use Rattle.text.specs.declared.Cursor.{Cursor}
 use Rattle.text.specs.declared.Reader.the-variants.{Witness}
 use Rattle.text.specs.Lines.{linesOf}
-use Rattle.circuit_lines.specs.declared.Header.{Header}
+use Rattle.circuit_lines.specs.declared.HeaderCount.{HeaderCount}
 use Rattle.circuit_lines.specs.SectionLines.{firstNumbers}
 use Rattle.circuit_lines.specs.Inner.{atMost}
-use Rattle.circuit_lines.specs.Places.{Headed, TakesHeader}
+use Rattle.circuit_lines.specs.Places.{Headed, TakesHeaderNumbers}
 use Rattle.witness_text.specs.declared.AagCounts.{AagCounts}
 use Rattle.witness_text.specs.Header.{countsFrom, fiveToNine, headerOf}
 use Rattle.witness_text.specs.Inner.{TakesCounts}
-use Rattle.circuit_lines.specs.declared.Header.the-variants as numbers
-use Rattle.witness_text.specs.declared.Header.the-variants as header
+use Rattle.circuit_lines.specs.declared.HeaderCount.the-variants as numbers
+use Rattle.witness_text.specs.declared.WitnessHeader.the-variants as header
 
 -- ---- counts_of
 
@@ -31,7 +31,7 @@ pub counts-are : (ns : List ℕ) (m i l o a b c j f : ℕ) → m ≡ getD ns 0 0
     → record { «max_variable» = m; inputs = i; latches = l; outputs = o; gates = a; bads = b; constraints = c; justice = j; fairness = f } ≡ countsFrom ns
 counts-are ns m i l o a b c j f p q r s t u v w x = rw (p, q, r, s, t, u, v, w, x)
 
--- ---- take_header
+-- ---- take_witness_header
 
 taken-nine : (ns : List ℕ) → 5 ≤ length ns → length ns ≤ 9 → fiveToNine (some ns) ≡ got (countsFrom ns)
 taken-nine ns h k = rw (le-leb 5 (length ns) h, le-leb (length ns) 9 k)
@@ -63,7 +63,7 @@ counts-front ns h =
       front-zeros 9 ns 8 h,
     )
 
-module _ (s : Bytes) (ns : List ℕ) (r : Header) (q : TakesHeader Witness s (zeros 9) ns r) where
+module _ (s : Bytes) (ns : List ℕ) (r : HeaderCount) (q : TakesHeaderNumbers Witness s (zeros 9) ns r) where
   pub header-bad : r ≡ numbers.Refused → TakesCounts s header.Refused
   header-bad k = over-nine (firstNumbers Witness (linesOf s)) (rw k at q)
 

@@ -7,16 +7,16 @@ use Rattle.lists.specs.Parts.{Bytes}
 use Rattle.text.specs.declared.Cursor.{Cursor}
 use Rattle.text.specs.Lines.{linesOf}
 use Rattle.circuit_lines.specs.Places.{linesFrom, Takes}
-use Rattle.circuit_lines.specs.declared.Place.the-variants as place
+use Rattle.circuit_lines.specs.declared.SectionEnd.the-variants as section-end
 use Rattle.witness_text.specs.declared.AagCounts.{AagCounts}
-use Rattle.witness_text.specs.declared.Header.{Header}
+use Rattle.witness_text.specs.declared.WitnessHeader.{WitnessHeader}
 use Rattle.witness_text.specs.declared.Kind.{Kind}
 use Rattle.witness_text.specs.declared.KnownKind.{KnownKind}
 use Rattle.witness_text.specs.declared.Latch.{Latch}
 use Rattle.witness_text.specs.declared.ReadLatch.{ReadLatch}
 use Rattle.witness_text.specs.declared.TakenLatch.{TakenLatch}
 use Rattle.witness_text.specs.declared.SymbolLine.{SymbolLine}
-use Rattle.witness_text.specs.declared.Header.the-variants as header
+use Rattle.witness_text.specs.declared.WitnessHeader.the-variants as header
 use Rattle.witness_text.specs.declared.KnownKind.the-variants as known
 use Rattle.witness_text.specs.declared.ReadLatch.the-variants as read
 use Rattle.witness_text.specs.declared.TakenLatch.the-variants as latch
@@ -30,7 +30,7 @@ pub record Headed (s : Bytes) (n : AagCounts) (c : Cursor) : Type 0 where
   pub counts : headerOf (linesOf s) ≡ got n
   pub rest : drop 1 (linesOf s) ≡ linesFrom s c
 
-abbrev pub TakesCounts : Bytes → Header → Type 0
+abbrev pub TakesCounts : Bytes → WitnessHeader → Type 0
 TakesCounts s (header.Got n c) = Headed s n c
 TakesCounts s header.Refused = headerOf (linesOf s) ≡ refused 4
 
@@ -50,5 +50,5 @@ symbolAnswer l symbol.Refused = refused 9
 
 -- one latch
 abbrev pub TakesLatch : Bytes → Cursor → TakenLatch → Type 0
-TakesLatch s c (latch.Got q n) = Takes latchLine s c 1 (place.At n) (q ∷ [])
-TakesLatch s c latch.Bad = Takes latchLine s c 1 place.Bad []
+TakesLatch s c (latch.Got q n) = Takes latchLine s c 1 (section-end.At n) (q ∷ [])
+TakesLatch s c latch.Bad = Takes latchLine s c 1 section-end.Bad []

@@ -24,7 +24,7 @@ pub struct AagCounts {
     pub fairness: usize,
 }
 
-pub enum Header {
+pub enum WitnessHeader {
     Got { counts: AagCounts, next: Cursor },
     Refused,
 }
@@ -87,21 +87,21 @@ fn counts_of(ns: [u64; 9]) -> AagCounts
 }
 
 // The counts of a text's header, its first line; those that are absent stay 0.
-pub fn take_header(s: &[u8]) -> Header
+pub fn take_witness_header(s: &[u8]) -> WitnessHeader
     ensures { λ r. ⌜ TakesCounts (now (s .entry)) r ⌝ }
 {
     let mut ns: [u64; 9] = [0; 9];
-    let circuit_lines::Header::Got { count, next } = circuit_lines::take_header(
+    let circuit_lines::HeaderCount::Got { count, next } = circuit_lines::take_header_numbers(
         Reader::Witness,
         s,
         &mut ns,
     ) else {
-        return Header::Refused;
+        return WitnessHeader::Refused;
     };
     if count < 5 {
-        return Header::Refused;
+        return WitnessHeader::Refused;
     }
-    Header::Got {
+    WitnessHeader::Got {
         counts: counts_of(ns),
         next: next,
     }

@@ -7,10 +7,10 @@ use Rattle.compose_numbers.proofs.number_leaves.Statement.{statement}
 use Rattle.compose_numbers.proofs.number_leaves.Tie as tie
 
 abbrev Inv-loop : tie.InvT-loop
-Inv-loop work₀ origins count table size before vars next after₀ i₀ work after i = (length work ≡ length work₀) × Numbering origins count table size before vars next work₀ work after i
+Inv-loop work₀ origins count assigned size before vars next after₀ i₀ work after i = (length work ≡ length work₀) × Numbering origins count assigned size before vars next work₀ work after i
 
 abbrev μ-loop : tie.MeasureT-loop
-μ-loop work₀ origins count table size before vars next after₀ i₀ work after i = count - i
+μ-loop work₀ origins count assigned size before vars next after₀ i₀ work after i = count - i
 
 loop-holds : tie.Need-loop-holds Inv-loop μ-loop
 loop-holds c = (refl, search numbering-none)

@@ -7,10 +7,10 @@ use Rattle.obligation_claims.proofs.push_outcomes.Tie as tie
 use Rattle.obligation_claims.proofs.push_claim.Reads as push-claim-reads
 
 abbrev Inv-loop : tie.InvT-loop
-Inv-loop keys words list₀ work₀ pairs₀ literals₀ count table₀ i₀ list work pairs literals table i = Pushing (outcomeClaims keys words) keys table₀ list₀ work₀ pairs₀ literals₀ table list work pairs literals i
+Inv-loop keys words list₀ work₀ pairs₀ literals₀ count appended₀ i₀ list work pairs literals appended i = Pushing (outcomeClaims keys words) keys appended₀ list₀ work₀ pairs₀ literals₀ appended list work pairs literals i
 
 abbrev μ-loop : tie.MeasureT-loop
-μ-loop keys words list₀ work₀ pairs₀ literals₀ count table₀ i₀ list work pairs literals table i = count - i
+μ-loop keys words list₀ work₀ pairs₀ literals₀ count appended₀ i₀ list work pairs literals appended i = count - i
 
 loop-holds : tie.Need-loop-holds Inv-loop μ-loop
 loop-holds c = pushing-none _ _ _ _ _ _ _

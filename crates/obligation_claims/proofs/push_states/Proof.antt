@@ -8,10 +8,10 @@ use Rattle.obligation_claims.proofs.push_states.Tie as tie
 use Rattle.obligation_claims.proofs.push_claim.Reads as push-claim-reads
 
 abbrev Inv-loop : tie.InvT-loop
-Inv-loop keys states list₀ work₀ pairs₀ literals₀ table₀ i₀ list work pairs literals table i = Pushing (stateClaims keys states) keys table₀ list₀ work₀ pairs₀ literals₀ table list work pairs literals i
+Inv-loop keys states list₀ work₀ pairs₀ literals₀ appended₀ i₀ list work pairs literals appended i = Pushing (stateClaims keys states) keys appended₀ list₀ work₀ pairs₀ literals₀ appended list work pairs literals i
 
 abbrev μ-loop : tie.MeasureT-loop
-μ-loop keys states list₀ work₀ pairs₀ literals₀ table₀ i₀ list work pairs literals table i = length states - i
+μ-loop keys states list₀ work₀ pairs₀ literals₀ appended₀ i₀ list work pairs literals appended i = length states - i
 
 loop-holds : tie.Need-loop-holds Inv-loop μ-loop
 loop-holds c = pushing-none _ _ _ _ _ _ _

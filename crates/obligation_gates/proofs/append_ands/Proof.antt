@@ -14,10 +14,10 @@ use Rattle.obligation_gates.proofs.append_ands.Tie as tie
 use Rattle.obligation_gates.proofs.push_gate.Reads as push-gate-reads
 
 abbrev Inv-loop : tie.InvT-loop
-Inv-loop gates count pairs₀ literals₀ table₀ i₀ pairs literals table i = (i ≤ count) × (length pairs ≡ length pairs₀) × (length literals ≡ length literals₀) × Appends (wordsOf gateLists (take i (triplesOf gateFrom gates))) table₀ pairs₀ literals₀ table pairs literals
+Inv-loop gates count pairs₀ literals₀ appended₀ i₀ pairs literals appended i = (i ≤ count) × (length pairs ≡ length pairs₀) × (length literals ≡ length literals₀) × Appends (wordsOf gateLists (take i (triplesOf gateFrom gates))) appended₀ pairs₀ literals₀ appended pairs literals
 
 abbrev μ-loop : tie.MeasureT-loop
-μ-loop gates count pairs₀ literals₀ table₀ i₀ pairs literals table i = count - i
+μ-loop gates count pairs₀ literals₀ appended₀ i₀ pairs literals appended i = count - i
 
 loop-holds : tie.Need-loop-holds Inv-loop μ-loop
 loop-holds c = (search needs, search needs, search needs, appends-none _ _ _)

@@ -13,10 +13,10 @@ use Rattle.obligation_gates.proofs.push_literal.Reads as push-literal-r
 use Rattle.obligation_gates.proofs.source_literal.Reads as source-literal-reads
 
 abbrev Inv-loop : tie.InvT-loop
-Inv-loop currents source pairs₀ literals₀ table₀ i₀ pairs literals table i = (length pairs ≡ length pairs₀) × (length literals ≡ length literals₀) × Appends (take i (sources currents source)) table₀ pairs₀ literals₀ table pairs literals
+Inv-loop currents source pairs₀ literals₀ appended₀ i₀ pairs literals appended i = (length pairs ≡ length pairs₀) × (length literals ≡ length literals₀) × Appends (take i (sources currents source)) appended₀ pairs₀ literals₀ appended pairs literals
 
 abbrev μ-loop : tie.MeasureT-loop
-μ-loop currents source pairs₀ literals₀ table₀ i₀ pairs literals table i = length currents - i
+μ-loop currents source pairs₀ literals₀ appended₀ i₀ pairs literals appended i = length currents - i
 
 loop-holds : tie.Need-loop-holds Inv-loop μ-loop
 loop-holds c = (search needs, search needs, appends-none _ _ _)

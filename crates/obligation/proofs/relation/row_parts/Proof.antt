@@ -10,7 +10,7 @@ use Rattle.obligation.proofs.relation.row_parts.Tie as tie
 
 -- what is asked
 abbrev question : tie.Start → Asked
-question s = askedOf (recordFrom (s .args .counts) (s .args .inputs .now) (s .args .latches) (s .args .outputs .now)) (s .args .gates .now) (s .args .relevant .now) (s .args .predicate .now) (s .args .terms .now)
+question s = askedOf (recordFrom (s .args .counts) (s .args .inputs .now) (s .args .latches) (s .args .outputs .now)) (s .args .gates .now) (s .args .relevant .now) (s .args .«predicate_pairs» .now) (s .args .«predicate_literals» .now)
 
 -- the latches are an array
 eight : (s : tie.Start) → Sized (question s .model)
@@ -19,8 +19,8 @@ eight s = record { latches = s .good .1 .1 .0 .1 .0 .1 }
 check-requires : tie.Need-check-requires
 check-requires c κs = tt
 
-claim-requires : tie.Need-claim-requires
-claim-requires c κs = let t = c .before .before in
+check-claims-requires : tie.Need-check-claims-requires
+check-claims-requires c κs = let t = c .before .before in
     let k = t .before .before .before .before in
     let s = k .before .before .before .before .before .before .before .before .before .before .before .before in
     asks (question s) (length (s .args .work .now)) _ _ (k .check .ensures) (t .enum-told .given .1)
@@ -35,7 +35,7 @@ returns-2 c = let m = c .before .before .before .before in
     let t = m .before .before .before in
     let k = t .before .before .before .before in
     let s = k .before .before .before .before .before .before .before .before .before .before .before .before in
-    relation-continues (question s) (eight s) (s .args .pairs .now) (s .args .literals .now) (s .args .work .now) _ _ (k .check .ensures) (t .enum-told .given .1) _ _ _ (s .args .source) (s .args .targets .now) (m .claim .ensures)
+    relation-continues (question s) (eight s) (s .args .pairs .now) (s .args .literals .now) (s .args .work .now) _ _ (k .check .ensures) (t .enum-told .given .1) _ _ _ (s .args .source) (s .args .targets .now) (m .check-claims .ensures)
 
 pub row-parts-spec : {M : Type 1} → statement M
 row-parts-spec =
@@ -44,7 +44,7 @@ row-parts-spec =
     check-requires
     (λ c. search needs)
     (λ c. search needs)
-    claim-requires
+    check-claims-requires
     (λ c. search needs)
     returns
     (λ c. search needs)

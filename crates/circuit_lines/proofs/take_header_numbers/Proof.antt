@@ -1,8 +1,8 @@
 use borrow.Author.Needs.{needs}
 use Rattle.text.proofs.LineLaws.{line-ordered, line-within}
 use Rattle.circuit_lines.proofs.HeaderLaws.{header-missing, header-bad, header-got}
-use Rattle.circuit_lines.proofs.take_header.Statement.{statement}
-use Rattle.circuit_lines.proofs.take_header.Tie as tie
+use Rattle.circuit_lines.proofs.take_header_numbers.Statement.{statement}
+use Rattle.circuit_lines.proofs.take_header_numbers.Tie as tie
 
 returns : tie.Need-returns
 returns c = search header-missing
@@ -22,8 +22,8 @@ returns-2 c = search header-bad
 returns-3 : tie.Need-returns-3
 returns-3 c = search header-got
 
-pub take-header-spec : {M : Type 1} → statement M
-take-header-spec =
+pub take-header-numbers-spec : {M : Type 1} → statement M
+take-header-numbers-spec =
     tie.close
     (tie.spec
     (λ c κs. search needs)

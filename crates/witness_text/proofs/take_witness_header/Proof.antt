@@ -1,7 +1,7 @@
 use borrow.Author.Needs.{needs}
 use Rattle.witness_text.proofs.HeaderLaws.{header-bad, header-few, header-got}
-use Rattle.witness_text.proofs.take_header.Statement.{statement}
-use Rattle.witness_text.proofs.take_header.Tie as tie
+use Rattle.witness_text.proofs.take_witness_header.Statement.{statement}
+use Rattle.witness_text.proofs.take_witness_header.Tie as tie
 
 returns : tie.Need-returns
 returns c = search header-bad
@@ -12,8 +12,8 @@ returns-2 c = search header-few
 returns-3 : tie.Need-returns-3
 returns-3 c = search header-got
 
-pub take-header-spec : {M : Type 1} → statement M
-take-header-spec =
+pub take-witness-header-spec : {M : Type 1} → statement M
+take-witness-header-spec =
     tie.close
     (tie.spec
     (λ c. search needs)

@@ -5,12 +5,12 @@ use Rattle.obligation_spec.specs.Calls.{Asked}
 use Rattle.model.specs.Circuit.{recordFrom}
 use Rattle.model.proofs.ValueLaws.{Sized}
 use borrow.Author.Needs.{needs}
-use Rattle.obligation.proofs.terminal.claim.Statement.{statement}
-use Rattle.obligation.proofs.terminal.claim.Tie as tie
+use Rattle.obligation.proofs.terminal.check_claims.Statement.{statement}
+use Rattle.obligation.proofs.terminal.check_claims.Tie as tie
 
 -- what is asked
 abbrev question : tie.Start → Asked
-question s = askedOf (recordFrom (s .args .counts) (s .args .inputs .now) (s .args .latches) (s .args .outputs .now)) (s .args .gates .now) (s .args .relevant .now) (s .args .predicate .now) (s .args .terms .now)
+question s = askedOf (recordFrom (s .args .counts) (s .args .inputs .now) (s .args .latches) (s .args .outputs .now)) (s .args .gates .now) (s .args .relevant .now) (s .args .«predicate_pairs» .now) (s .args .«predicate_literals» .now)
 
 -- the latches are an array
 eight : (s : tie.Start) → Sized (question s .model)
@@ -47,8 +47,8 @@ returns-3 c = let m = c .before .before .before .before in
     let s = t .before .before .before .before .before .before .before .before .before .before in
     terminal-made (question s) (s .pre) (eight s) (s .args .pairs .now) (s .args .literals .now) (s .args .bad) (s .args .states .now) (t .if1 .left) _ (k .states-claimed .ensures) (u .if2 .left) _ (p .index .ensures) _ _ _ (m .assemble .ensures)
 
-pub claim-spec : {M : Type 1} → statement M
-claim-spec =
+pub check-claims-spec : {M : Type 1} → statement M
+check-claims-spec =
     tie.close
     (tie.spec
     returns

@@ -1,7 +1,7 @@
 use borrow.Author.Needs.{needs}
 use Rattle.model_text.proofs.HeaderLaws.{header-bad, header-got, header-other}
-use Rattle.model_text.proofs.take_header.Statement.{statement}
-use Rattle.model_text.proofs.take_header.Tie as tie
+use Rattle.model_text.proofs.take_model_header.Statement.{statement}
+use Rattle.model_text.proofs.take_model_header.Tie as tie
 
 returns : tie.Need-returns
 returns c = search header-bad
@@ -12,8 +12,8 @@ returns-2 c = search header-got
 returns-3 : tie.Need-returns-3
 returns-3 c = search header-other
 
-pub take-header-spec : {M : Type 1} → statement M
-take-header-spec =
+pub take-model-header-spec : {M : Type 1} → statement M
+take-model-header-spec =
     tie.close
     (tie.spec
     (λ c. search needs)
