@@ -46,7 +46,14 @@ fn print_start(out: &mut [u8], at: usize, counts: Counts) -> usize
     ensures { λ r. ⌜ Prints (now (out .entry)) at (97 ∷ 97 ∷ 103 ∷ fieldsText (counts .variables ∷ counts .inputs ∷ counts .latches ∷ 0 ∷ [])) (now (out .exit)) r ⌝ }
 {
     let fields = text_print::print_bytes(out, at, b"aag");
-    print_four(out, fields, counts.variables, counts.inputs, counts.latches, 0)
+    print_four(
+        out,
+        fields,
+        counts.variables,
+        counts.inputs,
+        counts.latches,
+        0,
+    )
 }
 
 // Prints the line of the header.
@@ -55,7 +62,7 @@ pub fn print_header(out: &mut [u8], at: usize, counts: Counts) -> usize
 {
     let gates = print_start(out, at, counts);
     let last = print_four(out, gates, counts.gates, counts.bads, counts.constraints, 0);
-    text_print::print_bytes(out, last, b" 0\counts")
+    text_print::print_bytes(out, last, b" 0\n")
 }
 
 // Prints the lines of the gates whose keys a table holds; the first gate has the variable `first`.

@@ -21,7 +21,7 @@ returns : tie.Need-returns
 returns c = let p = c .before .before .before .before .before .before in
     let n = p .before .before .before .before .before .before .before .before .before .before in
     let s = p .before .before .before .before .before .before .before .before .before .before .before .before .before .before .before .before .before .before .before in
-    relation-whole (s .args .t1) _ (n .counts-of .ensures) (s .args .gates .now) (s .args .relevant .now) (s .args .«predicate_pairs» .now) (s .args .«predicate_literals» .now) (buffersOf (s .args .pairs .now) (s .args .literals .now) (s .args .work .now)) _ _ (s .args .source) (s .args .targets .now) (p .row-parts .ensures)
+    relation-whole (s .args .t1) _ (n .counts-of .ensures) (s .args .gates .now) (s .args .relevant .now) (s .args .predicate-pairs .now) (s .args .predicate-literals .now) (buffersOf (s .args .pairs .now) (s .args .literals .now) (s .args .work .now)) _ _ (s .args .source) (s .args .targets .now) (p .row-parts .ensures)
 
 pub relation-row-completeness-cnf-spec : {M : Type 1} → statement M
 relation-row-completeness-cnf-spec =

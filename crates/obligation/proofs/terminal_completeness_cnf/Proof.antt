@@ -21,7 +21,7 @@ returns : tie.Need-returns
 returns c = let p = c .before .before .before .before .before .before in
     let n = p .before .before .before .before .before .before .before .before .before .before in
     let s = p .before .before .before .before .before .before .before .before .before .before .before .before .before .before .before .before .before .before .before in
-    terminal-whole (s .args .t1) _ (n .counts-of .ensures) (s .args .gates .now) (s .args .relevant .now) (s .args .«predicate_pairs» .now) (s .args .«predicate_literals» .now) (buffersOf (s .args .pairs .now) (s .args .literals .now) (s .args .work .now)) _ _ (s .args .bad) (s .args .states .now) (p .list-parts .ensures)
+    terminal-whole (s .args .t1) _ (n .counts-of .ensures) (s .args .gates .now) (s .args .relevant .now) (s .args .predicate-pairs .now) (s .args .predicate-literals .now) (buffersOf (s .args .pairs .now) (s .args .literals .now) (s .args .work .now)) _ _ (s .args .bad) (s .args .states .now) (p .list-parts .ensures)
 
 pub terminal-completeness-cnf-spec : {M : Type 1} → statement M
 terminal-completeness-cnf-spec =

@@ -6,7 +6,7 @@ use Rattle.obligation_gates.proofs.push_clauses.Reads as push-clauses-r
 
 returns : tie.Need-returns
 returns c = let s = c .before .before .before .before .before .before .before in
-    clauses-none (s .args .inputs .now) (s .args .relevant .now) (s .args .«predicate_pairs»-pairs .now) (s .args .«predicate_pairs»-words .now) (c .if1 .taken) _ _ _
+    clauses-none (s .args .inputs .now) (s .args .relevant .now) (s .args .predicate-pairs .now) (s .args .predicate-literals .now) (c .if1 .taken) _ _ _
 
 pub append-predicate-spec : {M : Type 1} → statement M
 append-predicate-spec =

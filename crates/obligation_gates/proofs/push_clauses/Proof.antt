@@ -26,7 +26,7 @@ add-end c = let n = c in
     let m = n .before .before in
     let p = m .before .before .before in
     let s = p .before .before .before .before .before .before .before .before .before in
-    let k = clause-inside (s .args .inputs .now) (s .args .relevant .now) (s .args .«predicate_pairs»-pairs .now) (s .args .«predicate_pairs»-words .now) (p .loop .i) _ _ (omega arith) (m .index .ensures) (n .index2 .ensures) (s .pre .0) in
+    let k = clause-inside (s .args .inputs .now) (s .args .relevant .now) (s .args .predicate-pairs .now) (s .args .predicate-literals .now) (p .loop .i) _ _ (omega arith) (m .index .ensures) (n .index2 .ensures) (s .pre .0) in
     search needs
 
 mul-clause : tie.Need-mul-clause Inv-loop μ-loop
@@ -34,7 +34,7 @@ mul-clause c = let n = c in
     let m = n .before .before in
     let p = m .before .before .before in
     let s = p .before .before .before .before .before .before .before .before .before in
-    let k = clause-inside (s .args .inputs .now) (s .args .relevant .now) (s .args .«predicate_pairs»-pairs .now) (s .args .«predicate_pairs»-words .now) (p .loop .i) _ _ (omega arith) (m .index .ensures) (n .index2 .ensures) (s .pre .0) in
+    let k = clause-inside (s .args .inputs .now) (s .args .relevant .now) (s .args .predicate-pairs .now) (s .args .predicate-literals .now) (p .loop .i) _ _ (omega arith) (m .index .ensures) (n .index2 .ensures) (s .pre .0) in
     search needs
 
 part-clause-end : tie.Need-part-clause-end Inv-loop μ-loop
@@ -42,7 +42,7 @@ part-clause-end c = let n = c in
     let m = n .before .before in
     let p = m .before .before .before in
     let s = p .before .before .before .before .before .before .before .before .before in
-    let k = clause-inside (s .args .inputs .now) (s .args .relevant .now) (s .args .«predicate_pairs»-pairs .now) (s .args .«predicate_pairs»-words .now) (p .loop .i) _ _ (omega arith) (m .index .ensures) (n .index2 .ensures) (s .pre .0) in
+    let k = clause-inside (s .args .inputs .now) (s .args .relevant .now) (s .args .predicate-pairs .now) (s .args .predicate-literals .now) (p .loop .i) _ _ (omega arith) (m .index .ensures) (n .index2 .ensures) (s .pre .0) in
     search needs
 
 push-clause-requires : tie.Need-push-clause-requires Inv-loop μ-loop
@@ -50,11 +50,11 @@ push-clause-requires c κs = let n = c .before .before .before .before .before i
     let m = n .before .before in
     let p = m .before .before .before in
     let s = p .before .before .before .before .before .before .before .before .before in (
-      clause-clausal (s .args .inputs .now) (s .args .relevant .now) (s .args .«predicate_pairs»-pairs .now) (s .args .«predicate_pairs»-words .now) (p .loop .i) _ _ (omega arith) (m .index .ensures) (n .index2 .ensures) (s .pre .0),
-      clause-short (s .args .inputs .now) (s .args .relevant .now) (s .args .«predicate_pairs»-pairs .now) (s .args .«predicate_pairs»-words .now) (p .loop .i) _ _ (omega arith) (m .index .ensures) (n .index2 .ensures) (s .pre .0),
+      clause-clausal (s .args .inputs .now) (s .args .relevant .now) (s .args .predicate-pairs .now) (s .args .predicate-literals .now) (p .loop .i) _ _ (omega arith) (m .index .ensures) (n .index2 .ensures) (s .pre .0),
+      clause-short (s .args .inputs .now) (s .args .relevant .now) (s .args .predicate-pairs .now) (s .args .predicate-literals .now) (p .loop .i) _ _ (omega arith) (m .index .ensures) (n .index2 .ensures) (s .pre .0),
       omega (arith, p .loop .inv .0, s .pre .1),
       omega (arith, p .loop .inv .1, s .pre .2),
-      clause-space (s .args .inputs .now) (s .args .relevant .now) (s .args .«predicate_pairs»-pairs .now) (s .args .«predicate_pairs»-words .now) (p .loop .i) _ _ (omega arith) (m .index .ensures) (n .index2 .ensures) _ _ _ _ _ _ (p .loop .inv .4) (s .pre .3),
+      clause-space (s .args .inputs .now) (s .args .relevant .now) (s .args .predicate-pairs .now) (s .args .predicate-literals .now) (p .loop .i) _ _ (omega arith) (m .index .ensures) (n .index2 .ensures) _ _ _ _ _ _ (p .loop .inv .4) (s .pre .3),
     )
 
 loop-again : tie.Need-loop-again Inv-loop μ-loop
@@ -68,13 +68,13 @@ loop-again c = (
       let m = n .before .before in
       let p = m .before .before .before in
       let s = p .before .before .before .before .before .before .before .before .before in
-      clause-next (s .args .inputs .now) (s .args .relevant .now) (s .args .«predicate_pairs»-pairs .now) (s .args .«predicate_pairs»-words .now) (p .loop .i) _ _ (m .before .before .loop-test .taken) (m .index .ensures) (n .index2 .ensures) _ _ _ _ _ _ (p .loop .inv .4) _ _ _ (q .push-clause .ensures),
+      clause-next (s .args .inputs .now) (s .args .relevant .now) (s .args .predicate-pairs .now) (s .args .predicate-literals .now) (p .loop .i) _ _ (m .before .before .loop-test .taken) (m .index .ensures) (n .index2 .ensures) _ _ _ _ _ _ (p .loop .inv .4) _ _ _ (q .push-clause .ensures),
 )
 
 returns : tie.Need-returns Inv-loop μ-loop
 returns c = let l = c .before .loop in
     let s = c .before .before .before .before .before .before .before .before .before .before in
-    clauses-end (s .args .inputs .now) (s .args .relevant .now) (s .args .«predicate_pairs»-pairs .now) (s .args .«predicate_pairs»-words .now) (l .i) _ _ _ _ _ _ (omega arith) (l .inv .4)
+    clauses-end (s .args .inputs .now) (s .args .relevant .now) (s .args .predicate-pairs .now) (s .args .predicate-literals .now) (l .i) _ _ _ _ _ _ (omega arith) (l .inv .4)
 
 pub push-clauses-spec : {M : Type 1} → statement M
 push-clauses-spec =

@@ -16,7 +16,7 @@ use Rattle.obligation.proofs.making.make.Reads as make-reads
 
 -- what is asked
 abbrev question : tie.Start → Asked
-question s = askedOf (recordFrom (s .args .counts) (s .args .inputs .now) (s .args .latches) (s .args .outputs .now)) (s .args .gates .now) (s .args .relevant .now) (s .args .«predicate_pairs» .now) (s .args .«predicate_literals» .now)
+question s = askedOf (recordFrom (s .args .counts) (s .args .inputs .now) (s .args .latches) (s .args .outputs .now)) (s .args .gates .now) (s .args .relevant .now) (s .args .predicate-pairs .now) (s .args .predicate-literals .now)
 
 -- the latches are an array
 sized : (s : tie.Start) → Sized (question s .model)
