@@ -13,7 +13,7 @@ use Rattle.text.specs.declared.Plain.{Plain}
 use Rattle.text.specs.declared.Plain.the-variants as plain
 use Rattle.text.specs.declared.Reader.{Reader}
 use Rattle.text.specs.Lines.{lineAt}
-use Rattle.text.specs.Inner.{ReadsPlain}
+use Rattle.text.specs.Inner.PlainDigits.{ReadsPlain}
 use Rattle.text.proofs.LiteralLaws.{numbersFrom}
 use Rattle.text.proofs.PlainLineLaws.{PlainLine, plain-last, plain-more}
 use Rattle.aiger.specs.declared.Gate.{Gate}
@@ -24,8 +24,8 @@ use Rattle.circuit_lines.specs.declared.ReadGate.{ReadGate}
 use Rattle.circuit_lines.specs.declared.PlainGate.{PlainGate}
 use Rattle.circuit_lines.specs.declared.PlainGate.the-variants as fast
 use Rattle.circuit_lines.specs.SectionLines.{gateNumbers, gateLine}
-use Rattle.circuit_lines.specs.Places.{TakesGate, TakesPlain}
-use Rattle.circuit_lines.specs.Inner.{atMost, Stored, Stores, gateAnswer}
+use Rattle.circuit_lines.specs.Inner.Takes.{TakesGate, TakesPlain}
+use Rattle.circuit_lines.specs.Inner.OneLine.{atMost, Stored, Stores, gateAnswer}
 use Rattle.circuit_lines.proofs.NumbersLaws.{stored-all, stored-length}
 use Rattle.circuit_lines.proofs.PlaceLaws.{one-none, one-bad, one-got}
 use Rattle.text.specs.declared.Line.the-variants as line

@@ -18,8 +18,8 @@ use Rattle.text.proofs.FieldLaws.{fields-none, fields-some}
 use Rattle.text.proofs.LiteralLaws.{numbersFrom}
 use Rattle.circuit_lines.specs.declared.Numbers.{Numbers}
 use Rattle.circuit_lines.specs.SectionLines.{headerNumbers, firstNumbers}
-use Rattle.circuit_lines.specs.Inner.{atMost, Stores}
-use Rattle.circuit_lines.specs.Places.{TakesHeaderNumbers}
+use Rattle.circuit_lines.specs.Inner.OneLine.{atMost, Stores}
+use Rattle.circuit_lines.specs.Inner.Takes.{TakesHeaderNumbers}
 use Rattle.text.specs.declared.Field.the-variants as field
 use Rattle.text.specs.declared.Line.the-variants as line
 use Rattle.circuit_lines.specs.declared.Numbers.the-variants as count

@@ -14,7 +14,7 @@ use Rattle.text.proofs.LiteralLaws.{Gets, Refuses, ended, bad, literal-gets, li
 use Rattle.aiger.specs.Sections.{section}
 use Rattle.aiger.proofs.SectionLaws.{sectionOf, Storing, storing-none, storing-more, storing-bad, storing-all}
 use Rattle.circuit_lines.specs.SectionLines.{literalLine}
-use Rattle.circuit_lines.specs.Places.{linesFrom, Takes}
+use Rattle.circuit_lines.specs.Inner.Takes.{linesFrom, Takes}
 use Rattle.text.specs.declared.Literal.the-variants as literal
 use Rattle.circuit_lines.specs.declared.SectionEnd.the-variants as section-end
 

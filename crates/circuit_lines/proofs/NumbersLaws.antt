@@ -18,7 +18,7 @@ use Rattle.text.specs.Fields.{fieldAt}
 use Rattle.text.specs.Literals.{withNumber, numbersOf, takenAt}
 use Rattle.text.proofs.FieldLaws.{fields-none, fields-some}
 use Rattle.text.proofs.LiteralLaws.{numbersFrom, numbers-missing, numbers-unreadable, numbers-got}
-use Rattle.circuit_lines.specs.Inner.{atMost, Stored, Stores}
+use Rattle.circuit_lines.specs.Inner.OneLine.{atMost, Stored, Stores}
 use Rattle.text.specs.declared.Field.the-variants as field
 use Rattle.text.specs.declared.Taken.the-variants as taken
 use Rattle.circuit_lines.specs.declared.Numbers.the-variants as count

@@ -10,7 +10,7 @@ use Rattle.text.specs.Lines.{lineAt}
 use Rattle.text.proofs.LineLaws.{lines-none, lines-some}
 use Rattle.aiger.specs.Sections.{section}
 use Rattle.aiger.proofs.SectionLaws.{sectionOf}
-use Rattle.circuit_lines.specs.Places.{linesFrom}
+use Rattle.circuit_lines.specs.Inner.Takes.{linesFrom}
 use Rattle.text.specs.declared.Line.the-variants as line
 
 module _ {A : Type 0} (item : Bytes → Answer A) (s : Bytes) (c : Cursor) (r : Line) (q : r ≡ lineAt s (c .at)) where

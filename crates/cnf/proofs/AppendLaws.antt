@@ -14,7 +14,7 @@ use Rattle.lists.proofs.WordLaws.{words-append, words-next}
 use Rattle.cnf.specs.declared.ClauseCounts.{ClauseCounts}
 use Rattle.cnf.specs.Clauses.{Clause, literalsOf, pairsFrom, returned}
 use Rattle.cnf.specs.Simplified.{simplified}
-use Rattle.cnf.specs.Appending.{Room, Stored, Holding, Appends, Space}
+use Rattle.cnf.specs.Inner.Appending.{Room, Stored, Holding, Appends, Space}
 use Rattle.cnf.proofs.ReturnedLaws.{pairs-length, literals-more, pairs-more, returned-back}
 
 -- ---- none, and one after the other

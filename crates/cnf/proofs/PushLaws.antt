@@ -13,7 +13,7 @@ use Rattle.lists.proofs.PartLaws.{put-none, put-one, put-two, put-three}
 use Rattle.cnf.specs.declared.ClauseCounts.{ClauseCounts}
 use Rattle.cnf.specs.Clauses.{Clause}
 use Rattle.cnf.specs.Simplified.{cnfWord, simplified}
-use Rattle.cnf.specs.Appending.{Appends, Pushes, Opens}
+use Rattle.cnf.specs.Inner.Appending.{Appends, Pushes, Opens}
 use Rattle.cnf.proofs.SignLaws.{word-number}
 use Rattle.cnf.proofs.AppendLaws.{counted, appends-full, appends-stored}
 

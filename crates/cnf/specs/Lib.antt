@@ -1,4 +1,4 @@
 -- Item 3 of 01: clauses, assignments, and the simplifier.
 pub mod Clauses
 pub mod Simplified
-pub mod Appending
+pub mod Inner

@@ -20,12 +20,12 @@ use Rattle.witness_read.specs.Reading.{readAag, countsIn}
 use Rattle.witness_read.specs.Sections.{Sections}
 use Rattle.compose_spec.specs.Composing.{orOutputs, safety, isSome}
 use Rattle.compose_spec.specs.Calling.{readAll, textsIn}
-use Rattle.compose_gather.specs.Counts.{countsAt, CountsListed}
-use Rattle.compose_gather.specs.Gathered.{Readable}
+use Rattle.compose_gather.specs.Inner.Counts.{countsAt, CountsListed}
+use Rattle.compose_gather.specs.Inner.Gathered.{Readable}
 use Rattle.compose_gather.proofs.TextLaws.{FirstRead, first-read, none-read, left-more, left-none}
 use Rattle.compose.specs.declared.PartEnd.{PartEnd}
 use Rattle.compose.specs.declared.PartEnd.the-variants as parts
-use Rattle.compose.specs.Steps.{partEnd, firstRoom, allSafe, TestsSafety}
+use Rattle.compose.specs.Inner.Steps.{partEnd, firstRoom, allSafe, TestsSafety}
 
 -- ---- 2
 

@@ -15,20 +15,20 @@ use Rattle.witness_read.specs.Sections.{Sections, variables}
 use Rattle.witness_read.specs.Reading.{countsIn}
 use Rattle.compose_spec.specs.Composing.{mapsRight, compose}
 use Rattle.compose_spec.specs.Calling.{size, sizes, readAll, composeSections, textsIn, composeRead}
-use Rattle.compose_joint.specs.Joint.{totalOf, inputCount, latchCount, gateCount}
+use Rattle.compose_joint.specs.Inner.Joint.{totalOf, inputCount, latchCount, gateCount}
 use Rattle.compose_gather.specs.declared.Totals.{Totals}
 use Rattle.compose_gather.specs.declared.Checked.{Checked}
 use Rattle.compose_gather.specs.declared.Checked.the-variants as checked
-use Rattle.compose_gather.specs.Counts.{CountsListed, ChecksAll}
-use Rattle.compose_gather.specs.Checking.{addedCounts, SmallSums, totalsFrom, checkedFrom, noneYet}
+use Rattle.compose_gather.specs.Inner.Counts.{CountsListed, ChecksAll}
+use Rattle.compose_gather.specs.Inner.Checking.{addedCounts, SmallSums, totalsFrom, checkedFrom, noneYet}
 use Rattle.compose_layout.specs.declared.Layout.{Layout}
 use Rattle.compose_layout.specs.declared.Laid.{Laid}
 use Rattle.compose_layout.specs.declared.Laid.the-variants as laid
-use Rattle.compose_layout.specs.Laid.{Fitting, LaidOut, CanLay, Lays}
+use Rattle.compose_layout.specs.Inner.Laid.{Fitting, LaidOut, CanLay, Lays}
 use Rattle.compose_layout.proofs.StageLaws.{fitting-same}
 use Rattle.compose.specs.declared.Composed.{Composed}
 use Rattle.compose.specs.declared.Composed.the-variants as composed
-use Rattle.compose.specs.Steps.{firstRoom, roomBeside, Answers, ModelIs, ModelSome, ComposesWitnesses, ComposesFitting, LaidRight, LaidSome, ComposesLaid}
+use Rattle.compose.specs.Inner.Steps.{firstRoom, roomBeside, Answers, ModelIs, ModelSome, ComposesWitnesses, ComposesFitting, LaidRight, LaidSome, ComposesLaid}
 use Rattle.compose.proofs.CallLaws.{room-enough}
 
 -- a refusal leaves the result bytes as they are

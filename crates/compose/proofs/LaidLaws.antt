@@ -10,7 +10,7 @@ use lib.ListN.{length, take, drop}
 use Rattle.lists.specs.Answer.{Answer, got, refused, andThen, unless}
 use Rattle.lists.specs.Parts.{Bytes, put, front}
 use Rattle.lists.proofs.PartLaws.{put-front}
-use Rattle.text_print.specs.Prints.{capped, Prints}
+use Rattle.text_print.specs.Inner.Prints.{capped, Prints}
 use Rattle.witness_text.specs.declared.AagCounts.{AagCounts}
 use Rattle.witness_read.specs.Sections.{Sections}
 use Rattle.compose_spec.specs.Composing.{composed, compose}
@@ -19,19 +19,19 @@ use Rattle.compose_spec.specs.Calling.{composeSections, printedWithin}
 use Rattle.compose_joint.proofs.AmountLaws.{leaf-count-most}
 use Rattle.compose_joint.proofs.GateLaws.{composed-gates-most}
 use Rattle.compose_gather.specs.declared.Totals.{Totals}
-use Rattle.compose_gather.specs.Checking.{FewInOrder}
+use Rattle.compose_gather.specs.Inner.Checking.{FewInOrder}
 use Rattle.compose_layout.specs.declared.Layout.{Layout}
-use Rattle.compose_layout.specs.Laid.{Some}
+use Rattle.compose_layout.specs.Inner.Laid.{Some}
 use Rattle.compose_merge.specs.declared.Merged.{Merged}
 use Rattle.compose_merge.specs.declared.Merging.{Merging}
 use Rattle.compose_merge.specs.declared.Merging.the-variants as merging
-use Rattle.compose_merge.specs.Merged.{Mergeable, Done, Outcome, Goes}
+use Rattle.compose_merge.specs.Inner.Merged.{Mergeable, Done, Outcome, Goes}
 use Rattle.compose_merge.proofs.CallLaws.{readable-range, readable-few, ready-merge, ready-can, ready-kept, refused-composes, done-composes}
 use Rattle.compose_lines.proofs.PartLaws.{composed-parts}
-use Rattle.compose_print.specs.Written.{Printable, PrintableSome, PrintsText, fromHeader}
+use Rattle.compose_print.specs.Inner.Written.{Printable, PrintableSome, PrintsText, fromHeader}
 use Rattle.compose.specs.declared.Composed.{Composed}
 use Rattle.compose.specs.declared.Composed.the-variants as composed
-use Rattle.compose.specs.Steps.{Answers, TestsSafety, allSafe, Measures, Writes, LaidRight, LaidSome, ComposesLaid}
+use Rattle.compose.specs.Inner.Steps.{Answers, TestsSafety, allSafe, Measures, Writes, LaidRight, LaidSome, ComposesLaid}
 use Rattle.compose.proofs.ChainLaws.{refuses, answers-same}
 
 module _ (buffer : Bytes) (pairs work : List ℕ) (at : Layout) (c : Merged) (t : Totals) where

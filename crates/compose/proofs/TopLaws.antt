@@ -23,11 +23,11 @@ use Rattle.witness_read.proofs.AcceptedLaws.{read-accepted, read-got, read-refu
 use Rattle.compose_spec.specs.Calling.{readAll, composeTexts, textsIn, composeCall, composeRead}
 use Rattle.compose_spec.specs.Meaning.{Composition}
 use Rattle.compose_spec.proofs.DemandLaws.{composition-means}
-use Rattle.compose_gather.specs.Checking.{FewInOrder}
+use Rattle.compose_gather.specs.Inner.Checking.{FewInOrder}
 use Rattle.compose.specs.declared.Composed.{Composed}
 use Rattle.compose.specs.declared.Composed.the-variants as composed
 use Rattle.compose.specs.Promise.{composedAnswer, resultBytes, Composes}
-use Rattle.compose.specs.Steps.{Answers, ModelIs, ModelSome, ComposesWitnesses}
+use Rattle.compose.specs.Inner.Steps.{Answers, ModelIs, ModelSome, ComposesWitnesses}
 use Rattle.compose.proofs.ChainLaws.{refuses, answers-same}
 
 -- ---- the model

@@ -1,3 +1,3 @@
 -- Item 8 of 01: the composer, and its promise with demand 3.
 pub mod Promise
-pub mod Steps
+pub mod Inner

@@ -13,13 +13,13 @@ use Rattle.lists.proofs.PartLaws.{part-length}
 use Rattle.lists.proofs.WordLaws.{pairs-count}
 use Rattle.aiger.specs.Gates.{variable, gateFrom}
 use Rattle.witness_read.specs.Sections.{NamedLatch}
-use Rattle.witness_load.specs.Loaded.{latchWords}
+use Rattle.witness_load.specs.Inner.Loaded.{latchWords}
 use Rattle.compose_spec.specs.Numbering.{Entry, sameEntry, numbered}
 use Rattle.compose_spec.specs.Sharing.{translate}
 use Rattle.compose_spec.specs.Composing.{Defined, definedFrom, composedLatches}
 use Rattle.compose_spec.proofs.PlacedLaws.{entry-self}
-use Rattle.compose_gates.specs.Linked.{gatesAt, Sharable, sharedIn}
-use Rattle.compose_gates.specs.Latches.{InTurn, metIn, definitionsFrom}
+use Rattle.compose_gates.specs.Inner.Linked.{gatesAt, Sharable, sharedIn}
+use Rattle.compose_gates.specs.Inner.Latches.{InTurn, metIn, definitionsFrom}
 use Rattle.compose_gates.proofs.FirstLaws.{numbers-in-turn, numbers-met}
 use Rattle.compose_gates.proofs.ShareLaws.{shared-low}
 

@@ -21,8 +21,8 @@ use Rattle.witness_read.specs.Sections.{NamedLatch}
 use Rattle.compose_spec.specs.Sharing.{translate}
 use Rattle.compose_spec.specs.Composing.{Defined, definitionOf, sameDefined, agree}
 use Rattle.compose_gates.specs.declared.DefinedLatches.the-variants as answer
-use Rattle.compose_gates.specs.Linked.{Translatable, literalAt}
-use Rattle.compose_gates.specs.Latches.{InTurn, metIn, Slot, SlotIs, samePair, Storable, DefinesLatch, latchFrom, definedAt, definitionsFrom, latchVariables, Definable, definedAnswer, Defines}
+use Rattle.compose_gates.specs.Inner.Linked.{Translatable, literalAt}
+use Rattle.compose_gates.specs.Inner.Latches.{InTurn, metIn, Slot, SlotIs, samePair, Storable, DefinesLatch, latchFrom, definedAt, definitionsFrom, latchVariables, Definable, definedAnswer, Defines}
 use Rattle.compose_gates.proofs.LatchLaws.{defined-length, defined-at, definition-new, same-self, definitions-length, definitions-next, next-at, reset-at}
 
 -- a definition is as the first one of its latch

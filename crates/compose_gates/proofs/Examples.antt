@@ -2,11 +2,11 @@
 use mathlib.Core.List.{[], _∷_}
 use mathlib.Core.Path.{_≡_, refl}
 use Rattle.compose_spec.specs.Sharing.{unordered}
-use Rattle.compose_spec.specs.Keys.{keyOf}
+use Rattle.compose_spec.specs.Inner.Keys.{keyOf}
 use Rattle.compose_gates.specs.declared.SharedGates.the-variants as gates
 use Rattle.compose_gates.specs.declared.DefinedLatches.the-variants as latches
-use Rattle.compose_gates.specs.Linked.{sharedIn, sharedAnswer}
-use Rattle.compose_gates.specs.Latches.{metIn, definedAt, definitionsFrom, definedAnswer}
+use Rattle.compose_gates.specs.Inner.Linked.{sharedIn, sharedAnswer}
+use Rattle.compose_gates.specs.Inner.Latches.{metIn, definedAt, definitionsFrom, definedAnswer}
 
 -- the operands 6 and 4 in either order: 4 + 6 * 2 ^ 32
 pub ordered : keyOf (unordered 6 4) ≡ 25769803780

@@ -9,7 +9,7 @@ use Rattle.lists.specs.Firsts.{place, joined, appearing}
 use Rattle.lists.specs.Tests.{any}
 use Rattle.lists.proofs.BoolLaws.{or-left, or-right}
 use Rattle.lists.proofs.FirstLaws.{place-inside, place-outside, place-begins, appearing-begins, joined-any}
-use Rattle.compose_gates.specs.Latches.{InTurn, metIn}
+use Rattle.compose_gates.specs.Inner.Latches.{InTurn, metIn}
 
 module _ {A : Type 0} (same : A → A → Bool) where
   -- the place of one that is not there, whatever stands behind the list

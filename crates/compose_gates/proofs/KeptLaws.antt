@@ -8,8 +8,8 @@ use lib.Dec.{eqb}
 use lib.ListN.{length, take, drop, set, drop-of-length-le}
 use Rattle.lists.specs.Parts.{part, put, front}
 use Rattle.lists.proofs.PartLaws.{part-length, put-one, put-take, put-drop-end, put-part, put-back}
-use Rattle.key_table.specs.Table.{Finds}
-use Rattle.compose_gates.specs.Linked.{tableEnd, tableIn, Findable, FindsIn}
+use Rattle.key_table.specs.Inner.Table.{Finds}
+use Rattle.compose_gates.specs.Inner.Linked.{tableEnd, tableIn, Findable, FindsIn}
 use Rattle.compose_gates.proofs.FirstLaws.{place-low}
 
 -- one word stored

@@ -14,8 +14,8 @@ use Rattle.lists.proofs.BoolLaws.{to-false, and-left, and-right, and-both}
 use Rattle.lists.proofs.TestLaws.{each-append}
 use Rattle.aiger.specs.Gates.{variable}
 use Rattle.compose_spec.specs.Sharing.{translate, Operands, sameOperands, unordered}
-use Rattle.compose_spec.specs.Keys.{keyOf}
-use Rattle.compose_gates.specs.Linked.{Translatable, keyAt}
+use Rattle.compose_spec.specs.Inner.Keys.{keyOf}
+use Rattle.compose_gates.specs.Inner.Linked.{Translatable, keyAt}
 
 -- ---- translate
 

@@ -13,8 +13,8 @@ use Rattle.lists.proofs.PartLaws.{put-two}
 use Rattle.witness_read.specs.Sections.{NamedLatch}
 use Rattle.compose_spec.specs.Sharing.{translate}
 use Rattle.compose_spec.specs.Composing.{Defined, definedFrom, definitionOf, sameDefined}
-use Rattle.compose_gates.specs.Linked.{literalAt}
-use Rattle.compose_gates.specs.Latches.{samePair, DefinesLatch, definitionsFrom}
+use Rattle.compose_gates.specs.Inner.Linked.{literalAt}
+use Rattle.compose_gates.specs.Inner.Latches.{samePair, DefinesLatch, definitionsFrom}
 
 -- ---- same_pair and define_latch
 

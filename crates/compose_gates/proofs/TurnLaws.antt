@@ -18,13 +18,13 @@ use Rattle.lists.proofs.PartLaws.{part-length, part-at, part-next}
 use Rattle.lists.proofs.TestLaws.{each-append, each-at}
 use Rattle.lists.proofs.WordLaws.{pairs-more, pairs-end}
 use Rattle.aiger.specs.Gates.{variable, gateFrom}
-use Rattle.key_table.specs.Table.{Held}
+use Rattle.key_table.specs.Inner.Table.{Held}
 use Rattle.key_table.proofs.HeldLaws.{held-none, holding}
 use Rattle.compose_spec.specs.Sharing.{translate, Operands, sameOperands, translated, Shared, shareGates}
-use Rattle.compose_spec.specs.Keys.{keyOf}
+use Rattle.compose_spec.specs.Inner.Keys.{keyOf}
 use Rattle.compose_spec.specs.Composing.{gatesFit}
 use Rattle.compose_gates.specs.declared.SharedGates.the-variants as answer
-use Rattle.compose_gates.specs.Linked.{Translatable, TwoLiterals, keyAt, tableEnd, tableIn, Findable, FindsIn, Sharable, sharedIn, sharedAnswer, Linked, Shares}
+use Rattle.compose_gates.specs.Inner.Linked.{Translatable, TwoLiterals, keyAt, tableEnd, tableIn, Findable, FindsIn, Sharable, sharedIn, sharedAnswer, Linked, Shares}
 use Rattle.compose_gates.proofs.FirstLaws.{joined-length}
 use Rattle.compose_gates.proofs.KeyLaws.{Small, unordered-small, literal-small, place-keys, joined-keys, joined-small}
 use Rattle.compose_gates.proofs.KeptLaws.{set-take, set-drop}

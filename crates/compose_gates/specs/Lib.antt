@@ -1,3 +1,2 @@
 -- The gates and latches of all witnesses, linked by composed variables.
-pub mod Linked
-pub mod Latches
+pub mod Inner

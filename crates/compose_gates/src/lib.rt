@@ -3,9 +3,9 @@ ghost use mathlib.Core.Path.{_≡_};
 ghost use Prim.Native.Nat.{_+_, _<_, max};
 ghost use lib.ListN.{length, drop};
 ghost use Rattle.compose_spec.specs.Sharing.{translate, unordered};
-ghost use Rattle.compose_spec.specs.Keys.{keyOf};
-ghost use Rattle.compose_gates.specs.Linked.{Translatable, TwoLiterals, keyAt, Findable, FindsIn, Sharable, Shares};
-ghost use Rattle.compose_gates.specs.Latches.{Slot, SlotIs, samePair, Storable, DefinesLatch, Definable, Defines};
+ghost use Rattle.compose_spec.specs.Inner.Keys.{keyOf};
+ghost use Rattle.compose_gates.specs.Inner.Linked.{Translatable, TwoLiterals, keyAt, Findable, FindsIn, Sharable, Shares};
+ghost use Rattle.compose_gates.specs.Inner.Latches.{Slot, SlotIs, samePair, Storable, DefinesLatch, Definable, Defines};
 use lists::index;
 
 // How many gates the composition has, or reason 17.

@@ -17,13 +17,13 @@ use Rattle.text.specs.Texts.{limited}
 use Rattle.witness_text.specs.declared.AagCounts.{AagCounts}
 use Rattle.witness_read.specs.Sections.{Sections}
 use Rattle.witness_read.specs.Reading.{readAag, countsIn}
-use Rattle.witness_load.specs.Loaded.{literalWords, wordCount, Loaded}
-use Rattle.witness_load.specs.Loading.{Loadable, LoadsText, HasRoom}
+use Rattle.witness_load.specs.Inner.Loaded.{literalWords, wordCount, Loaded}
+use Rattle.witness_load.specs.Inner.Loading.{Loadable, LoadsText, HasRoom}
 use Rattle.witness_load.proofs.TextLaws.{words-counted}
 use Rattle.compose_spec.specs.Calling.{readAll, textsIn}
-use Rattle.compose_joint.specs.Joint.{totalOf}
-use Rattle.compose_gather.specs.Counts.{countsAt, CountsListed}
-use Rattle.compose_gather.specs.Gathered.{wordsFor, LoadableAt, LoadedAt, LoadsAt, Block, Blocks, wordTotal, CanLoad, LoadsAll}
+use Rattle.compose_joint.specs.Inner.Joint.{totalOf}
+use Rattle.compose_gather.specs.Inner.Counts.{countsAt, CountsListed}
+use Rattle.compose_gather.specs.Inner.Gathered.{wordsFor, LoadableAt, LoadedAt, LoadsAt, Block, Blocks, wordTotal, CanLoad, LoadsAll}
 use Rattle.compose_gather.proofs.TextLaws.{FirstRead, Left, left-more, left-none}
 
 -- a total over two lists of witnesses

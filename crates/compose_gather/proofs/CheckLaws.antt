@@ -23,8 +23,8 @@ use Rattle.compose_spec.specs.Calling.{readAll, textsIn}
 use Rattle.compose_gather.specs.declared.Totals.{Totals}
 use Rattle.compose_gather.specs.declared.Checked.{Checked}
 use Rattle.compose_gather.specs.declared.Checked.the-variants as checked
-use Rattle.compose_gather.specs.Checking.{addedCounts, SmallSums, checkedFrom, noneYet, FewInOrder}
-use Rattle.compose_gather.specs.Counts.{CountsOf, countWords, countsAt, CanCheck, checkedOne, ChecksOne, CountsBefore, ChecksAll}
+use Rattle.compose_gather.specs.Inner.Checking.{addedCounts, SmallSums, checkedFrom, noneYet, FewInOrder}
+use Rattle.compose_gather.specs.Inner.Counts.{CountsOf, countWords, countsAt, CanCheck, checkedOne, ChecksOne, CountsBefore, ChecksAll}
 use Rattle.compose_gather.proofs.TextLaws.{texts-left, texts-end}
 use Rattle.compose_gather.proofs.CountLaws.{counts-new, counts-old}
 

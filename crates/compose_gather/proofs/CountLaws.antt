@@ -11,8 +11,8 @@ use Rattle.witness_read.specs.Sections.{Sections}
 use Rattle.witness_read.specs.Reading.{countsIn}
 use Rattle.compose_joint.specs.declared.Leaves.{Leaves}
 use Rattle.compose_joint.specs.declared.Leaves.the-variants as leaf
-use Rattle.compose_gather.specs.Counts.{countWords, countsAt, leafCounts, namesBefore}
-use Rattle.compose_gather.specs.Gathered.{wordsFor, leafCountOf}
+use Rattle.compose_gather.specs.Inner.Counts.{countWords, countsAt, leafCounts, namesBefore}
+use Rattle.compose_gather.specs.Inner.Gathered.{wordsFor, leafCountOf}
 
 -- ---- stored and read
 

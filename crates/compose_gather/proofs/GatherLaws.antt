@@ -14,11 +14,11 @@ use Rattle.lists.proofs.PartLaws.{put-none, put-put, put-length, put-take}
 use Rattle.text.specs.Texts.{limited}
 use Rattle.witness_read.specs.Sections.{Sections}
 use Rattle.witness_read.specs.Reading.{readAag}
-use Rattle.witness_load.specs.Loaded.{wordCount}
+use Rattle.witness_load.specs.Inner.Loaded.{wordCount}
 use Rattle.compose_spec.specs.Calling.{textsIn}
 use Rattle.compose_joint.specs.declared.Before.{Before}
-use Rattle.compose_joint.specs.Joint.{totalOf, inputCount, latchCount, gateCount, nothingBefore, beyond, gatheredFrom, gathered}
-use Rattle.compose_gather.specs.Gathered.{Block, Blocks, wordTotal, Readable, CanGather, Gathers}
+use Rattle.compose_joint.specs.Inner.Joint.{totalOf, inputCount, latchCount, gateCount, nothingBefore, beyond, gatheredFrom, gathered}
+use Rattle.compose_gather.specs.Inner.Gathered.{Block, Blocks, wordTotal, Readable, CanGather, Gathers}
 use Rattle.compose_gather.proofs.TextLaws.{FirstRead, Left, left-more, left-none, texts-left}
 
 -- what stands before a witness and what is left make the totals

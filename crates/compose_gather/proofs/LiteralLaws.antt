@@ -12,13 +12,13 @@ use Rattle.lists.proofs.KeptLaws.{part-within}
 use Rattle.lists.proofs.WordLaws.{words-length}
 use Rattle.witness_read.specs.Sections.{Sections, leaves}
 use Rattle.witness_read.specs.Reading.{countsIn}
-use Rattle.witness_load.specs.Loaded.{latchWords, operandWords, literalWords, wordCount}
+use Rattle.witness_load.specs.Inner.Loaded.{latchWords, operandWords, literalWords, wordCount}
 use Rattle.compose_spec.specs.Composing.{orOutputs, safety}
 use Rattle.compose_joint.specs.declared.Literals.{Literals}
 use Rattle.compose_joint.specs.declared.Literals.the-variants as literals
-use Rattle.compose_joint.specs.Joint.{inputCount, latchCount, listOf}
+use Rattle.compose_joint.specs.Inner.Joint.{inputCount, latchCount, listOf}
 use Rattle.compose_gather.specs.declared.Range.{Range}
-use Rattle.compose_gather.specs.Gathered.{Block, rangeOf}
+use Rattle.compose_gather.specs.Inner.Gathered.{Block, rangeOf}
 
 -- ---- a list among the words of a text
 

@@ -12,9 +12,9 @@ use Rattle.compose_joint.specs.declared.Before.{Before}
 use Rattle.compose_joint.specs.declared.Shift.{Shift}
 use Rattle.compose_joint.specs.declared.Literals.{Literals}
 use Rattle.compose_joint.specs.declared.Literals.the-variants as literals
-use Rattle.compose_joint.specs.Joint.{shifted, shiftedLiteral}
+use Rattle.compose_joint.specs.Inner.Joint.{shifted, shiftedLiteral}
 use Rattle.compose_gather.specs.declared.Range.{Range}
-use Rattle.compose_gather.specs.Gathered.{rangeOf, Shiftable, CanShift, SmallWord, shiftFor, CanShiftList, ShiftsRange}
+use Rattle.compose_gather.specs.Inner.Gathered.{rangeOf, Shiftable, CanShift, SmallWord, shiftFor, CanShiftList, ShiftsRange}
 
 -- ---- one variable
 

@@ -19,17 +19,17 @@ use Rattle.aiger.specs.declared.Gate.{Gate}
 use Rattle.witness_text.specs.declared.AagCounts.{AagCounts}
 use Rattle.witness_read.specs.Sections.{NamedLatch, Sections, leaves, variables}
 use Rattle.witness_read.specs.Reading.{countsIn}
-use Rattle.witness_load.specs.Loaded.{latchWords, operandWords, wordCount}
+use Rattle.witness_load.specs.Inner.Loaded.{latchWords, operandWords, wordCount}
 use Rattle.compose_spec.specs.Composing.{orOutputs}
 use Rattle.compose_spec.specs.Calling.{readAll, textsIn}
-use Rattle.compose_spec.specs.Ranges.{Within, LatchWithin, InRange, GatesFrom}
+use Rattle.compose_spec.specs.Inner.Ranges.{Within, LatchWithin, InRange, GatesFrom}
 use Rattle.compose_spec.proofs.RangeLaws.{read-range}
 use Rattle.compose_joint.specs.declared.Before.{Before}
 use Rattle.compose_joint.specs.declared.Literals.{Literals}
 use Rattle.compose_joint.specs.declared.Literals.the-variants as literals
-use Rattle.compose_joint.specs.Joint.{totalOf, inputCount, latchCount, gateCount, shiftOf, shiftedLiteral, jointLiterals, listOf, beyond}
-use Rattle.compose_gather.specs.Counts.{countsAt, CountsListed}
-use Rattle.compose_gather.specs.Gathered.{wordsFor, RightTotals, rangeOf, literalCount, shiftFor, beyondCounts, SmallBefore, CanShiftList, ShiftsRange}
+use Rattle.compose_joint.specs.Inner.Joint.{totalOf, inputCount, latchCount, gateCount, shiftOf, shiftedLiteral, jointLiterals, listOf, beyond}
+use Rattle.compose_gather.specs.Inner.Counts.{countsAt, CountsListed}
+use Rattle.compose_gather.specs.Inner.Gathered.{wordsFor, RightTotals, rangeOf, literalCount, shiftFor, beyondCounts, SmallBefore, CanShiftList, ShiftsRange}
 use Rattle.compose_gather.proofs.TextLaws.{first-read, none-read}
 use Rattle.compose_gather.proofs.CheckLaws.{read-counted}
 use Rattle.compose_gather.proofs.BlockLaws.{words-for}

@@ -7,9 +7,9 @@ ghost use lib.ListN.{length, getD};
 ghost use Rattle.lists.specs.Parts.{part};
 ghost use Rattle.lists.specs.Words.{inOrder};
 ghost use Rattle.compose_spec.specs.Calling.{textsIn};
-ghost use Rattle.compose_gather.specs.Checking.{addedCounts, SmallSums, FewInOrder};
-ghost use Rattle.compose_gather.specs.Counts.{CanCheck, ChecksOne, CountsListed, ChecksAll};
-ghost use Rattle.compose_gather.specs.Gathered.{wordsFor, LoadableAt, LoadsAt, CanLoad, LoadsAll};
+ghost use Rattle.compose_gather.specs.Inner.Checking.{addedCounts, SmallSums, FewInOrder};
+ghost use Rattle.compose_gather.specs.Inner.Counts.{CanCheck, ChecksOne, CountsListed, ChecksAll};
+ghost use Rattle.compose_gather.specs.Inner.Gathered.{wordsFor, LoadableAt, LoadsAt, CanLoad, LoadsAll};
 
 pub mod counts;
 pub mod literals;

@@ -16,11 +16,11 @@ use Rattle.lists.proofs.WordLaws.{words-length, each-words}
 use Rattle.aiger.specs.declared.Gate.{Gate}
 use Rattle.aiger.specs.Gates.{variable}
 use Rattle.witness_read.specs.Sections.{Sections, leaves, variables, latchNames}
-use Rattle.witness_load.specs.Loaded.{latchWords, operandWords}
+use Rattle.witness_load.specs.Inner.Loaded.{latchWords, operandWords}
 use Rattle.compose_spec.specs.declared.ModelLeaves.{ModelLeaves}
 use Rattle.compose_spec.specs.Mapping.{mapsByName}
 use Rattle.compose_spec.specs.Numbering.{Entry, sameEntry, inputsIn, latchesIn, inputEntries, latchEntries, inputFirsts, latchFirsts, numbered, leafCount}
-use Rattle.compose_spec.specs.Ranges.{Within, LatchWithin, InRange, GatesFrom}
+use Rattle.compose_spec.specs.Inner.Ranges.{Within, LatchWithin, InRange, GatesFrom}
 use Rattle.compose_spec.proofs.PlacedLaws.{entry-self, inputs-in-length, latches-in-length}
 use Rattle.compose_spec.proofs.KeepLaws.{safety-within}
 use Rattle.compose_joint.specs.declared.Before.{Before}
@@ -28,8 +28,8 @@ use Rattle.compose_joint.specs.declared.Literals.{Literals}
 use Rattle.compose_joint.specs.declared.Literals.the-variants as literals
 use Rattle.compose_joint.specs.declared.Leaves.{Leaves}
 use Rattle.compose_joint.specs.declared.Leaves.the-variants as leaf
-use Rattle.compose_joint.specs.Joint.{totalOf, inputCount, latchCount, gateCount, shifted, shiftedLiteral, nothingBefore, beyond, shiftOf, gatheredFrom, jointLiterals, joint, listOf, namesOf, modelOf, jointOrigins, originsFrom, origins}
-use Rattle.compose_joint.specs.Numbers.{leafVars}
+use Rattle.compose_joint.specs.Inner.Joint.{totalOf, inputCount, latchCount, gateCount, shifted, shiftedLiteral, nothingBefore, beyond, shiftOf, gatheredFrom, jointLiterals, joint, listOf, namesOf, modelOf, jointOrigins, originsFrom, origins}
+use Rattle.compose_joint.specs.Inner.Numbers.{leafVars}
 use Rattle.compose_joint.proofs.ShiftLaws.{Room, shifted-below}
 
 -- ---- lengths

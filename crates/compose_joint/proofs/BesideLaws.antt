@@ -8,9 +8,9 @@ use Rattle.lists.specs.Firsts.{place, joined}
 use Rattle.aiger.specs.declared.Gate.{Gate}
 use Rattle.aiger.specs.Gates.{gateFrom}
 use Rattle.compose_spec.specs.Sharing.{Operands, sameOperands, unordered, translated, Shared, shareGates}
-use Rattle.compose_spec.specs.Ranges.{GateAt, GatesFrom}
+use Rattle.compose_spec.specs.Inner.Ranges.{GateAt, GatesFrom}
 use Rattle.compose_joint.specs.declared.Shift.{Shift}
-use Rattle.compose_joint.specs.Joint.{shiftedLiteral}
+use Rattle.compose_joint.specs.Inner.Joint.{shiftedLiteral}
 use Rattle.compose_joint.proofs.ShiftLaws.{Keeps, shifted-translated, keeps-snoc}
 
 -- a gate with shifted operands

@@ -19,7 +19,7 @@ use Rattle.compose_spec.specs.declared.Mapping.the-variants as mapping
 use Rattle.compose_spec.specs.Mapping.{mapsByName, mappingOf}
 use Rattle.compose_spec.specs.Numbering.{Key, shared, alone, sameKey, Entry, sameEntry, privateName, entryOf, entriesFrom}
 use Rattle.compose_joint.specs.declared.Leaves.{Leaves}
-use Rattle.compose_joint.specs.Joint.{namesOf, modelOf, unnamedOf, entriesOf}
+use Rattle.compose_joint.specs.Inner.Joint.{namesOf, modelOf, unnamedOf, entriesOf}
 use Rattle.compose_joint.proofs.OriginLaws.{entriesIn, entries-none, entries-split}
 
 -- a private key of an earlier witness, or of witness w with a number below k; or a shared one

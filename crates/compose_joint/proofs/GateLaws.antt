@@ -11,17 +11,17 @@ use Rattle.lists.proofs.WordLaws.{pairs-append, pairs-at, pairs-count, words-le
 use Rattle.aiger.specs.declared.Gate.{Gate}
 use Rattle.aiger.specs.Gates.{variable, gateFrom}
 use Rattle.witness_read.specs.Sections.{Sections, leaves}
-use Rattle.witness_load.specs.Loaded.{operandWords}
+use Rattle.witness_load.specs.Inner.Loaded.{operandWords}
 use Rattle.compose_spec.specs.Numbering.{Entry, inputEntries, latchEntries, inputFirsts, latchFirsts, numbered, leafCount}
 use Rattle.compose_spec.specs.Sharing.{sameOperands, translated, Shared, shareGates}
 use Rattle.compose_spec.specs.Composing.{composedGates}
-use Rattle.compose_spec.specs.Ranges.{InRange, GatesFrom}
+use Rattle.compose_spec.specs.Inner.Ranges.{InRange, GatesFrom}
 use Rattle.compose_spec.proofs.ShareLaws.{Low, Sound, sound-shared, shared-goes}
 use Rattle.compose_joint.specs.declared.Shift.{Shift}
 use Rattle.compose_joint.specs.declared.Before.{Before}
 use Rattle.compose_joint.specs.declared.Literals.the-variants as literals
-use Rattle.compose_joint.specs.Joint.{totalOf, inputCount, latchCount, gateCount, shiftedLiteral, nothingBefore, beyond, shiftOf, gatheredFrom, jointLiterals, joint, listOf}
-use Rattle.compose_joint.specs.Numbers.{leafVars, jointGates, jointShared}
+use Rattle.compose_joint.specs.Inner.Joint.{totalOf, inputCount, latchCount, gateCount, shiftedLiteral, nothingBefore, beyond, shiftOf, gatheredFrom, jointLiterals, joint, listOf}
+use Rattle.compose_joint.specs.Inner.Numbers.{leafVars, jointGates, jointShared}
 use Rattle.compose_joint.proofs.ShiftLaws.{Room, shifted-variable, shifted-below}
 use Rattle.compose_joint.proofs.AmountLaws.{joint-operands-length, input-entries-length, latch-entries-length, leaf-vars-length, leaf-vars-most, Amounts, amounts-all, amounts-room, amounts-next}
 use Rattle.compose_joint.proofs.BesideLaws.{shiftedGate}

@@ -22,8 +22,8 @@ use Rattle.compose_spec.proofs.PlacedLaws.{entry-self, entry-alike}
 use Rattle.compose_spec.proofs.WholeLaws.{Both}
 use Rattle.compose_joint.specs.declared.Leaves.{Leaves}
 use Rattle.compose_joint.specs.declared.Leaves.the-variants as leaf
-use Rattle.compose_joint.specs.Joint.{modelOf, origins, entriesOf}
-use Rattle.compose_joint.specs.Numbers.{Numbers, withNumber, slot, numberAll}
+use Rattle.compose_joint.specs.Inner.Joint.{modelOf, origins, entriesOf}
+use Rattle.compose_joint.specs.Inner.Numbers.{Numbers, withNumber, slot, numberAll}
 use Rattle.compose_joint.proofs.RiseLaws.{place-joined, place-first}
 use Rattle.compose_joint.proofs.OriginLaws.{OfKind, Says, origins-say}
 use Rattle.compose_joint.proofs.FreshLaws.{New, Fresh, entries-fresh}

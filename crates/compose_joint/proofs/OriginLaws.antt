@@ -28,8 +28,8 @@ use Rattle.compose_spec.proofs.WholeLaws.{Both}
 use Rattle.compose_joint.specs.declared.Before.{Before}
 use Rattle.compose_joint.specs.declared.Leaves.{Leaves}
 use Rattle.compose_joint.specs.declared.Leaves.the-variants as leaf
-use Rattle.compose_joint.specs.Joint.{beyond, nothingBefore, gatheredFrom, namesOf, modelOf, originWord, originsFrom, jointOrigins, origins, unnamedOf, entriesOf}
-use Rattle.compose_joint.specs.Numbers.{slot}
+use Rattle.compose_joint.specs.Inner.Joint.{beyond, nothingBefore, gatheredFrom, namesOf, modelOf, originWord, originsFrom, jointOrigins, origins, unnamedOf, entriesOf}
+use Rattle.compose_joint.specs.Inner.Numbers.{slot}
 
 -- ---- the entries of a kind
 

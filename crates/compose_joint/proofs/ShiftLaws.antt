@@ -14,7 +14,7 @@ use Rattle.witness_read.specs.Sections.{Sections, leaves}
 use Rattle.compose_spec.specs.Sharing.{translate}
 use Rattle.compose_joint.specs.declared.Shift.{Shift}
 use Rattle.compose_joint.specs.declared.Before.{Before}
-use Rattle.compose_joint.specs.Joint.{inputCount, latchCount, shifted, shiftedLiteral, shiftOf}
+use Rattle.compose_joint.specs.Inner.Joint.{inputCount, latchCount, shifted, shiftedLiteral, shiftOf}
 
 -- a shifted variable is 0, or that of an input, of a latch, or of a gate
 pub shift-cases : (P : ℕ → Type 0) (h : Shift) (x : ℕ) → (x ≡ 0 → P 0) → (0 < x → x ≤ h .inputs → P (x + h .«by_input»))

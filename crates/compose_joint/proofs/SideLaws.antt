@@ -11,12 +11,12 @@ use Rattle.aiger.specs.declared.Gate.{Gate}
 use Rattle.witness_read.specs.Sections.{Sections, leaves, variables}
 use Rattle.compose_spec.specs.Numbering.{Entry, inputsIn, latchesIn, inputEntries, latchEntries, numbered, Placed, placedFrom}
 use Rattle.compose_spec.specs.Sharing.{Operands, Shared, shareGates, shareWitness, gatesAfter, wholeAfter}
-use Rattle.compose_spec.specs.Ranges.{InRange}
+use Rattle.compose_spec.specs.Inner.Ranges.{InRange}
 use Rattle.compose_spec.proofs.PlacedLaws.{inputs-in-length, latches-in-length}
 use Rattle.compose_spec.proofs.ShareLaws.{shared-goes}
 use Rattle.compose_joint.specs.declared.Shift.{Shift}
 use Rattle.compose_joint.specs.declared.Before.{Before}
-use Rattle.compose_joint.specs.Joint.{inputCount, latchCount, beyond, shiftOf}
+use Rattle.compose_joint.specs.Inner.Joint.{inputCount, latchCount, beyond, shiftOf}
 use Rattle.compose_joint.proofs.ShiftLaws.{Keeps, keeps-begins, StandsAt, stands-long, leaves-kept}
 use Rattle.compose_joint.proofs.BesideLaws.{shiftedGate, shared-append, Beside, beside-shared}
 

@@ -13,19 +13,19 @@ use Rattle.lists.proofs.MapLaws.{each-maps}
 use Rattle.lists.proofs.TestLaws.{each-so}
 use Rattle.lists.proofs.WordLaws.{words-length}
 use Rattle.witness_read.specs.Sections.{NamedLatch, Sections, variables}
-use Rattle.witness_load.specs.Loaded.{latchWords}
+use Rattle.witness_load.specs.Inner.Loaded.{latchWords}
 use Rattle.compose_spec.specs.Numbering.{Entry, inputsIn, latchesIn, latchEntries, inputFirsts, latchFirsts, numbered, Placed, placedFrom, placed, leafCount}
 use Rattle.compose_spec.specs.Sharing.{Operands, translate, shareWitness, wholeAfter}
 use Rattle.compose_spec.specs.Composing.{whole, Defined, definedFrom, definedIn, allDefined, safety, literalsOf}
-use Rattle.compose_spec.specs.Ranges.{Within, InRange}
+use Rattle.compose_spec.specs.Inner.Ranges.{Within, InRange}
 use Rattle.compose_spec.proofs.PlacedLaws.{inputs-in-length, latches-in-length, placed-everyone}
 use Rattle.compose_spec.proofs.ShareLaws.{shared-goes}
 use Rattle.compose_joint.specs.declared.Shift.{Shift}
 use Rattle.compose_joint.specs.declared.Before.{Before}
 use Rattle.compose_joint.specs.declared.Literals.{Literals}
 use Rattle.compose_joint.specs.declared.Literals.the-variants as literals
-use Rattle.compose_joint.specs.Joint.{totalOf, inputCount, latchCount, shiftedLiteral, nothingBefore, beyond, shiftOf, gatheredFrom, jointLiterals, joint, listOf}
-use Rattle.compose_joint.specs.Numbers.{jointShared}
+use Rattle.compose_joint.specs.Inner.Joint.{totalOf, inputCount, latchCount, shiftedLiteral, nothingBefore, beyond, shiftOf, gatheredFrom, jointLiterals, joint, listOf}
+use Rattle.compose_joint.specs.Inner.Numbers.{jointShared}
 use Rattle.compose_joint.proofs.ShiftLaws.{shifted-translated}
 use Rattle.compose_joint.proofs.AmountLaws.{lists-within}
 use Rattle.compose_joint.proofs.SideLaws.{Kept, AllKept}

@@ -1,3 +1,2 @@
 -- All witnesses side by side, as one circuit.
-pub mod Joint
-pub mod Numbers
+pub mod Inner

@@ -7,7 +7,7 @@ use lib.ListN.{length, take}
 use Rattle.lists.specs.Parts.{put}
 use Rattle.lists.proofs.KeptLaws.{part-kept}
 use Rattle.lists.proofs.PartLaws.{put-part, put-length}
-use Rattle.compose_layout.specs.Laid.{Has, Known, knownLength, Standing}
+use Rattle.compose_layout.specs.Inner.Laid.{Has, Known, knownLength, Standing}
 
 module _ (work : List ℕ) (to : ℕ) (ys : List ℕ) (fits : to + length ys ≤ length work) where
   -- what was put stands there

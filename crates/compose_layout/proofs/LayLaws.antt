@@ -12,18 +12,18 @@ use Rattle.witness_read.specs.Reading.{countsIn}
 use Rattle.compose_spec.specs.Calling.{size, sizes}
 use Rattle.compose_joint.specs.declared.Leaves.the-variants as leaf
 use Rattle.compose_joint.specs.declared.Literals.the-variants as literals
-use Rattle.compose_joint.specs.Joint.{totalOf, inputCount, latchCount, gateCount, origins}
+use Rattle.compose_joint.specs.Inner.Joint.{totalOf, inputCount, latchCount, gateCount, origins}
 use Rattle.compose_joint.proofs.AmountLaws.{origins-length, input-origins-length, latch-origins-length}
 use Rattle.compose_gather.specs.declared.Totals.{Totals}
-use Rattle.compose_gather.specs.Gathered.{wordTotal, LoadsAll, CanLoad, leafCountOf}
+use Rattle.compose_gather.specs.Inner.Gathered.{wordTotal, LoadsAll, CanLoad, leafCountOf}
 use Rattle.compose_origins.specs.declared.Origins.{Origins}
 use Rattle.compose_origins.specs.declared.Origins.the-variants as origin
-use Rattle.compose_origins.specs.Mapped.{CanMapAll, MapsAll}
+use Rattle.compose_origins.specs.Inner.Mapped.{CanMapAll, MapsAll}
 use Rattle.compose_layout.specs.declared.Layout.{Layout}
 use Rattle.compose_layout.specs.declared.Lists.{Lists}
 use Rattle.compose_layout.specs.declared.Laid.{Laid}
 use Rattle.compose_layout.specs.declared.Laid.the-variants as laid
-use Rattle.compose_layout.specs.Laid.{Fitting, Ready, LaidOut, CanLay, Lays, knownLength, Stage, Staged, Goes, GoesRight, LaidRight, rightLeaves, nothing, withConstraints, withInputs, PlacesFit, placesOf}
+use Rattle.compose_layout.specs.Inner.Laid.{Fitting, Ready, LaidOut, CanLay, Lays, knownLength, Stage, Staged, Goes, GoesRight, LaidRight, rightLeaves, nothing, withConstraints, withInputs, PlacesFit, placesOf}
 use Rattle.compose_layout.proofs.RoomLaws.{amounts}
 use Rattle.compose_layout.proofs.StageLaws.{literals-long, fitting-same}
 use Rattle.compose_layout.proofs.ReadyLaws.{stage-ready}

@@ -17,14 +17,14 @@ use Rattle.compose_spec.specs.Composing.{leavesRight, mapsRight}
 use Rattle.compose_spec.specs.Calling.{sizes}
 use Rattle.compose_joint.specs.declared.Leaves.{Leaves}
 use Rattle.compose_joint.specs.declared.Leaves.the-variants as leaf
-use Rattle.compose_joint.specs.Joint.{totalOf, namesOf, modelOf, origins}
+use Rattle.compose_joint.specs.Inner.Joint.{totalOf, namesOf, modelOf, origins}
 use Rattle.compose_joint.proofs.AmountLaws.{origins-length}
 use Rattle.compose_gather.specs.declared.Totals.{Totals}
-use Rattle.compose_gather.specs.Gathered.{leafCountOf}
+use Rattle.compose_gather.specs.Inner.Gathered.{leafCountOf}
 use Rattle.compose_origins.specs.declared.Origins.{Origins}
 use Rattle.compose_origins.specs.declared.Origins.the-variants as origin
-use Rattle.compose_origins.specs.Mapped.{CanMapAll, AllOrigins, MapsAll}
-use Rattle.compose_layout.specs.Laid.{Known, knownLength, Stage, Staged, rightLeaves}
+use Rattle.compose_origins.specs.Inner.Mapped.{CanMapAll, AllOrigins, MapsAll}
+use Rattle.compose_layout.specs.Inner.Laid.{Known, knownLength, Stage, Staged, rightLeaves}
 use Rattle.compose_layout.proofs.RoomLaws.{amounts}
 use Rattle.compose_layout.proofs.StageLaws.{stage-behind, stage-more}
 

@@ -9,11 +9,11 @@ use Rattle.witness_text.specs.declared.AagCounts.{AagCounts}
 use Rattle.witness_read.specs.Sections.{Sections}
 use Rattle.compose_joint.specs.declared.Leaves.the-variants as leaf
 use Rattle.compose_joint.specs.declared.Literals.the-variants as literals
-use Rattle.compose_joint.specs.Joint.{totalOf, inputCount, latchCount, gateCount, joint, listOf, origins}
+use Rattle.compose_joint.specs.Inner.Joint.{totalOf, inputCount, latchCount, gateCount, joint, listOf, origins}
 use Rattle.compose_joint.proofs.AmountLaws.{input-origins-length, latch-origins-length}
 use Rattle.compose_gather.specs.declared.Totals.{Totals}
 use Rattle.compose_layout.specs.declared.Lists.{Lists}
-use Rattle.compose_layout.specs.Laid.{Has, Regions, Listed, Ready, Stage, withInputs, PlacesFit, placesOf}
+use Rattle.compose_layout.specs.Inner.Laid.{Has, Regions, Listed, Ready, Stage, withInputs, PlacesFit, placesOf}
 use Rattle.compose_layout.proofs.RoomLaws.{amounts}
 use Rattle.compose_layout.proofs.StageLaws.{literals-long}
 

@@ -6,12 +6,12 @@ use native.Mathlib.Omega.{arith}
 use lib.ListN.{length}
 use Rattle.lists.proofs.WordLaws.{words-length}
 use Rattle.witness_read.specs.Sections.{Sections}
-use Rattle.witness_load.specs.Loaded.{latchWords, operandWords}
+use Rattle.witness_load.specs.Inner.Loaded.{latchWords, operandWords}
 use Rattle.compose_spec.specs.Composing.{orOutputs}
 use Rattle.compose_spec.specs.Calling.{sizes}
 use Rattle.compose_joint.specs.declared.Literals.the-variants as literals
-use Rattle.compose_joint.specs.Joint.{totalOf, inputCount, latchCount, gateCount}
-use Rattle.compose_gather.specs.Gathered.{wordTotal, literalCount}
+use Rattle.compose_joint.specs.Inner.Joint.{totalOf, inputCount, latchCount, gateCount}
+use Rattle.compose_gather.specs.Inner.Gathered.{wordTotal, literalCount}
 use Rattle.compose_gather.proofs.BlockLaws.{words-for}
 
 abbrev outputCount : Sections → ℕ

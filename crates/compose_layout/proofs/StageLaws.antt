@@ -12,13 +12,13 @@ use Rattle.witness_read.specs.Sections.{Sections}
 use Rattle.compose_spec.specs.Calling.{sizes, textsIn}
 use Rattle.compose_joint.specs.declared.Literals.{Literals}
 use Rattle.compose_joint.specs.declared.Literals.the-variants as literals
-use Rattle.compose_joint.specs.Joint.{totalOf, inputCount, latchCount, jointLiterals, gathered, joint, listOf}
+use Rattle.compose_joint.specs.Inner.Joint.{totalOf, inputCount, latchCount, jointLiterals, gathered, joint, listOf}
 use Rattle.compose_joint.proofs.AmountLaws.{joint-length}
 use Rattle.compose_gather.specs.declared.Totals.{Totals}
-use Rattle.compose_gather.specs.Gathered.{wordTotal, Readable, CanGather, Gathers, literalCount}
+use Rattle.compose_gather.specs.Inner.Gathered.{wordTotal, Readable, CanGather, Gathers, literalCount}
 use Rattle.compose_gather.proofs.BlockLaws.{blocks-same}
 use Rattle.compose_layout.specs.declared.Laid.{Laid}
-use Rattle.compose_layout.specs.Laid.{Has, Known, knownLength, Stage, Staged, Goes, literalsAt, nothing, withLatches, withOperands, withSafety, Fitting}
+use Rattle.compose_layout.specs.Inner.Laid.{Has, Known, knownLength, Stage, Staged, Goes, literalsAt, nothing, withLatches, withOperands, withSafety, Fitting}
 use Rattle.compose_layout.proofs.HasLaws.{has-put, standing-more, known-more}
 use Rattle.compose_layout.proofs.RoomLaws.{amounts}
 

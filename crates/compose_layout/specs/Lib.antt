@@ -1,2 +1,2 @@
 -- All that the composer reads of the witnesses, laid out in the work words.
-pub mod Laid
+pub mod Inner

@@ -1,8 +1,8 @@
 // All that the composer reads of the witnesses, laid out in the work words.
 ghost use mathlib.Core.Path.{_≡_};
 ghost use Rattle.compose_joint.specs.declared.Leaves.the-variants as leaf;
-ghost use Rattle.compose_gather.specs.Counts.{CountsListed};
-ghost use Rattle.compose_layout.specs.Laid.{CanLay, Lays, Staged, Goes, GoesRight, nothing, withLatches, withOperands, withSafety, withConstraints, withInputs, PlacesFit, placesOf};
+ghost use Rattle.compose_gather.specs.Inner.Counts.{CountsListed};
+ghost use Rattle.compose_layout.specs.Inner.Laid.{CanLay, Lays, Staged, Goes, GoesRight, nothing, withLatches, withOperands, withSafety, withConstraints, withInputs, PlacesFit, placesOf};
 use compose_gather::Totals;
 use compose_joint::Leaves;
 use compose_joint::Literals;

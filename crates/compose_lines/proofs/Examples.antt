@@ -3,8 +3,8 @@ use mathlib.Core.List.{[], _∷_}
 use mathlib.Core.Path.{_≡_, refl}
 use Rattle.lists.specs.Quoted.{bytes}
 use Rattle.text_decimal.specs.Decimal.{decimal}
-use Rattle.compose_spec.specs.Keys.{keyOf}
-use Rattle.compose_lines.specs.Header.{headerOf}
+use Rattle.compose_spec.specs.Inner.Keys.{keyOf}
+use Rattle.compose_lines.specs.Inner.Header.{headerOf}
 
 -- `aag 3 1 1 0 1 2 0 0 0`
 pub a-header :

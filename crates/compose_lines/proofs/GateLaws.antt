@@ -8,13 +8,13 @@ use lib.ListN.{length, getD, length-map}
 use Rattle.lists.specs.Parts.{Bytes}
 use Rattle.lists.specs.Tests.{Each}
 use Rattle.text_decimal.specs.Printed.{numberLine, textOf}
-use Rattle.text_print.specs.Prints.{Prints}
+use Rattle.text_print.specs.Inner.Prints.{Prints}
 use Rattle.text_print.proofs.PrintsLaws.{Word, Printing, printing-none, printing-more, printing-done}
 use Rattle.compose_spec.specs.Sharing.{Operands, gatesFrom}
-use Rattle.compose_spec.specs.Keys.{keyOf}
+use Rattle.compose_spec.specs.Inner.Keys.{keyOf}
 use Rattle.compose_spec.specs.Printing.{gateLines}
 use Rattle.compose_names.proofs.PieceLaws.{prints-as}
-use Rattle.compose_lines.specs.GateText.{Narrow, CanPrintGates, PrintsGates}
+use Rattle.compose_lines.specs.Inner.GateText.{Narrow, CanPrintGates, PrintsGates}
 
 -- key k of the words
 abbrev pub keyAt : List ℕ → ℕ → ℕ → ℕ

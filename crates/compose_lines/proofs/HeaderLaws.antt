@@ -9,13 +9,13 @@ use Rattle.lists.specs.Parts.{Bytes}
 use Rattle.text.specs.Fields.{aag}
 use Rattle.text_decimal.specs.Decimal.{decimal}
 use Rattle.text_decimal.specs.Printed.{spaced}
-use Rattle.text_print.specs.Prints.{Prints}
+use Rattle.text_print.specs.Inner.Prints.{Prints}
 use Rattle.text_print.proofs.PrintsLaws.{Word, prints-then}
 use Rattle.witness_read.specs.Sections.{Sections}
 use Rattle.compose_spec.specs.Printing.{headerLine}
 use Rattle.compose_names.proofs.PieceLaws.{prints-as}
 use Rattle.compose_lines.specs.declared.Counts.{Counts}
-use Rattle.compose_lines.specs.Header.{fieldsText, headerOf, countsOf}
+use Rattle.compose_lines.specs.Inner.Header.{fieldsText, headerOf, countsOf}
 
 -- fields behind a first one
 spaced-fields : (f : Bytes) (ns : List ℕ) → spaced (f ∷ map decimal ns) ≡ f ++ fieldsText ns

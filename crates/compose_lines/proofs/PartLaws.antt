@@ -9,9 +9,9 @@ use Rattle.lists.specs.Parts.{Bytes}
 use Rattle.lists.specs.Words.{wordsOf}
 use Rattle.text_decimal.specs.Printed.{textOf}
 use Rattle.text_decimal.proofs.PrintedLaws.{text-append}
-use Rattle.text_print.specs.Lines as lines
+use Rattle.text_print.specs.Inner.Lines as lines
 use Rattle.witness_read.specs.Sections.{NamedLatch, Sections, latchNames}
-use Rattle.witness_load.specs.Loaded.{latchWords}
+use Rattle.witness_load.specs.Inner.Loaded.{latchWords}
 use Rattle.compose_spec.specs.Numbering.{Entry, inputFirsts, latchFirsts, leafCount}
 use Rattle.compose_spec.specs.Sharing.{gatesFrom}
 use Rattle.compose_spec.specs.Composing.{Defined, safety, literalsOf, whole, allDefined, composedGates, composedLatches, composed}
@@ -19,8 +19,8 @@ use Rattle.compose_spec.specs.Printing.{inputLines, latchLines, gateLines, lite
 use Rattle.compose_spec.proofs.KeepLaws.{composed-latches-length}
 use Rattle.compose_spec.proofs.PrintableLaws.{gates-length}
 use Rattle.compose_lines.specs.declared.Counts.{Counts}
-use Rattle.compose_lines.specs.Header.{headerOf, countsOf}
-use Rattle.compose_lines.specs.Text.{closingText, textWith, partsOf, latchesOf, composedCounts, entryNames}
+use Rattle.compose_lines.specs.Inner.Header.{headerOf, countsOf}
+use Rattle.compose_lines.specs.Inner.Text.{closingText, textWith, partsOf, latchesOf, composedCounts, entryNames}
 use Rattle.compose_lines.proofs.HeaderLaws.{header-is}
 
 -- what comes behind some lines

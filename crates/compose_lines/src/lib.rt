@@ -1,11 +1,11 @@
 // The text of the composition from the composer's words: its header, its gates and its last lines. Its other lines are printed by `printing` and `naming`;
 // the law `printed-parts` says how all of them make up the text.
 ghost use mathlib.Core.List.{[], _∷_, _++_};
-ghost use Rattle.text_print.specs.Prints.{Prints};
+ghost use Rattle.text_print.specs.Inner.Prints.{Prints};
 ghost use Rattle.text_decimal.specs.Decimal.{decimal};
-ghost use Rattle.compose_lines.specs.Header.{fieldsText, headerOf};
-ghost use Rattle.compose_lines.specs.GateText.{CanPrintGates, PrintsGates};
-ghost use Rattle.compose_lines.specs.Text.{closingText};
+ghost use Rattle.compose_lines.specs.Inner.Header.{fieldsText, headerOf};
+ghost use Rattle.compose_lines.specs.Inner.GateText.{CanPrintGates, PrintsGates};
+ghost use Rattle.compose_lines.specs.Inner.Text.{closingText};
 
 // What the header says of the composition.
 pub struct Counts {

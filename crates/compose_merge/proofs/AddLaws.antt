@@ -11,7 +11,7 @@ use Rattle.lists.specs.Sets.{setOf}
 use Rattle.lists.proofs.KeptLaws.{take-kept, part-kept}
 use Rattle.lists.proofs.TestLaws.{each-so}
 use Rattle.aiger.specs.Gates.{variable}
-use Rattle.text_print.specs.Elements.{elements}
+use Rattle.text_print.specs.Inner.Elements.{elements}
 use Rattle.witness_read.specs.Sections.{Sections}
 use Rattle.compose_spec.specs.Numbering.{leafCount}
 use Rattle.compose_spec.specs.Sharing.{Operands}
@@ -20,19 +20,19 @@ use Rattle.compose_spec.proofs.MeaningLaws.{composed-order}
 use Rattle.compose_spec.proofs.ShareLaws.{OperandsFrom}
 use Rattle.compose_joint.specs.declared.Literals.{Literals}
 use Rattle.compose_joint.specs.declared.Literals.the-variants as literals
-use Rattle.compose_joint.specs.Joint.{joint, listOf}
+use Rattle.compose_joint.specs.Inner.Joint.{joint, listOf}
 use Rattle.compose_joint.proofs.AmountLaws.{leaf-count-most}
 use Rattle.compose_joint.proofs.GateLaws.{composed-gates-most}
 use Rattle.compose_joint.proofs.VarsLaws.{joint-safety, joint-constraints}
-use Rattle.compose_numbers.specs.Marked.{Addable, CanAdd, Added, literalsAt}
+use Rattle.compose_numbers.specs.Inner.Marked.{Addable, CanAdd, Added, literalsAt}
 use Rattle.compose_numbers.proofs.CallLaws.{each-word}
 use Rattle.compose_layout.specs.declared.Layout.{Layout}
-use Rattle.compose_layout.specs.Laid.{Has, variableTotal, Regions, Some}
+use Rattle.compose_layout.specs.Inner.Laid.{Has, variableTotal, Regions, Some}
 use Rattle.compose_layout.proofs.HasLaws.{has-same}
 use Rattle.compose_layout.proofs.StageLaws.{literals-long}
 use Rattle.compose_merge.specs.declared.Merging.the-variants as merging
-use Rattle.compose_merge.specs.Merged.{Base, Goes, Result, Counted, SmallOperands, definitionWords}
-use Rattle.compose_merge.specs.Stages.{Clean, Shared, LatchesDefined}
+use Rattle.compose_merge.specs.Inner.Merged.{Base, Goes, Result, Counted, SmallOperands, definitionWords}
+use Rattle.compose_merge.specs.Inner.Stages.{Clean, Shared, LatchesDefined}
 use Rattle.compose_merge.proofs.WordLaws.{clean-part, clean-behind}
 use Rattle.compose_merge.proofs.BaseLaws.{base-kept}
 use Rattle.compose_merge.proofs.DefineLaws.{definitions-long}

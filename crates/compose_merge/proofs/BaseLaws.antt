@@ -7,15 +7,15 @@ use lib.ListN.{length, take}
 use Rattle.witness_read.specs.Sections.{Sections}
 use Rattle.compose_joint.specs.declared.Literals.the-variants as literals
 use Rattle.compose_joint.specs.declared.Leaves.the-variants as leaf
-use Rattle.compose_joint.specs.Joint.{joint, listOf, origins}
+use Rattle.compose_joint.specs.Inner.Joint.{joint, listOf, origins}
 use Rattle.compose_joint.proofs.AmountLaws.{joint-operands-length, joint-latches-length, input-origins-length, latch-origins-length}
 use Rattle.compose_layout.specs.declared.Layout.{Layout}
-use Rattle.compose_layout.specs.Laid.{Has, Regions, Stands, Some}
+use Rattle.compose_layout.specs.Inner.Laid.{Has, Regions, Stands, Some}
 use Rattle.compose_layout.proofs.HasLaws.{has-same}
 use Rattle.compose_layout.proofs.StageLaws.{literals-long}
 use Rattle.compose_merge.specs.declared.Merging.{Merging}
 use Rattle.compose_merge.specs.declared.Merging.the-variants as merging
-use Rattle.compose_merge.specs.Merged.{Base, Outcome, Goes}
+use Rattle.compose_merge.specs.Inner.Merged.{Base, Outcome, Goes}
 
 -- the lists stay where nothing in front of the assigned numbers is written
 module _ (at : Layout) (work work' : List ℕ) (m : Sections) (ws : List Sections) (r : Regions m ws at) (e : take (at .assigned) work' ≡ take (at .assigned) work) (n : length work' ≡ length work) where

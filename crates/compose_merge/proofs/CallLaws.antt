@@ -15,18 +15,18 @@ use Rattle.witness_text.specs.declared.AagCounts.{AagCounts}
 use Rattle.witness_read.specs.Sections.{Sections, variables}
 use Rattle.compose_spec.specs.Composing.{mapsRight, isSome, safety, composed, compose}
 use Rattle.compose_spec.specs.Calling.{textsIn}
-use Rattle.compose_spec.specs.Ranges.{InRange}
+use Rattle.compose_spec.specs.Inner.Ranges.{InRange}
 use Rattle.compose_spec.proofs.DemandLaws.{all-read}
 use Rattle.compose_spec.proofs.NameLaws.{Granted}
-use Rattle.compose_joint.specs.Joint.{totalOf}
+use Rattle.compose_joint.specs.Inner.Joint.{totalOf}
 use Rattle.compose_gather.specs.declared.Totals.{Totals}
-use Rattle.compose_gather.specs.Gathered.{wordTotal, Readable}
+use Rattle.compose_gather.specs.Inner.Gathered.{wordTotal, Readable}
 use Rattle.compose_gather.proofs.BlockLaws.{blocks-same}
 use Rattle.compose_gather.proofs.TurnLaws.{total-small}
 use Rattle.compose_layout.specs.declared.Layout.{Layout}
-use Rattle.compose_layout.specs.Laid.{variableTotal, Fitting, Regions, Ready, Some}
+use Rattle.compose_layout.specs.Inner.Laid.{variableTotal, Fitting, Regions, Ready, Some}
 use Rattle.compose_merge.specs.declared.Merged.{Merged}
-use Rattle.compose_merge.specs.Merged.{Mergeable, Done, Refuses}
+use Rattle.compose_merge.specs.Inner.Merged.{Mergeable, Done, Refuses}
 use Rattle.compose_merge.proofs.BaseLaws.{stands-kept}
 
 -- ---- before

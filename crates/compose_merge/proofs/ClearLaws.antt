@@ -13,10 +13,10 @@ use Rattle.witness_read.specs.Sections.{Sections}
 use Rattle.compose_numbers.proofs.CallLaws.{cleared-part}
 use Rattle.compose_gather.specs.declared.Totals.{Totals}
 use Rattle.compose_layout.specs.declared.Layout.{Layout}
-use Rattle.compose_layout.specs.Laid.{Regions, Some}
+use Rattle.compose_layout.specs.Inner.Laid.{Regions, Some}
 use Rattle.compose_merge.specs.declared.Merging.{Merging}
-use Rattle.compose_merge.specs.Merged.{Mergeable, Goes}
-use Rattle.compose_merge.specs.Stages.{Clean, Clearable, Clears, Cleared}
+use Rattle.compose_merge.specs.Inner.Merged.{Mergeable, Goes}
+use Rattle.compose_merge.specs.Inner.Stages.{Clean, Clearable, Clears, Cleared}
 use Rattle.compose_merge.proofs.WordLaws.{clean-before}
 use Rattle.compose_merge.proofs.BaseLaws.{base-kept, Step, step-some, step-goes}
 

@@ -15,29 +15,29 @@ use Rattle.lists.proofs.PartLaws.{part-length, put-take, put-drop-end}
 use Rattle.lists.proofs.TestLaws.{each-so}
 use Rattle.lists.proofs.WordLaws.{words-length}
 use Rattle.witness_read.specs.Sections.{Sections}
-use Rattle.witness_load.specs.Loaded.{latchWords}
+use Rattle.witness_load.specs.Inner.Loaded.{latchWords}
 use Rattle.compose_spec.specs.Numbering.{sameEntry, latchEntries, inputFirsts, latchFirsts}
 use Rattle.compose_spec.specs.Sharing.{translate}
 use Rattle.compose_spec.specs.Composing.{Defined, definedFrom, allDefined, agree, whole, composedLatches}
 use Rattle.compose_spec.proofs.KeepLaws.{composed-latches-length}
 use Rattle.compose_joint.specs.declared.Literals.the-variants as literals
-use Rattle.compose_joint.specs.Joint.{totalOf, latchCount, joint, listOf}
-use Rattle.compose_joint.specs.Numbers.{jointShared}
+use Rattle.compose_joint.specs.Inner.Joint.{totalOf, latchCount, joint, listOf}
+use Rattle.compose_joint.specs.Inner.Numbers.{jointShared}
 use Rattle.compose_joint.proofs.AmountLaws.{joint-latches-length, latch-entries-length}
 use Rattle.compose_joint.proofs.VarsLaws.{joint-defined, definedPairs}
 use Rattle.compose_gates.specs.declared.DefinedLatches.{DefinedLatches}
 use Rattle.compose_gates.specs.declared.DefinedLatches.the-variants as answer
-use Rattle.compose_gates.specs.Latches.{InTurn, metIn, latchFrom, definedAt, definitionsFrom, latchVariables, Definable, Defines}
+use Rattle.compose_gates.specs.Inner.Latches.{InTurn, metIn, latchFrom, definedAt, definitionsFrom, latchVariables, Definable, Defines}
 use Rattle.compose_gates.proofs.CallLaws.{entries-in-turn, entries-met, composed-words}
 use Rattle.compose_numbers.proofs.CallLaws.{each-word}
 use Rattle.compose_gather.specs.declared.Totals.{Totals}
 use Rattle.compose_layout.specs.declared.Layout.{Layout}
-use Rattle.compose_layout.specs.Laid.{Has, variableTotal, Regions, Some}
+use Rattle.compose_layout.specs.Inner.Laid.{Has, variableTotal, Regions, Some}
 use Rattle.compose_layout.proofs.HasLaws.{has-put}
 use Rattle.compose_merge.specs.declared.Merging.{Merging}
 use Rattle.compose_merge.specs.declared.Merging.the-variants as merging
-use Rattle.compose_merge.specs.Merged.{Plan, Goes, latchNumbers, definitionWords}
-use Rattle.compose_merge.specs.Stages.{GatesShared, LatchesDefined}
+use Rattle.compose_merge.specs.Inner.Merged.{Plan, Goes, latchNumbers, definitionWords}
+use Rattle.compose_merge.specs.Inner.Stages.{GatesShared, LatchesDefined}
 use Rattle.compose_merge.proofs.WordLaws.{part-has, has-at, clean-behind}
 use Rattle.compose_merge.proofs.BaseLaws.{base-kept, Step, step-some, step-goes}
 use Rattle.compose_merge.proofs.LeafLaws.{latches-long}

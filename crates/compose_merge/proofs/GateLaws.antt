@@ -14,26 +14,26 @@ use Rattle.aiger.specs.Gates.{variable, gateFrom}
 use Rattle.witness_read.specs.Sections.{Sections}
 use Rattle.compose_spec.specs.Numbering.{leafCount}
 use Rattle.compose_spec.specs.Sharing.{Operands, Shared, shareGates}
-use Rattle.compose_spec.specs.Keys.{keyOf}
+use Rattle.compose_spec.specs.Inner.Keys.{keyOf}
 use Rattle.compose_spec.specs.Composing.{composedGates, gatesFit}
 use Rattle.compose_joint.specs.declared.Literals.the-variants as literals
-use Rattle.compose_joint.specs.Joint.{totalOf, inputCount, gateCount, joint, listOf}
-use Rattle.compose_joint.specs.Numbers.{leafVars, jointShared}
+use Rattle.compose_joint.specs.Inner.Joint.{totalOf, inputCount, gateCount, joint, listOf}
+use Rattle.compose_joint.specs.Inner.Numbers.{leafVars, jointShared}
 use Rattle.compose_joint.proofs.AmountLaws.{joint-operands-length, leaf-vars-length, leaf-vars-most, leaf-count-most}
 use Rattle.compose_joint.proofs.GateLaws.{joint-gates, joint-earlier, joint-vars-length}
-use Rattle.key_table.specs.Table.{Held}
+use Rattle.key_table.specs.Inner.Table.{Held}
 use Rattle.compose_gates.specs.declared.SharedGates.{SharedGates}
 use Rattle.compose_gates.specs.declared.SharedGates.the-variants as answer
-use Rattle.compose_gates.specs.Linked.{tableEnd, Sharable, sharedIn, Linked, Shares}
+use Rattle.compose_gates.specs.Inner.Linked.{tableEnd, Sharable, sharedIn, Linked, Shares}
 use Rattle.compose_gather.specs.declared.Totals.{Totals}
 use Rattle.compose_layout.specs.declared.Layout.{Layout}
-use Rattle.compose_layout.specs.Laid.{Regions, Some}
+use Rattle.compose_layout.specs.Inner.Laid.{Regions, Some}
 use Rattle.compose_layout.proofs.HasLaws.{has-same}
 use Rattle.compose_merge.specs.declared.Merging.{Merging}
 use Rattle.compose_merge.specs.declared.Merging.the-variants as merging
-use Rattle.compose_merge.specs.Merged.{Plan, Goes, inputNumbers, latchNumbers}
-use Rattle.compose_merge.specs.Stages as stage
-use Rattle.compose_merge.specs.Stages.{LeavesNumbered, GatesShared}
+use Rattle.compose_merge.specs.Inner.Merged.{Plan, Goes, inputNumbers, latchNumbers}
+use Rattle.compose_merge.specs.Inner.Stages as stage
+use Rattle.compose_merge.specs.Inner.Stages.{LeavesNumbered, GatesShared}
 use Rattle.compose_merge.proofs.WordLaws.{has-part, part-has, has-at, clean-part, clean-behind}
 use Rattle.compose_merge.proofs.BaseLaws.{base-kept, Step, step-some, step-goes}
 use Rattle.compose_merge.proofs.LeafLaws.{inputs-long, latches-long}

@@ -8,18 +8,18 @@ use Rattle.lists.specs.Parts.{part, zeros}
 use Rattle.witness_text.specs.declared.AagCounts.{AagCounts}
 use Rattle.witness_read.specs.Sections.{Sections}
 use Rattle.compose_joint.specs.declared.Leaves.the-variants as leaf
-use Rattle.compose_joint.specs.Joint.{totalOf, inputCount, gateCount, origins}
-use Rattle.compose_joint.specs.Numbers.{Numbers, numberAll}
+use Rattle.compose_joint.specs.Inner.Joint.{totalOf, inputCount, gateCount, origins}
+use Rattle.compose_joint.specs.Inner.Numbers.{Numbers, numberAll}
 use Rattle.compose_joint.proofs.AmountLaws.{input-origins-length}
 use Rattle.compose_joint.proofs.NumberLaws.{input-numbers, input-next}
-use Rattle.compose_numbers.specs.Marked.{CanNumber, Numbered, numbersIn}
+use Rattle.compose_numbers.specs.Inner.Marked.{CanNumber, Numbered, numbersIn}
 use Rattle.compose_numbers.proofs.CallLaws.{numbers-stored, numbered-before, numbered-between, numbered-behind}
 use Rattle.compose_gather.specs.declared.Totals.{Totals}
 use Rattle.compose_layout.specs.declared.Layout.{Layout}
-use Rattle.compose_layout.specs.Laid.{Regions, Some}
+use Rattle.compose_layout.specs.Inner.Laid.{Regions, Some}
 use Rattle.compose_merge.specs.declared.Merging.{Merging}
-use Rattle.compose_merge.specs.Merged.{Plan, Goes, inputNumbers}
-use Rattle.compose_merge.specs.Stages.{Cleared, InputsNumbered}
+use Rattle.compose_merge.specs.Inner.Merged.{Plan, Goes, inputNumbers}
+use Rattle.compose_merge.specs.Inner.Stages.{Cleared, InputsNumbered}
 use Rattle.compose_merge.proofs.WordLaws.{has-part, clean-part, clean-kept, clean-behind}
 use Rattle.compose_merge.proofs.BaseLaws.{base-kept, Step, step-some, step-goes}
 use Rattle.compose_merge.proofs.LeafLaws.{inputs-long, leaves-known, leaves-numbers}

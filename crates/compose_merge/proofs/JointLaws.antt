@@ -14,17 +14,17 @@ use Rattle.compose_spec.specs.Numbering.{leafCount}
 use Rattle.compose_spec.specs.Sharing.{translate}
 use Rattle.compose_spec.specs.Composing.{composedGates}
 use Rattle.compose_joint.specs.declared.Literals.{Literals}
-use Rattle.compose_joint.specs.Joint.{totalOf, inputCount, gateCount, joint, listOf}
-use Rattle.compose_joint.specs.Numbers.{jointShared}
+use Rattle.compose_joint.specs.Inner.Joint.{totalOf, inputCount, gateCount, joint, listOf}
+use Rattle.compose_joint.specs.Inner.Numbers.{jointShared}
 use Rattle.compose_joint.proofs.AmountLaws.{leaf-count-most, joint-literals-most}
 use Rattle.compose_joint.proofs.GateLaws.{joint-vars-most, joint-vars-length, composed-gates-most}
-use Rattle.compose_numbers.specs.Marked.{literalsAt}
+use Rattle.compose_numbers.specs.Inner.Marked.{literalsAt}
 use Rattle.compose_numbers.proofs.CallLaws.{literals-part}
 use Rattle.compose_layout.specs.declared.Layout.{Layout}
-use Rattle.compose_layout.specs.Laid.{Has, variableTotal, Regions}
+use Rattle.compose_layout.specs.Inner.Laid.{Has, variableTotal, Regions}
 use Rattle.compose_layout.proofs.HasLaws.{has-same}
-use Rattle.compose_merge.specs.Merged.{Base, inputNumbers, latchNumbers}
-use Rattle.compose_merge.specs.Stages.{Shared}
+use Rattle.compose_merge.specs.Inner.Merged.{Base, inputNumbers, latchNumbers}
+use Rattle.compose_merge.specs.Inner.Stages.{Shared}
 use Rattle.compose_merge.proofs.WordLaws.{part-has, has-at}
 use Rattle.compose_merge.proofs.LeafLaws.{inputs-long, latches-long}
 

@@ -13,14 +13,14 @@ use Rattle.witness_read.specs.Sections.{Sections}
 use Rattle.compose_spec.specs.declared.ModelLeaves.{ModelLeaves}
 use Rattle.compose_spec.specs.Numbering.{inputEntries, latchEntries, inputFirsts, latchFirsts, numbered}
 use Rattle.compose_joint.specs.declared.Leaves.{Leaves}
-use Rattle.compose_joint.specs.Joint.{totalOf, inputCount, latchCount, modelOf, origins}
-use Rattle.compose_joint.specs.Numbers.{numberAll}
+use Rattle.compose_joint.specs.Inner.Joint.{totalOf, inputCount, latchCount, modelOf, origins}
+use Rattle.compose_joint.specs.Inner.Numbers.{numberAll}
 use Rattle.compose_joint.proofs.AmountLaws.{input-entries-length, latch-entries-length}
 use Rattle.compose_joint.proofs.OriginLaws.{OfKind, origins-within}
-use Rattle.compose_numbers.specs.Marked.{HasSlot, numbersIn}
+use Rattle.compose_numbers.specs.Inner.Marked.{HasSlot, numbersIn}
 use Rattle.compose_numbers.proofs.CallLaws.{each-word}
-use Rattle.compose_layout.specs.Laid.{Has}
-use Rattle.compose_merge.specs.Merged.{inputNumbers, latchNumbers}
+use Rattle.compose_layout.specs.Inner.Laid.{Has}
+use Rattle.compose_merge.specs.Inner.Merged.{inputNumbers, latchNumbers}
 use Rattle.compose_merge.proofs.WordLaws.{part-has}
 
 -- how many numbers there are

@@ -9,8 +9,8 @@ use Rattle.lists.specs.Parts.{part, zeros}
 use Rattle.lists.proofs.KeptLaws.{part-kept}
 use Rattle.lists.proofs.PartLaws.{part-at, part-of-part, part-join}
 use Rattle.lists.proofs.ZeroLaws.{zeros-take}
-use Rattle.compose_layout.specs.Laid.{Has}
-use Rattle.compose_merge.specs.Stages.{Clean}
+use Rattle.compose_layout.specs.Inner.Laid.{Has}
+use Rattle.compose_merge.specs.Inner.Stages.{Clean}
 
 -- ---- lists in the words
 

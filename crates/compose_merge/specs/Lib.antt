@@ -1,3 +1,2 @@
 -- The witnesses, laid out in the work words, merged into the composition.
-pub mod Merged
-pub mod Stages
+pub mod Inner

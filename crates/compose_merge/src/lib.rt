@@ -1,7 +1,7 @@
 // The witnesses, laid out in the work words, are merged into the composition: its variables, gates, latches, bads and constraints.
-ghost use Rattle.compose_layout.specs.Laid.{Some};
-ghost use Rattle.compose_merge.specs.Merged.{Mergeable, Goes};
-ghost use Rattle.compose_merge.specs.Stages.{Clearable, Clears, Cleared, InputsNumbered, LeavesNumbered, GatesShared, LatchesDefined};
+ghost use Rattle.compose_layout.specs.Inner.Laid.{Some};
+ghost use Rattle.compose_merge.specs.Inner.Merged.{Mergeable, Goes};
+ghost use Rattle.compose_merge.specs.Inner.Stages.{Clearable, Clears, Cleared, InputsNumbered, LeavesNumbered, GatesShared, LatchesDefined};
 use compose_gates::DefinedLatches;
 use compose_gates::SharedGates;
 use compose_gather::Totals;

@@ -23,7 +23,7 @@ use Rattle.text.specs.Numbers.{numberOf}
 use Rattle.aiger.specs.Gates.{variable}
 use Rattle.witness_read.specs.Sections.{Sections}
 use Rattle.witness_read.specs.Reading.{countsIn}
-use Rattle.witness_load.specs.Loaded.{wordCount}
+use Rattle.witness_load.specs.Inner.Loaded.{wordCount}
 use Rattle.compose_spec.specs.declared.ModelLeaves.{ModelLeaves}
 use Rattle.compose_spec.specs.declared.Mapping.{Mapping}
 use Rattle.compose_spec.specs.declared.Mapping.the-variants.{Private, Onto, Wrong}
@@ -34,15 +34,15 @@ use Rattle.compose_joint.specs.declared.Before.{Before}
 use Rattle.compose_joint.specs.declared.Leaves.{Leaves}
 use Rattle.compose_joint.specs.declared.Leaves.the-variants as leaf
 use Rattle.compose_joint.proofs.AmountLaws.{origin-words}
-use Rattle.compose_joint.specs.Joint.{totalOf, beyond, gatheredFrom, namesOf, modelOf, originWord, originsFrom, jointOrigins, unnamedOf, entriesOf}
+use Rattle.compose_joint.specs.Inner.Joint.{totalOf, beyond, gatheredFrom, namesOf, modelOf, originWord, originsFrom, jointOrigins, unnamedOf, entriesOf}
 use Rattle.compose_joint.proofs.OriginLaws.{entriesIn, entries-none, entries-split}
-use Rattle.compose_gather.specs.Gathered.{Block, Blocks, leafCountOf}
-use Rattle.compose_gather.specs.Counts.{leafCounts}
+use Rattle.compose_gather.specs.Inner.Gathered.{Block, Blocks, leafCountOf}
+use Rattle.compose_gather.specs.Inner.Counts.{leafCounts}
 use Rattle.compose_gather.proofs.CountLaws.{counts-leaves}
 use Rattle.compose_gather.proofs.BlockLaws.{words-for}
 use Rattle.compose_names.specs.declared.Starts.{Starts}
-use Rattle.compose_names.specs.Names.{nameFor}
-use Rattle.compose_names.specs.Symbols.{Row, rowAt, rowsFrom, namesAt, rowsIn, passed}
+use Rattle.compose_names.specs.Inner.Names.{nameFor}
+use Rattle.compose_names.specs.Inner.Symbols.{Row, rowAt, rowsFrom, namesAt, rowsIn, passed}
 use Rattle.compose_names.proofs.FirstLaws.{rowOf}
 use Rattle.compose_names.proofs.RowLaws.{leaf-said}
 

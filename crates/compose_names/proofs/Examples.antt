@@ -6,8 +6,8 @@ use Rattle.lists.specs.Quoted.{bytes}
 use Rattle.text_decimal.specs.Decimal.{decimal}
 use Rattle.compose_spec.specs.Numbering.{private-input}
 use Rattle.compose_joint.specs.declared.Leaves.the-variants.{Inputs, Latches}
-use Rattle.compose_names.specs.Names.{ownName, nameFor}
-use Rattle.compose_names.specs.Symbols.{newLines, nextAfter}
+use Rattle.compose_names.specs.Inner.Names.{ownName, nameFor}
+use Rattle.compose_names.specs.Inner.Symbols.{newLines, nextAfter}
 
 -- literal 6 of the model, whatever the witness calls it: `= 6`
 pub shared-name : nameFor Inputs 1 6 (some (bytes "x")) ≡ bytes "= 6"

@@ -15,7 +15,7 @@ use Rattle.lists.proofs.FirstLaws.{place-new, Begins, place-begins, place-insid
 use Rattle.compose_spec.specs.Numbering.{Entry, sameEntry, numbered}
 use Rattle.compose_spec.specs.Printing.{symbolLine, symbolLines}
 use Rattle.compose_spec.proofs.PlacedLaws.{entry-self}
-use Rattle.compose_names.specs.Symbols.{Row, newLines}
+use Rattle.compose_names.specs.Inner.Symbols.{Row, newLines}
 
 -- those of a list that are new behind others
 abbrev fresh : List Entry → List Entry → List Entry

@@ -9,15 +9,15 @@ use lib.Dec.{eqb}
 use lib.ListN.{length}
 use Rattle.lists.specs.Parts.{Bytes, part}
 use Rattle.text_decimal.specs.Decimal.{decimal}
-use Rattle.text_print.specs.Prints.{Prints}
+use Rattle.text_print.specs.Inner.Prints.{Prints}
 use Rattle.text_print.proofs.PrintsLaws.{Word, prints-then}
 use Rattle.compose_spec.specs.Mapping.{equals}
 use Rattle.compose_spec.specs.Numbering.{private-input, private-latch, orElse, privateName}
 use Rattle.compose_spec.specs.Printing.{symbolLine}
 use Rattle.compose_joint.specs.declared.Leaves.{Leaves}
 use Rattle.compose_joint.specs.declared.Leaves.the-variants as leaf
-use Rattle.compose_joint.specs.Joint.{unnamedOf}
-use Rattle.compose_names.specs.Names.{kindOf, ownName, nameFor}
+use Rattle.compose_joint.specs.Inner.Joint.{unnamedOf}
+use Rattle.compose_names.specs.Inner.Names.{kindOf, ownName, nameFor}
 
 -- other bytes that are the same
 pub prints-as : (o : Bytes) (at : ℕ) (b c o′ : Bytes) (r : ℕ) → b ≡ c → Prints o at b o′ r → Prints o at c o′ r

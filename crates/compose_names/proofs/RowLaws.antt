@@ -13,13 +13,13 @@ use Rattle.lists.specs.Parts.{Bytes, part}
 use Rattle.lists.proofs.WordLaws.{pairs-at}
 use Rattle.witness_read.specs.Sections.{Sections, leaves, namesIn, latchNames}
 use Rattle.witness_read.specs.Reading.{countsIn}
-use Rattle.witness_load.specs.Loaded.{nameFrom, literalWords, wordCount}
+use Rattle.witness_load.specs.Inner.Loaded.{nameFrom, literalWords, wordCount}
 use Rattle.compose_joint.specs.declared.Leaves.{Leaves}
 use Rattle.compose_joint.specs.declared.Leaves.the-variants as leaf
-use Rattle.compose_joint.specs.Joint.{namesOf}
-use Rattle.compose_gather.specs.Gathered.{Block, leafCountOf}
-use Rattle.compose_names.specs.Names.{ownName}
-use Rattle.compose_gather.specs.Counts.{namesBefore}
+use Rattle.compose_joint.specs.Inner.Joint.{namesOf}
+use Rattle.compose_gather.specs.Inner.Gathered.{Block, leafCountOf}
+use Rattle.compose_names.specs.Inner.Names.{ownName}
+use Rattle.compose_gather.specs.Inner.Counts.{namesBefore}
 
 -- ---- the names of a witness
 

@@ -14,21 +14,21 @@ use Rattle.text_print.proofs.PrintsLaws.{Word, Printing, printing-none, printin
 use Rattle.witness_text.specs.declared.AagCounts.{AagCounts}
 use Rattle.witness_read.specs.Sections.{Sections, variables}
 use Rattle.witness_read.specs.Reading.{countsIn}
-use Rattle.witness_load.specs.Loaded.{wordCount}
+use Rattle.witness_load.specs.Inner.Loaded.{wordCount}
 use Rattle.compose_spec.specs.Calling.{textsIn}
 use Rattle.compose_joint.specs.declared.Leaves.{Leaves}
 use Rattle.compose_joint.specs.declared.Leaves.the-variants as leaf
-use Rattle.compose_joint.specs.Joint.{totalOf, nothingBefore, origins, entriesOf}
-use Rattle.compose_gather.specs.Counts.{countsAt, leafCounts, CountsListed}
-use Rattle.compose_gather.specs.Gathered.{Block, Blocks, wordTotal, Readable, leafCountOf}
+use Rattle.compose_joint.specs.Inner.Joint.{totalOf, nothingBefore, origins, entriesOf}
+use Rattle.compose_gather.specs.Inner.Counts.{countsAt, leafCounts, CountsListed}
+use Rattle.compose_gather.specs.Inner.Gathered.{Block, Blocks, wordTotal, Readable, leafCountOf}
 use Rattle.compose_gather.proofs.TextLaws.{FirstRead, Left, left-more, left-none, texts-left}
 use Rattle.compose_gather.proofs.CountLaws.{counts-leaves, leaves-within}
 use Rattle.compose_gather.proofs.BlockLaws.{words-for}
 use Rattle.compose_gather.proofs.TurnLaws.{total-below, total-small}
 use Rattle.compose_names.specs.declared.Starts.{Starts}
 use Rattle.compose_names.specs.declared.Printed.{Printed}
-use Rattle.compose_names.specs.Names.{kindOf, firstsOf}
-use Rattle.compose_names.specs.Symbols.{Row, newLines, nextAfter, rowsIn, PrintsNew, CanPrintWitness, passed, CanPass, SymbolWords, CanPrintSymbols, PrintsSymbols}
+use Rattle.compose_names.specs.Inner.Names.{kindOf, firstsOf}
+use Rattle.compose_names.specs.Inner.Symbols.{Row, newLines, nextAfter, rowsIn, PrintsNew, CanPrintWitness, passed, CanPass, SymbolWords, CanPrintSymbols, PrintsSymbols}
 use Rattle.compose_names.proofs.PieceLaws.{prints-as}
 use Rattle.compose_names.proofs.WalkLaws.{newText, rows-append, rows-length, after-least, after-most}
 use Rattle.compose_names.proofs.FirstLaws.{first-lines}

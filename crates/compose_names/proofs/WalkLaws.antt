@@ -10,12 +10,12 @@ use lib.Dec.{eqb}
 use lib.ListN.{length}
 use Rattle.lists.specs.Parts.{Bytes}
 use Rattle.text_decimal.specs.Printed.{textOf}
-use Rattle.text_print.specs.Prints.{Prints}
+use Rattle.text_print.specs.Inner.Prints.{Prints}
 use Rattle.text_print.proofs.PrintsLaws.{Word, Printing, printing-none, printing-more, printing-as, printing-done}
 use Rattle.compose_spec.specs.Printing.{symbolLine}
 use Rattle.compose_joint.specs.declared.Leaves.{Leaves}
-use Rattle.compose_names.specs.Names.{kindOf}
-use Rattle.compose_names.specs.Symbols.{Row, newLines, nextAfter, rowsFrom, PrintsNew}
+use Rattle.compose_names.specs.Inner.Names.{kindOf}
+use Rattle.compose_names.specs.Inner.Symbols.{Row, newLines, nextAfter, rowsFrom, PrintsNew}
 
 -- the text of the new ones
 abbrev pub newText : ℕ → ℕ → ℕ → List Row → Bytes

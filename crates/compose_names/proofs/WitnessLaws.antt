@@ -5,17 +5,17 @@ use mathlib.Core.Path.{_≡_, refl}
 use native.Mathlib.Omega.{arith}
 use lib.ListN.{length, getD}
 use Rattle.lists.specs.Parts.{Bytes}
-use Rattle.text_print.specs.Prints.{Prints}
+use Rattle.text_print.specs.Inner.Prints.{Prints}
 use Rattle.witness_text.specs.declared.AagCounts.{AagCounts}
 use Rattle.compose_spec.specs.Printing.{symbolLine}
 use Rattle.compose_joint.specs.declared.Leaves.{Leaves}
 use Rattle.compose_joint.specs.declared.Leaves.the-variants as leaf
-use Rattle.compose_gather.specs.Counts.{leafCounts, namesBefore}
-use Rattle.compose_gather.specs.Gathered.{wordsFor}
+use Rattle.compose_gather.specs.Inner.Counts.{leafCounts, namesBefore}
+use Rattle.compose_gather.specs.Inner.Gathered.{wordsFor}
 use Rattle.compose_names.specs.declared.Starts.{Starts}
 use Rattle.compose_names.specs.declared.Printed.{Printed}
-use Rattle.compose_names.specs.Names.{kindOf, ownName, nameFor}
-use Rattle.compose_names.specs.Symbols.{rowAt, rowsFrom, RowWords, CanPrintNames, PrintsNew, rowsIn, CanPrintWitness, passed}
+use Rattle.compose_names.specs.Inner.Names.{kindOf, ownName, nameFor}
+use Rattle.compose_names.specs.Inner.Symbols.{rowAt, rowsFrom, RowWords, CanPrintNames, PrintsNew, rowsIn, CanPrintWitness, passed}
 
 module _ (t : Bytes) (work : List ℕ) (p : Starts) where
   -- each row of so many

@@ -1,3 +1,2 @@
 -- Symbol lines of the composition, from words.
-pub mod Names
-pub mod Symbols
+pub mod Inner

@@ -4,13 +4,13 @@ ghost use mathlib.Core.List.{[], _∷_, _++_};
 ghost use mathlib.Core.Option.{some};
 ghost use mathlib.Core.Path.{_≡_};
 ghost use lib.ListN.{length};
-ghost use Rattle.text_print.specs.Prints.{Prints};
+ghost use Rattle.text_print.specs.Inner.Prints.{Prints};
 ghost use Rattle.compose_spec.specs.Numbering.{orElse, privateName};
 ghost use Rattle.compose_spec.specs.Printing.{symbolLine};
-ghost use Rattle.compose_joint.specs.Joint.{unnamedOf};
-ghost use Rattle.compose_gather.specs.Counts.{CountsListed};
-ghost use Rattle.compose_names.specs.Names.{kindOf, ownName, nameFor};
-ghost use Rattle.compose_names.specs.Symbols.{rowAt, rowsFrom, RowWords, CanPrintNames, PrintsNew, CanPrintWitness, rowsIn, CanPass, passed, CanPrintSymbols, PrintsSymbols};
+ghost use Rattle.compose_joint.specs.Inner.Joint.{unnamedOf};
+ghost use Rattle.compose_gather.specs.Inner.Counts.{CountsListed};
+ghost use Rattle.compose_names.specs.Inner.Names.{kindOf, ownName, nameFor};
+ghost use Rattle.compose_names.specs.Inner.Symbols.{rowAt, rowsFrom, RowWords, CanPrintNames, PrintsNew, CanPrintWitness, rowsIn, CanPass, passed, CanPrintSymbols, PrintsSymbols};
 use compose_joint::Leaves;
 use witness_text::AagCounts;
 

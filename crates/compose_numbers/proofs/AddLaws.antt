@@ -17,11 +17,11 @@ use Rattle.lists.proofs.MapLaws.{map-at}
 use Rattle.lists.proofs.PartLaws.{part-length, part-at, put-take, put-drop-end, put-part}
 use Rattle.lists.proofs.RestLaws.{take-next}
 use Rattle.aiger.specs.Gates.{variable}
-use Rattle.text_print.specs.Elements.{elements}
+use Rattle.text_print.specs.Inner.Elements.{elements}
 use Rattle.text_print.proofs.ElementLaws.{elements-zeros, elements-more, elements-new, elements-old}
 use Rattle.compose_spec.specs.Sharing.{translate}
-use Rattle.compose_gates.specs.Linked.{literalAt}
-use Rattle.compose_numbers.specs.Marked.{literalsAt, CanAddOne, AddedOne, CanAdd, Added}
+use Rattle.compose_gates.specs.Inner.Linked.{literalAt}
+use Rattle.compose_numbers.specs.Inner.Marked.{literalsAt, CanAddOne, AddedOne, CanAdd, Added}
 use Rattle.compose_numbers.proofs.StoreLaws.{given-back}
 
 -- ---- one literal

@@ -17,9 +17,9 @@ use Rattle.lists.proofs.TestLaws.{each-at, each-so, each-any}
 use Rattle.lists.proofs.ZeroLaws.{zeros-length}
 use Rattle.aiger.specs.Gates.{variable}
 use Rattle.compose_spec.specs.Sharing.{translate}
-use Rattle.compose_joint.specs.Numbers.{Numbers, withNumber, slot, numberAll}
+use Rattle.compose_joint.specs.Inner.Numbers.{Numbers, withNumber, slot, numberAll}
 use Rattle.compose_gates.proofs.CallLaws.{translate-part}
-use Rattle.compose_numbers.specs.Marked.{CanNumber, numbersIn, Numbered, literalsAt}
+use Rattle.compose_numbers.specs.Inner.Marked.{CanNumber, numbersIn, Numbered, literalsAt}
 
 -- what holds of all words of a part, in the form that `CanNumber` and `CanAdd` ask for
 pub each-word : (P : ℕ → Type 0) (work : List ℕ) (at n : ℕ) → at + n ≤ length work → Each P (part work at (at + n)) → (i : ℕ) → i < n → P (getD work (at + i) 0)

@@ -12,8 +12,8 @@ use Rattle.lists.specs.Bits.{odd}
 use Rattle.lists.specs.Parts.{part, put}
 use Rattle.lists.proofs.PartLaws.{part-length, part-at, put-none, put-one, put-length, put-before, put-inside, put-put}
 use Rattle.lists.proofs.RestLaws.{rest-more}
-use Rattle.compose_joint.specs.Numbers.{Numbers, withNumber, slot, numberAll}
-use Rattle.compose_numbers.specs.Marked.{Listed, ListedAt, CanNumberOne, Turn, turn, NumberedOne, CanNumber, numbersIn, Numbered}
+use Rattle.compose_joint.specs.Inner.Numbers.{Numbers, withNumber, slot, numberAll}
+use Rattle.compose_numbers.specs.Inner.Marked.{Listed, ListedAt, CanNumberOne, Turn, turn, NumberedOne, CanNumber, numbersIn, Numbered}
 use Rattle.compose_numbers.proofs.StoreLaws.{set-inside, set-before, put-own}
 
 -- ---- one leaf

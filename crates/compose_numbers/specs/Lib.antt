@@ -1,2 +1,2 @@
 -- Leaves numbered, and literals marked, in lent words.
-pub mod Marked
+pub mod Inner

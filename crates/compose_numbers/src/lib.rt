@@ -3,7 +3,7 @@ ghost use mathlib.Core.Path.{_≡_};
 ghost use Prim.Native.Nat.{_-_, _≤_};
 ghost use lib.ListN.{length};
 ghost use Rattle.lists.specs.Parts.{put, zeros};
-ghost use Rattle.compose_numbers.specs.Marked.{Listed, ListedAt, CanNumberOne, NumberedOne, CanNumber, Numbered, CanAddOne, AddedOne, CanAdd, Added};
+ghost use Rattle.compose_numbers.specs.Inner.Marked.{Listed, ListedAt, CanNumberOne, NumberedOne, CanNumber, Numbered, CanAddOne, AddedOne, CanAdd, Added};
 use lists::index;
 
 // The place of the assigned number for an origin word.

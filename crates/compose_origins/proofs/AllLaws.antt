@@ -11,17 +11,17 @@ use Rattle.lists.proofs.AnswerLaws.{got-same}
 use Rattle.witness_text.specs.declared.AagCounts.{AagCounts}
 use Rattle.witness_read.specs.Sections.{Sections}
 use Rattle.witness_read.specs.Reading.{countsIn}
-use Rattle.witness_load.specs.Loaded.{wordCount}
+use Rattle.witness_load.specs.Inner.Loaded.{wordCount}
 use Rattle.compose_spec.specs.declared.ModelLeaves.{ModelLeaves}
 use Rattle.compose_spec.specs.Mapping.{mapsByName}
 use Rattle.compose_spec.specs.Calling.{textsIn}
 use Rattle.compose_joint.specs.declared.Before.{Before}
 use Rattle.compose_joint.specs.declared.Leaves.{Leaves}
 use Rattle.compose_joint.specs.declared.Leaves.the-variants as leaf
-use Rattle.compose_joint.specs.Joint.{nothingBefore, beyond, namesOf}
+use Rattle.compose_joint.specs.Inner.Joint.{nothingBefore, beyond, namesOf}
 use Rattle.compose_joint.proofs.AmountLaws.{origin-words}
-use Rattle.compose_gather.specs.Counts.{countsAt, leafCounts, CountsListed}
-use Rattle.compose_gather.specs.Gathered.{wordsFor, Block, Readable, leafCountOf}
+use Rattle.compose_gather.specs.Inner.Counts.{countsAt, leafCounts, CountsListed}
+use Rattle.compose_gather.specs.Inner.Gathered.{wordsFor, Block, Readable, leafCountOf}
 use Rattle.compose_gather.proofs.TextLaws.{FirstRead, Left, left-more, left-none}
 use Rattle.compose_gather.proofs.CountLaws.{counts-leaves}
 use Rattle.compose_gather.proofs.CheckLaws.{read-counted}
@@ -29,7 +29,7 @@ use Rattle.compose_gather.proofs.BlockLaws.{words-for, block-kept}
 use Rattle.compose_gather.proofs.GatherLaws.{Gathering, Next, gathering-none, gathering-next, gathering-end}
 use Rattle.compose_origins.specs.declared.Origins.{Origins}
 use Rattle.compose_origins.specs.declared.Origins.the-variants as origins
-use Rattle.compose_origins.specs.Mapped.{CanMapWitness, originsBy, rightBy, WitnessOrigins, MapsWitness, CanMapAll, MapsAll}
+use Rattle.compose_origins.specs.Inner.Mapped.{CanMapWitness, originsBy, rightBy, WitnessOrigins, MapsWitness, CanMapAll, MapsAll}
 
 -- the witnesses before number w have right literals, and their origins stand there
 pub record Mapping (p : ModelLeaves) (leaves : Leaves) (buffer : Bytes) (pairs work₀ work : List ℕ) (to from at w : ℕ) : Type 0 where

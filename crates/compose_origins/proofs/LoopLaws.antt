@@ -13,14 +13,14 @@ use Rattle.lists.specs.Tests.{any, allFrom}
 use Rattle.lists.proofs.PartLaws.{Copied, copied-none, copied-more, copied-done, part-length, part-at}
 use Rattle.lists.proofs.RestLaws.{rest-more}
 use Rattle.lists.proofs.WordLaws.{pairs-at, pairs-count}
-use Rattle.witness_load.specs.Loaded.{nameFrom}
+use Rattle.witness_load.specs.Inner.Loaded.{nameFrom}
 use Rattle.compose_spec.specs.declared.ModelLeaves.{ModelLeaves}
 use Rattle.compose_spec.specs.declared.Mapping.{Mapping}
 use Rattle.compose_spec.specs.Mapping.{isMapped, mappingOf}
 use Rattle.compose_spec.specs.Composing.{isRight, leavesRight}
 use Rattle.compose_joint.proofs.AmountLaws.{origin-words}
-use Rattle.compose_joint.specs.Joint.{originWord, originsFrom}
-use Rattle.compose_origins.specs.Mapped.{MappedAt, MapsAt, SaysAt, TestsAt, SaysNames, SayNames, AnyMapped, CanMap, StoresOrigins}
+use Rattle.compose_joint.specs.Inner.Joint.{originWord, originsFrom}
+use Rattle.compose_origins.specs.Inner.Mapped.{MappedAt, MapsAt, SaysAt, TestsAt, SaysNames, SayNames, AnyMapped, CanMap, StoresOrigins}
 
 -- ---- the names one by one
 

@@ -11,13 +11,13 @@ use lib.ListN.{length, getD}
 use Rattle.lists.specs.Quoted.{bytes}
 use Rattle.lists.specs.Parts.{Bytes, part}
 use Rattle.scan.specs.Same.{beginsWith}
-use Rattle.witness_load.specs.Loaded.{nameFrom}
+use Rattle.witness_load.specs.Inner.Loaded.{nameFrom}
 use Rattle.compose_spec.specs.declared.ModelLeaves.{ModelLeaves}
 use Rattle.compose_spec.specs.declared.Mapping.{Mapping}
 use Rattle.compose_spec.specs.declared.Mapping.the-variants as mapping
 use Rattle.compose_spec.specs.Mapping.{byName, byPosition}
-use Rattle.compose_joint.specs.Joint.{originWord}
-use Rattle.compose_origins.specs.Mapped.{SaysName, MapsTo, TestsName, SaysAt, TestsAt, MappedAt, MapsAt}
+use Rattle.compose_joint.specs.Inner.Joint.{originWord}
+use Rattle.compose_origins.specs.Inner.Mapped.{SaysName, MapsTo, TestsName, SaysAt, TestsAt, MappedAt, MapsAt}
 
 pub some-same : {A : Type 0} (a b : A) → some a ≡ some b → a ≡ b
 some-same a b e = cc

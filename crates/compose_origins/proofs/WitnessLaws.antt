@@ -14,18 +14,18 @@ use Rattle.lists.proofs.WordLaws.{pairs-take, pairs-drop}
 use Rattle.witness_text.specs.declared.AagCounts.{AagCounts}
 use Rattle.witness_read.specs.Sections.{Sections, leaves, latchNames, namesIn}
 use Rattle.witness_read.specs.Reading.{countsIn}
-use Rattle.witness_load.specs.Loaded.{nameFrom, literalWords, wordCount}
+use Rattle.witness_load.specs.Inner.Loaded.{nameFrom, literalWords, wordCount}
 use Rattle.compose_spec.specs.declared.ModelLeaves.{ModelLeaves}
 use Rattle.compose_spec.specs.Mapping.{mapsByName}
 use Rattle.compose_joint.specs.declared.Leaves.{Leaves}
 use Rattle.compose_joint.specs.declared.Leaves.the-variants as leaf
-use Rattle.compose_joint.specs.Joint.{namesOf}
-use Rattle.compose_gather.specs.Counts.{leafCounts, namesBefore}
-use Rattle.compose_gather.specs.Gathered.{Block}
+use Rattle.compose_joint.specs.Inner.Joint.{namesOf}
+use Rattle.compose_gather.specs.Inner.Counts.{leafCounts, namesBefore}
+use Rattle.compose_gather.specs.Inner.Gathered.{Block}
 use Rattle.compose_origins.specs.declared.Origins.{Origins}
 use Rattle.compose_origins.specs.declared.Origins.the-variants as origins
 use Rattle.compose_gather.proofs.CountLaws.{leaves-within}
-use Rattle.compose_origins.specs.Mapped.{SaysNames, SayNames, AnyMapped, CanMap, OriginsIf, StoresOrigins, CanTest, TestsWitness, CanMapWitness, WitnessOrigins, MapsWitness}
+use Rattle.compose_origins.specs.Inner.Mapped.{SaysNames, SayNames, AnyMapped, CanMap, OriginsIf, StoresOrigins, CanTest, TestsWitness, CanMapWitness, WitnessOrigins, MapsWitness}
 
 -- ---- the names among the words of a text
 

@@ -1,2 +1,2 @@
 -- What the inputs and latches of all witnesses are: shared with the model, or private.
-pub mod Mapped
+pub mod Inner

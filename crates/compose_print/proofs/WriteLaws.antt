@@ -10,35 +10,35 @@ use Rattle.lists.proofs.PartLaws.{part-length}
 use Rattle.lists.proofs.TestLaws.{each-so}
 use Rattle.lists.proofs.WordLaws.{words-length}
 use Rattle.text_decimal.specs.Printed.{textOf}
-use Rattle.text_print.specs.Prints.{Prints}
-use Rattle.text_print.specs.Elements.{elements}
-use Rattle.text_print.specs.Lines as lines
+use Rattle.text_print.specs.Inner.Prints.{Prints}
+use Rattle.text_print.specs.Inner.Elements.{elements}
+use Rattle.text_print.specs.Inner.Lines as lines
 use Rattle.text_print.proofs.PrintsLaws.{Word, prints-then}
 use Rattle.witness_read.specs.Sections.{Sections}
-use Rattle.witness_load.specs.Loaded.{latchWords}
+use Rattle.witness_load.specs.Inner.Loaded.{latchWords}
 use Rattle.compose_spec.specs.Numbering.{inputEntries, latchEntries, inputFirsts, latchFirsts, numbered, leafCount}
 use Rattle.compose_spec.specs.Sharing.{gatesFrom}
-use Rattle.compose_spec.specs.Keys.{keyOf}
+use Rattle.compose_spec.specs.Inner.Keys.{keyOf}
 use Rattle.compose_spec.specs.Composing.{safety, literalsOf, whole, allDefined, composedGates}
 use Rattle.compose_spec.specs.Printing.{gateLines, symbolLines}
 use Rattle.compose_spec.proofs.KeepLaws.{composed-latches-length}
 use Rattle.compose_joint.specs.declared.Leaves.the-variants as leaf
-use Rattle.compose_joint.specs.Joint.{totalOf, inputCount, gateCount, origins}
+use Rattle.compose_joint.specs.Inner.Joint.{totalOf, inputCount, gateCount, origins}
 use Rattle.compose_joint.proofs.AmountLaws.{origins-length}
 use Rattle.compose_gather.specs.declared.Totals.{Totals}
-use Rattle.compose_gather.specs.Gathered.{leafCountOf}
+use Rattle.compose_gather.specs.Inner.Gathered.{leafCountOf}
 use Rattle.compose_layout.specs.declared.Layout.{Layout}
-use Rattle.compose_layout.specs.Laid.{Has}
+use Rattle.compose_layout.specs.Inner.Laid.{Has}
 use Rattle.compose_merge.specs.declared.Merged.{Merged}
-use Rattle.key_table.specs.Table.{Held}
-use Rattle.compose_merge.specs.Merged.{SmallOperands, inputNumbers, latchNumbers, definitionWords}
-use Rattle.compose_names.specs.Symbols.{SymbolWords, CanPrintSymbols, PrintsSymbols}
+use Rattle.key_table.specs.Inner.Table.{Held}
+use Rattle.compose_merge.specs.Inner.Merged.{SmallOperands, inputNumbers, latchNumbers, definitionWords}
+use Rattle.compose_names.specs.Inner.Symbols.{SymbolWords, CanPrintSymbols, PrintsSymbols}
 use Rattle.compose_names.proofs.EntryLaws.{entries-total}
 use Rattle.compose_lines.specs.declared.Counts.{Counts}
-use Rattle.compose_lines.specs.GateText.{Narrow, GateKeys, CanPrintGates, PrintsGates}
-use Rattle.compose_lines.specs.Header.{headerOf}
-use Rattle.compose_lines.specs.Text.{closingText, latchesOf, composedCounts, entryNames}
-use Rattle.compose_print.specs.Written.{Printable, PrintableSome, PrintsText, fromLatchNames, fromInputNames, fromGates, fromConstraints, fromBads, fromLatches, fromInputs, fromHeader}
+use Rattle.compose_lines.specs.Inner.GateText.{Narrow, GateKeys, CanPrintGates, PrintsGates}
+use Rattle.compose_lines.specs.Inner.Header.{headerOf}
+use Rattle.compose_lines.specs.Inner.Text.{closingText, latchesOf, composedCounts, entryNames}
+use Rattle.compose_print.specs.Inner.Written.{Printable, PrintableSome, PrintsText, fromLatchNames, fromInputNames, fromGates, fromConstraints, fromBads, fromLatches, fromInputs, fromHeader}
 
 -- a list that stands, by its length
 has-part : (work : List ℕ) (a n : ℕ) (xs : List ℕ) → length xs ≡ n → Has work a xs → part work a (a + n) ≡ xs

@@ -1,6 +1,6 @@
 // The composition's text, printed from the work words: each function prints a part and goes on with the next. With an empty slice they only count.
-ghost use Rattle.compose_gather.specs.Counts.{CountsListed};
-ghost use Rattle.compose_print.specs.Written.{PrintableSome, PrintsText, fromLatchNames, fromInputNames, fromGates, fromConstraints, fromBads, fromLatches, fromInputs, fromHeader};
+ghost use Rattle.compose_gather.specs.Inner.Counts.{CountsListed};
+ghost use Rattle.compose_print.specs.Inner.Written.{PrintableSome, PrintsText, fromLatchNames, fromInputNames, fromGates, fromConstraints, fromBads, fromLatches, fromInputs, fromHeader};
 use compose_gather::Totals;
 use compose_joint::Leaves;
 use compose_layout::Layout;

@@ -36,7 +36,7 @@ use Rattle.witness_read.specs.Comments.{plainComments}
 use Rattle.witness_read.specs.Order.{Body, bodyOf, wellNumbered}
 use Rattle.witness_read.specs.Reading.{namedLatches, sectionsFrom, sectionsOf, afterHeader, readAag, countsIn}
 use Rattle.compose_spec.specs.Printing.{headerLine, symbolLines, closing, tailLines, bodyLines, printed}
-use Rattle.compose_spec.specs.Ranges.{InRange}
+use Rattle.compose_spec.specs.Inner.Ranges.{InRange}
 use Rattle.compose_spec.proofs.NameLaws.{Plain, PlainName, plain-bytes, plain-line}
 use Rattle.compose_spec.proofs.SymbolLaws.{symbolsFrom, symbols-back, name-of-other, name-first, name-later, indices-of-other, indices-once}
 use Rattle.compose_spec.proofs.BodyLaws.{Small, evens, lineLatches, bodyIn, body-back, body-numbered}

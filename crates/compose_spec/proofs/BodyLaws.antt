@@ -27,7 +27,7 @@ use Rattle.witness_read.specs.Sections.{NamedLatch, Sections, leaves, variables
 use Rattle.witness_read.specs.Order.{Body, bodyOf, defines, latchNumbered, gateNumbered, wellNumbered}
 use Rattle.witness_read.specs.Reading.{countsIn}
 use Rattle.compose_spec.specs.Printing.{inputLines, latchLines, literalLines, gateLines, tailLines, bodyLines}
-use Rattle.compose_spec.specs.Ranges.{Within, LatchWithin, InRange, GateAt, GatesFrom}
+use Rattle.compose_spec.specs.Inner.Ranges.{Within, LatchWithin, InRange, GateAt, GatesFrom}
 
 -- a number that a text may have
 abbrev pub Small : ℕ → Type 0

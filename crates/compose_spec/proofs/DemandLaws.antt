@@ -21,7 +21,7 @@ use Rattle.compose_spec.specs.Composing.{mapsRight, composedGates, whole
 use Rattle.compose_spec.specs.Printing.{printed}
 use Rattle.compose_spec.specs.Calling.{readAll, sizes, composeSections, composeTexts, textsIn, composeCall, printedWithin, composeRead}
 use Rattle.compose_spec.specs.Meaning.{Composition}
-use Rattle.compose_spec.specs.Ranges.{InRange}
+use Rattle.compose_spec.specs.Inner.Ranges.{InRange}
 use Rattle.compose_spec.proofs.MeaningLaws.{composed-means}
 use Rattle.compose_spec.proofs.NameLaws.{Granted, read-granted}
 use Rattle.compose_spec.proofs.BackLaws.{read-printed}

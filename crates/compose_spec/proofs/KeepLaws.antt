@@ -21,7 +21,7 @@ use Rattle.compose_spec.specs.Numbering.{Entry, Placed}
 use Rattle.compose_spec.specs.Sharing.{translate}
 use Rattle.compose_spec.specs.Composing.{Defined, definedFrom, definedIn, allDefined, definitionOf, sameDefined, composedLatches, orOutputs, safety, literalsOf}
 use Rattle.compose_spec.specs.Meaning.{Valued, unsafe, constrained, noLatch, LatchKept, LatchesKept, AllLatchesKept}
-use Rattle.compose_spec.specs.Ranges.{Within, LatchWithin}
+use Rattle.compose_spec.specs.Inner.Ranges.{Within, LatchWithin}
 use Rattle.compose_spec.proofs.ShareLaws.{translate-value}
 use Rattle.compose_spec.proofs.WholeLaws.{Matched, Both, Ready}
 

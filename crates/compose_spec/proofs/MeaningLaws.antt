@@ -15,7 +15,7 @@ use Rattle.compose_spec.specs.Numbering.{inputEntries, latchEntries, inp
 use Rattle.compose_spec.specs.Sharing.{gatesAfter, wholeAfter}
 use Rattle.compose_spec.specs.Composing.{Defined, allDefined, definitionOf, sameDefined, agree, composedGates, whole, composed}
 use Rattle.compose_spec.specs.Meaning.{Fixed, Valued, given, Solution, Takes, Keeps, InputsPlaced, Means}
-use Rattle.compose_spec.specs.Ranges.{InRange, GatesFrom}
+use Rattle.compose_spec.specs.Inner.Ranges.{InRange, GatesFrom}
 use Rattle.compose_spec.proofs.SolveLaws.{sections-solved, sections-fixed}
 use Rattle.compose_spec.proofs.ShareLaws.{OperandsFrom, operands-gates}
 use Rattle.compose_spec.proofs.PlacedLaws.{firsts-apart, firsts-owned, Seated, placed-seated, placed-everyone}

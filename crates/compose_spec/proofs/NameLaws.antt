@@ -33,7 +33,7 @@ use Rattle.witness_read.specs.Order.{Body}
 use Rattle.witness_read.specs.Reading.{namedLatches, readAag, countsIn}
 use Rattle.witness_read.proofs.AcceptedLaws.{Parts, body-parts, symbols-tail, read-accepted}
 use Rattle.compose_spec.proofs.RangeLaws.{read-range}
-use Rattle.compose_spec.specs.Ranges.{InRange}
+use Rattle.compose_spec.specs.Inner.Ranges.{InRange}
 
 -- a byte that a line of a witness may have: not above 127, neither 13 nor 10
 abbrev pub plain : ℕ → Bool

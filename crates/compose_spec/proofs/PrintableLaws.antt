@@ -25,7 +25,7 @@ use Rattle.compose_spec.specs.Mapping.{equals, mapsByName, mappingOf, mo
 use Rattle.compose_spec.specs.Numbering.{Entry, sameEntry, private-input, private-latch, privateName, entryOf, entriesFrom, inputsIn, latchesIn, inputEntries, latchEntries, inputFirsts, latchFirsts, Placed, placed, leafCount}
 use Rattle.compose_spec.specs.Sharing.{translate, Operands, gatesFrom}
 use Rattle.compose_spec.specs.Composing.{composedGates, whole, gatesFit, Defined, definedFrom, definedIn, allDefined, definitionOf, composedLatches, safety, literalsOf, composed}
-use Rattle.compose_spec.specs.Ranges.{Within, LatchWithin, InRange}
+use Rattle.compose_spec.specs.Inner.Ranges.{Within, LatchWithin, InRange}
 use Rattle.compose_spec.proofs.ShareLaws.{Low}
 use Rattle.compose_spec.proofs.PlacedLaws.{inputs-in-length, latches-in-length, placed-seated}
 use Rattle.compose_spec.proofs.WholeLaws.{whole-low}

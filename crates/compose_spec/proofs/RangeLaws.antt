@@ -22,7 +22,7 @@ use Rattle.witness_read.specs.Sections.{Sections, leaves, variables}
 use Rattle.witness_read.specs.Order.{Body, defines, latchNumbered, gateNumbered, wellNumbered}
 use Rattle.witness_read.specs.Reading.{namedLatches, sectionsFrom, readAag, countsIn}
 use Rattle.witness_read.proofs.AcceptedLaws.{read-accepted}
-use Rattle.compose_spec.specs.Ranges.{GateAt, GatesFrom, Within, LatchWithin, InRange}
+use Rattle.compose_spec.specs.Inner.Ranges.{GateAt, GatesFrom, Within, LatchWithin, InRange}
 
 -- literals that the reader's test passes are in range
 literals-within : (m : ℕ) (ls : List ℕ) → all (literal m) ls ≡ true → Each (Within m) ls

@@ -17,7 +17,7 @@ use Rattle.aiger.specs.declared.Gate.{Gate}
 use Rattle.aiger.specs.Gates.{variable, Valuation, value, Conjunction}
 use Rattle.aiger.proofs.DefinedLaws.{value-even}
 use Rattle.compose_spec.specs.Sharing.{translate, Operands, sameOperands, unordered, translated, Shared, shareGates, gatesFrom}
-use Rattle.compose_spec.specs.Ranges.{GateAt, GatesFrom}
+use Rattle.compose_spec.specs.Inner.Ranges.{GateAt, GatesFrom}
 use Rattle.compose_spec.proofs.SolveLaws.{output-value}
 
 -- ---- literals

@@ -14,7 +14,7 @@ use Rattle.aiger.specs.Gates.{variable, Valuation, value, Conjunction, Follows}
 use Rattle.aiger.proofs.DefinedLaws.{value-even, value-same}
 use Rattle.witness_read.specs.Sections.{Sections, leaves, variables}
 use Rattle.compose_spec.specs.Meaning.{SameLeaves, Solution}
-use Rattle.compose_spec.specs.Ranges.{GateAt, GatesFrom}
+use Rattle.compose_spec.specs.Inner.Ranges.{GateAt, GatesFrom}
 
 -- the value of a gate's output is that of its variable
 pub output-value : (v : Valuation) (n : ℕ) (g : Gate) → GateAt n g → value v (g .output) ≡ v n

@@ -11,7 +11,7 @@ use Rattle.witness_read.specs.Sections.{variables}
 use Rattle.compose_spec.specs.Numbering.{Placed}
 use Rattle.compose_spec.specs.Sharing.{Operands, Shared, shareWitness, gatesAfter, wholeAfter, gatesFrom}
 use Rattle.compose_spec.specs.Meaning.{Valued, Takes}
-use Rattle.compose_spec.specs.Ranges.{InRange}
+use Rattle.compose_spec.specs.Inner.Ranges.{InRange}
 use Rattle.compose_spec.proofs.ShareLaws.{OperandsFrom, Low, low-more, Sound, sound-shared, shared-goes, gates-solved, Agrees, shared-values}
 use Rattle.compose_spec.proofs.PlacedLaws.{Seated, seated-low}
 

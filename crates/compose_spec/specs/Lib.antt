@@ -2,9 +2,8 @@
 pub mod Mapping
 pub mod Numbering
 pub mod Sharing
-pub mod Keys
 pub mod Composing
-pub mod Ranges
 pub mod Printing
 pub mod Calling
 pub mod Meaning
+pub mod Inner

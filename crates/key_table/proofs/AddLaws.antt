@@ -16,7 +16,7 @@ use Rattle.lists.specs.Parts.{put}
 use Rattle.lists.proofs.BoolLaws.{to-false, below-or}
 use Rattle.lists.proofs.FirstLaws.{place-inside, place-outside}
 use Rattle.lists.proofs.PartLaws.{put-three, put-length, put-before, put-inside}
-use Rattle.key_table.specs.Table.{mixOf, headOf, codeOf, nodeAt, nodeOf, Passes, Reached, Leads, Held, Walked, Finds}
+use Rattle.key_table.specs.Inner.Table.{mixOf, headOf, codeOf, nodeAt, nodeOf, Passes, Reached, Leads, Held, Walked, Finds}
 use Rattle.key_table.proofs.PlaceLaws.{place-at, any-at}
 use Rattle.key_table.proofs.PathLaws.{path-same}
 use Rattle.key_table.proofs.HeldLaws.{leads-none, Extends, comes-stands, comes-kept}

@@ -3,7 +3,7 @@ use mathlib.Core.Path.{_≡_, refl}
 use mathlib.Core.List.{[], _∷_}
 use lib.Dec.{eqb}
 use Rattle.lists.specs.Firsts.{place, joined}
-use Rattle.key_table.specs.Table.{mixOf, headOf, codeOf, linkFrom}
+use Rattle.key_table.specs.Inner.Table.{mixOf, headOf, codeOf, linkFrom}
 use Rattle.key_table.proofs.AddLaws.{withNode}
 
 -- a key that appears again gets its first number, and is not added again

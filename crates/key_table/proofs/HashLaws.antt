@@ -2,7 +2,7 @@
 use Prim.Native.Nat.{ℕ, _+_, _*_, _/_, _%_, _<_, _≤_}
 use native.Mathlib.Omega.{arith}
 use native.Mathlib.Nat.{div-lt-iff-lt-mul, mul-lt-mul-of-pos-right, mul-le-mul, mul-comm}
-use Rattle.key_table.specs.Table.{headOf}
+use Rattle.key_table.specs.Inner.Table.{headOf}
 
 scaled-below : (m heads : ℕ) → m < 4294967296 → 0 < heads → m * heads / 4294967296 < heads
 scaled-below m heads p h =

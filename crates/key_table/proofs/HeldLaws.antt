@@ -7,7 +7,7 @@ use lib.ListN.{length, getD, take}
 use lib.Seq.{getD-take}
 use Rattle.lists.specs.Parts.{zeros}
 use Rattle.lists.proofs.ZeroLaws.{zeros-at}
-use Rattle.key_table.specs.Table.{mixOf, headOf, codeOf, nodeAt, nodeFrom, linkFrom, Passes, Path, Comes, Leads, Held, Searchable, Walked, Holding}
+use Rattle.key_table.specs.Inner.Table.{mixOf, headOf, codeOf, nodeAt, nodeFrom, linkFrom, Passes, Path, Comes, Leads, Held, Searchable, Walked, Holding}
 use Rattle.key_table.proofs.HashLaws.{head-below}
 use Rattle.key_table.proofs.PathLaws.{path-more}
 

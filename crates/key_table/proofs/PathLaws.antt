@@ -2,7 +2,7 @@
 use Prim.Native.Nat.{ℕ, zero, suc, _/_}
 use mathlib.Core.Path.{_≡_, refl, sym, subst, _∙_}
 use mathlib.Core.List.{List}
-use Rattle.key_table.specs.Table.{Passes, Path, linkFrom}
+use Rattle.key_table.specs.Inner.Table.{Passes, Path, linkFrom}
 
 module _ (heads key : ℕ) (t : List ℕ) where
   pub path-more : (n a c z d : ℕ) → Path heads key t n a c z d → Passes heads key t z → Path heads key t (suc n) a c (linkFrom heads t z d) (d / 2)

@@ -1,2 +1,2 @@
 -- The table that finds a gate by its operands.
-pub mod Table
+pub mod Inner

@@ -4,7 +4,7 @@ ghost use mathlib.Core.Path.{_≡_};
 ghost use Prim.Native.Nat.{_+_, _<_, _≤_};
 ghost use lib.ListN.{length, set};
 ghost use Rattle.lists.specs.Parts.{put};
-ghost use Rattle.key_table.specs.Table.{mixOf, headOf, codeOf, nodeOf, Searchable, Walked, Holding, Finds};
+ghost use Rattle.key_table.specs.Inner.Table.{mixOf, headOf, codeOf, nodeOf, Searchable, Walked, Holding, Finds};
 use lists::index;
 
 // The halves of a key, mixed.

@@ -26,7 +26,7 @@ use Rattle.model.specs.declared.Verdict.the-variants.{Valid, Refused}
 use Rattle.model.specs.Circuit.{Circuit, circuitOf, currentOf, nextOf, leavesOf, nextsOf, recordFrom}
 use Rattle.model.specs.Limits.{counted, wellDefined}
 use Rattle.model.specs.Checked.{checked, judged, countsOf, Validates}
-use Rattle.model.specs.Marking.{leavesFrom, literalsFrom, AddsLeaves, AddsGates, Checkable, limits, passed}
+use Rattle.model.specs.Inner.Marking.{leavesFrom, literalsFrom, AddsLeaves, AddsGates, Checkable, limits, passed}
 use Rattle.model.proofs.MarkingLaws.{marking-none, adds-both, adds-lost}
 
 -- ---- the definitions of a record

@@ -22,7 +22,7 @@ use Rattle.aiger.specs.declared.Gate.{Gate}
 use Rattle.aiger.specs.Gates.{variable, outputOf, gateFrom}
 use Rattle.aiger.specs.Defined.{defining, ordered, definitions, defined}
 use Rattle.aiger.proofs.DefinedLaws.{defines}
-use Rattle.model.specs.Marking.{Marking, AddsLeaves, AddsGate, AddsGates}
+use Rattle.model.specs.Inner.Marking.{Marking, AddsLeaves, AddsGate, AddsGates}
 
 -- ---- one more definition
 

@@ -13,7 +13,7 @@ ghost use Rattle.aiger.specs.Defined.{literal, defining, ordered, defined};
 ghost use Rattle.model.specs.Circuit.{currentOf, nextOf, recordFrom};
 ghost use Rattle.model.specs.Limits.{counted};
 ghost use Rattle.model.specs.Checked.{countsOf, Validates};
-ghost use Rattle.model.specs.Marking.{AddsLeaves, AddsGate, AddsGates, Checkable, leavesFrom, literalsFrom, limits, passed};
+ghost use Rattle.model.specs.Inner.Marking.{AddsLeaves, AddsGate, AddsGates, Checkable, leavesFrom, literalsFrom, limits, passed};
 use aiger::Gate;
 
 pub mod words;

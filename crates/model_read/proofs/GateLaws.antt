@@ -17,12 +17,12 @@ use Rattle.aiger.specs.Gates.{gateWords}
 use Rattle.aiger.specs.Defined.{defined}
 use Rattle.aiger.specs.Sections.{section}
 use Rattle.aiger.proofs.SectionLaws.{Taking, taking-none, taking-more, taking-bad, taking-done, same-items, no-section}
-use Rattle.model.specs.Marking.{AddsGate, AddsGates}
+use Rattle.model.specs.Inner.Marking.{AddsGate, AddsGates}
 use Rattle.model.proofs.MarkingLaws.{marking-gate-lost}
 use Rattle.circuit_lines.specs.declared.TakenGate.{TakenGate}
 use Rattle.circuit_lines.specs.SectionLines.{gateLine}
-use Rattle.circuit_lines.specs.Places.{linesFrom, TakesGate}
-use Rattle.model_read.specs.Passes.{AddsNext, Found, Writes}
+use Rattle.circuit_lines.specs.Inner.Takes.{linesFrom, TakesGate}
+use Rattle.model_read.specs.Inner.Passes.{AddsNext, Found, Writes}
 use Rattle.circuit_lines.specs.declared.TakenGate.the-variants as gate
 
 -- ---- one more gate

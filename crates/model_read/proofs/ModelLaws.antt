@@ -15,12 +15,12 @@ use Rattle.model.specs.declared.Verdict.the-variants.{Valid, Refused}
 use Rattle.model.specs.Circuit.{Circuit, circuitOf, leavesOf}
 use Rattle.model.specs.Limits.{wellDefined}
 use Rattle.model.specs.Checked.{countsOf}
-use Rattle.model.specs.Marking.{Marking, AddsLeaves, leavesFrom, literalsFrom}
+use Rattle.model.specs.Inner.Marking.{Marking, AddsLeaves, leavesFrom, literalsFrom}
 use Rattle.model.proofs.MarkingLaws.{marking-none}
 use Rattle.model.proofs.CheckedLaws.{defined-fails, literals-left}
-use Rattle.circuit_lines.specs.Places.{linesFrom}
+use Rattle.circuit_lines.specs.Inner.Takes.{linesFrom}
 use Rattle.model_read.specs.declared.GateCheck.{GateCheck}
-use Rattle.model_read.specs.Passes.{verdictOf, Found, ChecksGates, withGates, gatesOf}
+use Rattle.model_read.specs.Inner.Passes.{verdictOf, Found, ChecksGates, withGates, gatesOf}
 use Rattle.model_read.specs.declared.GateCheck.the-variants as check
 
 module _ (s : Bytes) (p : Cursor) (m : AigerTransition) (n : Counts) (same : n ≡ countsOf m) (w : List ℕ) (h : m .«max_variable» < length w) (z : w ≡ zeros (length w)) (w₁ : List ℕ) (fine : Bool)

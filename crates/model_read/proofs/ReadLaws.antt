@@ -30,12 +30,12 @@ use Rattle.model_text.specs.declared.ModelHeader.{ModelHeader}
 use Rattle.circuit_lines.specs.declared.SectionEnd.{SectionEnd}
 use Rattle.circuit_lines.specs.SectionLines.{literalLine, gateLine}
 use Rattle.model_text.specs.ModelLines.{latchLine}
-use Rattle.circuit_lines.specs.Places.{linesFrom}
+use Rattle.circuit_lines.specs.Inner.Takes.{linesFrom}
 use Rattle.model_text.specs.Header.{headerOf}
-use Rattle.model_text.specs.Places.{Headed, TakesCounts}
+use Rattle.model_text.specs.Inner.Takes.{Headed, TakesCounts}
 use Rattle.model_read.specs.declared.ReadTransition.{ReadTransition}
 use Rattle.model_read.specs.Reading.{sectionsOf, modelOf, bodyOf, readTransition, readOf, gatesAfter, Reads}
-use Rattle.model_read.specs.Passes.{verdictOf, Started, startOf, withGates, recordWith, Starts, TakesStart, Writes, gatesOf, Readable}
+use Rattle.model_read.specs.Inner.Passes.{verdictOf, Started, startOf, withGates, recordWith, Starts, TakesStart, Writes, gatesOf, Readable}
 use Rattle.model_text.specs.declared.ModelHeader.the-variants as header
 use Rattle.circuit_lines.specs.declared.SectionEnd.the-variants as section-end
 

@@ -21,9 +21,9 @@ use Rattle.circuit_lines.specs.declared.SectionEnd.{SectionEnd}
 use Rattle.model_text.specs.declared.TakenLatches.{TakenLatches}
 use Rattle.circuit_lines.specs.SectionLines.{literalLine}
 use Rattle.model_text.specs.ModelLines.{latchLine}
-use Rattle.circuit_lines.specs.Places.{linesFrom, Takes}
-use Rattle.model_text.specs.Places.{TakesLatches}
-use Rattle.model_read.specs.Passes.{TakesLiterals, startOf, recordWith, TakesStart}
+use Rattle.circuit_lines.specs.Inner.Takes.{linesFrom, Takes}
+use Rattle.model_text.specs.Inner.Takes.{TakesLatches}
+use Rattle.model_read.specs.Inner.Passes.{TakesLiterals, startOf, recordWith, TakesStart}
 use Rattle.circuit_lines.specs.declared.SectionEnd.the-variants as section-end
 
 -- the part of an array of zeros that is lent is as long as the section

@@ -21,7 +21,7 @@ use Rattle.model_step.specs.declared.Outcome.{Outcome}
 use Rattle.model_step.specs.declared.Stepped.{Stepped}
 use Rattle.model_step.specs.declared.Stepped.the-variants.{Done, Refused}
 use Rattle.model_step.specs.Step.{stepOf, answerOf, stepValues, outcomeUnder}
-use Rattle.model_step.specs.Runnable.{Runnable}
+use Rattle.model_step.specs.Inner.Runnable.{Runnable}
 use Rattle.model_step.proofs.RunnableLaws.{IsModel, runnable}
 use Rattle.model.specs.declared.Verdict.the-variants as verdict
 

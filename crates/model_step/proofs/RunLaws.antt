@@ -15,8 +15,8 @@ use Rattle.model.specs.declared.AigerTransition.{AigerTransition}
 use Rattle.model.specs.Circuit.{circuitOf, currentOf, nextOf}
 use Rattle.model_step.specs.declared.Outcome.{Outcome}
 use Rattle.model_step.specs.Step.{start, assigned, computed, stepValues, outcomeUnder}
-use Rattle.model_step.specs.Stored.{held, Stored, Becomes, Inside, InsideGate, Readable, readings}
-use Rattle.model_step.specs.Runnable.{Runnable}
+use Rattle.model_step.specs.Inner.Stored.{held, Stored, Becomes, Inside, InsideGate, Readable, readings}
+use Rattle.model_step.specs.Inner.Runnable.{Runnable}
 use Rattle.model_step.proofs.StepLaws.{values-stored}
 
 -- "All values start false"

@@ -21,8 +21,8 @@ use Rattle.model.specs.Limits.{wellDefined}
 use Rattle.model.specs.Checked.{checked, countsOf, judged}
 use Rattle.model.proofs.CountLaws.{counted-facts}
 use Rattle.model.proofs.ValueLaws.{Literals, well-facts, checked-got}
-use Rattle.model_step.specs.Stored.{Inside, InsideGate}
-use Rattle.model_step.specs.Runnable.{Runnable}
+use Rattle.model_step.specs.Inner.Stored.{Inside, InsideGate}
+use Rattle.model_step.specs.Inner.Runnable.{Runnable}
 
 -- where each literal of a model has one of n words
 record InsideModel (n : ℕ) (c : Circuit) : Type 0 where

@@ -23,7 +23,7 @@ use Rattle.aiger.specs.Gates.{variable, Valuation, value, gateFrom}
 use Rattle.aiger.proofs.DefinedLaws.{value-same}
 use Rattle.model_step.specs.declared.Outcome.{Outcome}
 use Rattle.model_step.specs.Step.{assign, assigned, computed}
-use Rattle.model_step.specs.Stored.{held, Stored, Becomes, Inside, InsideGate, Readable, readings}
+use Rattle.model_step.specs.Inner.Stored.{held, Stored, Becomes, Inside, InsideGate, Readable, readings}
 
 -- ---- value_of
 

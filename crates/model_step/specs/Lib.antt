@@ -1,4 +1,3 @@
 -- Item 6 of 01: one step of a transition model.
 pub mod Step
-pub mod Stored
-pub mod Runnable
+pub mod Inner

@@ -22,17 +22,17 @@ use Rattle.model.specs.declared.Verdict.{Verdict}
 use Rattle.model.specs.declared.Verdict.the-variants.{Valid, Refused}
 use Rattle.model.specs.Circuit.{recordFrom, currentOf}
 use Rattle.model.specs.Checked.{countsOf}
-use Rattle.model.specs.Marking.{Marking, AddsLeaves, leavesFrom, limits, passed}
+use Rattle.model.specs.Inner.Marking.{Marking, AddsLeaves, leavesFrom, limits, passed}
 use Rattle.model.specs.RecordWords.{countsIn, latchesIn, recordIn}
 use Rattle.model.proofs.CheckedLaws.{limits-facts, limits-refuse, limits-passed}
 use Rattle.model.proofs.MarkingLaws.{marking-none}
 use Rattle.model.proofs.WordsLaws.{latches-length}
 use Rattle.model_step.specs.Step.{assigned, stepOf}
-use Rattle.model_step.specs.Stored.{Becomes, Inside}
+use Rattle.model_step.specs.Inner.Stored.{Becomes, Inside}
 use Rattle.model_step.proofs.EvaluateLaws.{step-state, step-word, step-done, inputs-few}
 use Rattle.model_step.proofs.RunLaws.{run-currents, run-inputs, run-loaded}
 use Rattle.model_step_records.specs.declared.Pass.{Pass}
-use Rattle.model_step_records.specs.Passing.{refusing, left, Stands, Valued, Values}
+use Rattle.model_step_records.specs.Inner.Passing.{refusing, left, Stands, Valued, Values}
 use Rattle.model_step_records.proofs.PassLaws.{words, records-count, is-model, runs, stands-refusing, refused-check, all-defined, not-defined, lost}
 
 -- ---- compute

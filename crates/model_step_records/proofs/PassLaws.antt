@@ -18,16 +18,16 @@ use Rattle.aiger.specs.Defined.{defined}
 use Rattle.model.specs.declared.AigerTransition.{AigerTransition}
 use Rattle.model.specs.declared.Verdict.the-variants.{Valid, Refused}
 use Rattle.model.specs.Checked.{checked, countsOf}
-use Rattle.model.specs.Marking.{Marking, leavesFrom, limits}
+use Rattle.model.specs.Inner.Marking.{Marking, leavesFrom, limits}
 use Rattle.model.proofs.CheckedLaws.{check-fails, check-holds}
 use Rattle.model.proofs.MarkingLaws.{gates-lost}
 use Rattle.model_step.specs.Step.{stepOf}
-use Rattle.model_step.specs.Stored.{InsideGate}
-use Rattle.model_step.specs.Runnable.{Runnable}
+use Rattle.model_step.specs.Inner.Stored.{InsideGate}
+use Rattle.model_step.specs.Inner.Runnable.{Runnable}
 use Rattle.model_step.proofs.EvaluateLaws.{step-invalid, step-room}
 use Rattle.model_step.proofs.RunnableLaws.{IsModel, runnable, runnable-more}
 use Rattle.model_step_records.specs.declared.Pass.{Pass}
-use Rattle.model_step_records.specs.Passing.{refusing, left, Modelled, Stands}
+use Rattle.model_step_records.specs.Inner.Passing.{refusing, left, Modelled, Stands}
 
 -- an element of a list, whatever stands past its end
 pub here-same : {A : Type 0} (l : List A) (i : ℕ) (d e : A) → i < length l → getD l i d ≡ getD l i e

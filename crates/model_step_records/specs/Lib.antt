@@ -1,2 +1,2 @@
 -- Item 6 of 01 over a lent list of records.
-pub mod Passing
+pub mod Inner

@@ -8,7 +8,7 @@ ghost use Rattle.lists.specs.Words.{wordsOf};
 ghost use Rattle.aiger.specs.Gates.{gateWords};
 ghost use Rattle.model.specs.RecordWords.{recordIn};
 ghost use Rattle.model_step.specs.Step.{stepOf, answerOf};
-ghost use Rattle.model_step_records.specs.Passing.{refusing, further, Begins, Valued, Values, Taking, Takes, Ending, Finishes};
+ghost use Rattle.model_step_records.specs.Inner.Passing.{refusing, further, Begins, Valued, Values, Taking, Takes, Ending, Finishes};
 use aiger::Gate;
 use model::Verdict;
 use model::words;

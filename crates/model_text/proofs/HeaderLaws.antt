@@ -14,11 +14,11 @@ use Rattle.text.specs.Lines.{linesOf}
 use Rattle.model.specs.declared.Counts.{Counts}
 use Rattle.circuit_lines.specs.declared.HeaderCount.{HeaderCount}
 use Rattle.circuit_lines.specs.SectionLines.{firstNumbers}
-use Rattle.circuit_lines.specs.Inner.{atMost}
-use Rattle.circuit_lines.specs.Places.{Headed, TakesHeaderNumbers}
+use Rattle.circuit_lines.specs.Inner.OneLine.{atMost}
+use Rattle.circuit_lines.specs.Inner.Takes.{Headed, TakesHeaderNumbers}
 use Rattle.circuit_lines.proofs.NumbersLaws.{stored-all, stored-length}
 use Rattle.model_text.specs.Header.{countsFrom, fiveCounts, headerOf}
-use Rattle.model_text.specs.Places.{TakesCounts}
+use Rattle.model_text.specs.Inner.Takes.{TakesCounts}
 use Rattle.circuit_lines.specs.declared.HeaderCount.the-variants as numbers
 use Rattle.model_text.specs.declared.ModelHeader.the-variants as header
 

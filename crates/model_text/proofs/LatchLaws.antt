@@ -25,8 +25,8 @@ use Rattle.text.proofs.LiteralLaws.{Writes, WritesNone, fields-missing, fields-
 use Rattle.model.specs.declared.AigerLatch.{AigerLatch}
 use Rattle.model_text.specs.declared.ReadLatch.{ReadLatch}
 use Rattle.model_text.specs.ModelLines.{isNumber, initializer, latchFields, latchLine}
-use Rattle.model_text.specs.Places.{TakesLatch}
-use Rattle.model_text.specs.Inner.{latchAnswer, initializers}
+use Rattle.model_text.specs.Inner.Takes.{TakesLatch}
+use Rattle.model_text.specs.Inner.OneLine.{latchAnswer, initializers}
 use Rattle.circuit_lines.proofs.PlaceLaws.{one-none, one-bad, one-got}
 use Rattle.text.specs.declared.Line.the-variants as line
 use Rattle.text.specs.declared.Field.the-variants as field

@@ -9,10 +9,10 @@ use Rattle.text.specs.declared.Cursor.{Cursor}
 use Rattle.aiger.proofs.SectionLaws.{Storing, storing-none, storing-more, storing-bad, storing-done}
 use Rattle.model.specs.declared.AigerLatch.{AigerLatch}
 use Rattle.model.specs.Circuit.{noLatch}
-use Rattle.circuit_lines.specs.Places.{linesFrom}
+use Rattle.circuit_lines.specs.Inner.Takes.{linesFrom}
 use Rattle.model_text.specs.declared.TakenLatch.{TakenLatch}
 use Rattle.model_text.specs.ModelLines.{latchLine}
-use Rattle.model_text.specs.Places.{TakesLatch, TakesLatches}
+use Rattle.model_text.specs.Inner.Takes.{TakesLatch, TakesLatches}
 use Rattle.circuit_lines.specs.declared.SectionEnd.the-variants as section-end
 use Rattle.model_text.specs.declared.TakenLatch.the-variants as latch
 

@@ -1,5 +1,4 @@
 -- Item 5 of 01: the header and the section lines of a transition text.
 pub mod Header
 pub mod ModelLines
-pub mod Places
 pub mod Inner

@@ -11,7 +11,7 @@ use Rattle.compose.specs.declared.Composed.the-variants as composed
 use Rattle.compose.specs.Promise.{composedAnswer, Composes}
 use Rattle.nitrasovy.specs.declared.compositions.NitComposed.{NitComposed}
 use Rattle.nitrasovy.specs.Reasons.{composeReasons, Among}
-use Rattle.nitrasovy.specs.Inner.{flatBytes}
+use Rattle.nitrasovy.specs.Inner.FlatEnums.{flatBytes}
 use Rattle.nitrasovy.specs.FlatCompositions.{flatComposed, ComposesFlat}
 use Rattle.nitrasovy.proofs.ReasonLaws.{no-reason}
 use Rattle.nitrasovy.proofs.CallReasons.{compose-among}

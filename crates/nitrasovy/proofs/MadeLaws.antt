@@ -11,14 +11,13 @@ use Rattle.model.specs.declared.Counts.{Counts}
 use Rattle.model.specs.Circuit.{recordFrom}
 use Rattle.model.specs.RecordWords.{countsIn, latchesIn, recordIn}
 use Rattle.obligation_spec.specs.Lists.{outcomesOf}
-use Rattle.obligation_spec.specs.Calls.{Asked, circuit, predicate}
-use Rattle.obligation_check.specs.Boundary.{askedOf}
+use Rattle.obligation_spec.specs.Calls.{Asked, circuit, predicate, askedOf}
 use Rattle.obligation_spec.specs.Meaning.{RowMeans, TerminalMeans, ToTarget, ToOutcome}
 use Rattle.obligation.specs.declared.Made.{Made}
 use Rattle.obligation.specs.Promise.{answerOf, sizes, Buffers, lentOf, Makes, clausesAfter, MakesRelation, MakesTransducer, MakesTerminal}
 use Rattle.nitrasovy.specs.declared.obligations.NitMade.{NitMade}
 use Rattle.nitrasovy.specs.Reasons.{madeReasons, Among}
-use Rattle.nitrasovy.specs.Inner.{flatCounts}
+use Rattle.nitrasovy.specs.Inner.FlatEnums.{flatCounts}
 use Rattle.nitrasovy.specs.FlatObligations.{flatMade, MakesFlat, clausesFlat, RelationFlat, TransducerFlat, TerminalFlat}
 use Rattle.nitrasovy.proofs.ReasonLaws.{no-reason}
 use Rattle.nitrasovy.proofs.ModelLaws.{of-words}

@@ -16,7 +16,7 @@ use Rattle.model_step.specs.declared.Stepped.{Stepped}
 use Rattle.model_step.specs.Step.{stepOf, answerOf}
 use Rattle.nitrasovy.specs.declared.models.NitRead.{NitRead}
 use Rattle.nitrasovy.specs.declared.models.NitStepped.{NitStepped}
-use Rattle.nitrasovy.specs.Inner.{reasonOf}
+use Rattle.nitrasovy.specs.Inner.FlatEnums.{reasonOf}
 use Rattle.nitrasovy.specs.FlatModels.{flatRead, flatStep, ReadsFlat, StepsFlat}
 use Rattle.nitrasovy.proofs.CallReasons.{read-among, step-among}
 

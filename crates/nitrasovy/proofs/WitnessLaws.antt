@@ -8,7 +8,7 @@ use Rattle.witness_read.specs.declared.ReadAag.{ReadAag}
 use Rattle.witness_read.specs.Sections.{Sections}
 use Rattle.witness_read.specs.Reading.{readAag, countsRead}
 use Rattle.nitrasovy.specs.declared.witnesses.NitWitness.{NitWitness}
-use Rattle.nitrasovy.specs.Inner.{flatCounts}
+use Rattle.nitrasovy.specs.Inner.FlatEnums.{flatCounts}
 use Rattle.nitrasovy.specs.FlatWitnesses.{flatWitness, CountsFlat}
 use Rattle.nitrasovy.proofs.CallReasons.{witness-among}
 

@@ -1,6 +1,6 @@
 // The composer.
 ghost use mathlib.Core.Path.{_≡_};
-ghost use Rattle.nitrasovy.specs.Inner.{flatBytes};
+ghost use Rattle.nitrasovy.specs.Inner.FlatEnums.{flatBytes};
 ghost use Rattle.nitrasovy.specs.FlatCompositions.{ComposesFlat};
 use compose::Composed;
 

@@ -1,6 +1,6 @@
 // `take_literal` over a cursor that is lent (item 2 of 01).
 ghost use mathlib.Core.Path.{_≡_};
-ghost use Rattle.nitrasovy.specs.Inner.{flatMoved};
+ghost use Rattle.nitrasovy.specs.Inner.FlatEnums.{flatMoved};
 ghost use Rattle.nitrasovy.specs.FlatLiterals.{literalFrom, TakesFlat};
 use text::Cursor;
 use text::Literal;

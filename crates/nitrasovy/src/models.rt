@@ -4,7 +4,7 @@ ghost use lib.ListN.{length};
 ghost use Rattle.model.specs.RecordWords.{recordIn};
 ghost use Rattle.model_read.specs.Reading.{readTransition};
 ghost use Rattle.model_step.specs.Step.{stepOf, answerOf};
-ghost use Rattle.nitrasovy.specs.Inner.{reasonOf};
+ghost use Rattle.nitrasovy.specs.Inner.FlatEnums.{reasonOf};
 ghost use Rattle.nitrasovy.specs.FlatModels.{flatStep, ReadsFlat, StepsFlat};
 use model::AigerTransition;
 use model::Verdict;

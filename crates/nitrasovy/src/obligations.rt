@@ -1,9 +1,9 @@
 // The obligations: rows, rows with outputs, and terminal lists. A model is lent as the words of its memory.
 ghost use mathlib.Core.Path.{_≡_};
 ghost use Rattle.model.specs.RecordWords.{recordIn};
-ghost use Rattle.obligation_check.specs.Boundary.{askedOf};
+ghost use Rattle.obligation_spec.specs.Calls.{askedOf};
 ghost use Rattle.obligation.specs.Promise.{answerOf, buffersOf};
-ghost use Rattle.nitrasovy.specs.Inner.{flatCounts};
+ghost use Rattle.nitrasovy.specs.Inner.FlatEnums.{flatCounts};
 ghost use Rattle.nitrasovy.specs.FlatObligations.{RelationFlat, TransducerFlat, TerminalFlat};
 use model::words;
 use obligation::Made;

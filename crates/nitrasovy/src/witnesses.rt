@@ -2,7 +2,7 @@
 ghost use mathlib.Core.Path.{_≡_};
 ghost use Rattle.text.specs.Texts.{limited};
 ghost use Rattle.witness_read.specs.Reading.{readAag};
-ghost use Rattle.nitrasovy.specs.Inner.{flatCounts};
+ghost use Rattle.nitrasovy.specs.Inner.FlatEnums.{flatCounts};
 ghost use Rattle.nitrasovy.specs.FlatWitnesses.{CountsFlat};
 use witness_read::ReadAag;
 

@@ -10,21 +10,21 @@ use Rattle.lists.specs.Words.{wordsOf}
 use Rattle.lists.proofs.MapLaws.{map-take}
 use Rattle.model.specs.Circuit.{currentOf, nextOf, currentsOf, nextsOf}
 use Rattle.model.proofs.ValueLaws.{Sized}
-use Rattle.word_sort.specs.Sorted.{sorted}
+use Rattle.word_sort.specs.Inner.Sorted.{sorted}
 use Rattle.cnf.specs.Clauses.{Clause}
 use Rattle.cnf.specs.Simplified.{opposite, simplified}
 use Rattle.cnf.proofs.AppendLaws.{same-words}
 use Rattle.obligation_spec.specs.Lists.{targetList, outcomeList, stateList, differing, outputBits, relationClauses, transducerClauses, terminalClauses, outcomesOf}
 use Rattle.obligation_spec.specs.Limits.{statesClaimed, outcomesClaimed}
 use Rattle.obligation_spec.specs.Calls.{Asked, circuit, predicate}
-use Rattle.obligation_gates.specs.Encoding.{Low}
+use Rattle.obligation_gates.specs.Inner.Encoding.{Low}
 use Rattle.obligation_gates.proofs.PredicateLaws.{low-at, opposite-low}
-use Rattle.obligation_claims.specs.Claims.{keysFrom, outcomeKeys, stateClaims, outcomeClaims}
-use Rattle.obligation_claims.specs.Filling.{InOrder}
+use Rattle.obligation_claims.specs.Inner.Claims.{keysFrom, outcomeKeys, stateClaims, outcomeClaims}
+use Rattle.obligation_claims.specs.Inner.Filling.{InOrder}
 use Rattle.obligation_claims.proofs.ClaimLaws.{state-clauses, outcome-clauses}
 use Rattle.obligation_claims.proofs.KeyLaws.{picked-low}
 use Rattle.obligation.specs.declared.Made.{Made}
-use Rattle.obligation.specs.Appended.{partsOf, claimedOf, allLists, Ready, Asks, MakesAll}
+use Rattle.obligation.specs.Inner.Appended.{partsOf, claimedOf, allLists, Ready, Asks, MakesAll}
 use Rattle.obligation.proofs.ListLaws.{relation-is, transducer-is, terminal-is}
 use Rattle.obligation.proofs.ReadyLaws.{low-nexts, low-currents, low-outputs, few-nexts, few-currents, row-ready, terminal-ready, few-states, few-outcomes, few-observed, states-ready, outcomes-ready}
 

@@ -14,12 +14,12 @@ use Rattle.model.specs.Circuit.{Circuit, recordFrom}
 use Rattle.model.specs.Checked.{checked, countsOf, judged}
 use Rattle.model.proofs.ValueLaws.{Sized}
 use Rattle.obligation_spec.specs.Limits.{bounded}
-use Rattle.obligation_spec.specs.Calls.{Asked, circuit, Lent, asked, relationRow, transducerRow, terminalList}
-use Rattle.obligation_check.specs.Boundary.{askedOf, Checks}
+use Rattle.obligation_spec.specs.Calls.{Asked, circuit, Lent, asked, relationRow, transducerRow, terminalList, askedOf}
+use Rattle.obligation_check.specs.Inner.Boundary.{Checks}
 use Rattle.obligation.specs.declared.Made.{Made}
 use Rattle.obligation.specs.declared.Made.the-variants.{Refused}
 use Rattle.obligation.specs.Promise.{Buffers, buffersOf, lentOf, MakesRelation, MakesTransducer, MakesTerminal}
-use Rattle.obligation.specs.Appended.{roomOf, Asks, Continues, relationAfter, transducerAfter, terminalAfter}
+use Rattle.obligation.specs.Inner.Appended.{roomOf, Asks, Continues, relationAfter, transducerAfter, terminalAfter}
 use Rattle.obligation.proofs.PromiseLaws.{relation-promise, transducer-promise, terminal-promise, makes-refused, makes-rest}
 
 -- ---- where the check accepts

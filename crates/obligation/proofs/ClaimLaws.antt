@@ -12,10 +12,10 @@ use Rattle.cnf.specs.Clauses.{Clause}
 use Rattle.obligation_spec.specs.Lists.{outcomesOf, relationClauses, transducerClauses, terminalClauses}
 use Rattle.obligation_spec.specs.Limits.{isState, statesClaimed, outcomesClaimed}
 use Rattle.obligation_spec.specs.Calls.{Asked, circuit, predicate, within}
-use Rattle.obligation_check.specs.Boundary.{IsState, ClaimsStates, ClaimsOutcomes}
+use Rattle.obligation_check.specs.Inner.Boundary.{IsState, ClaimsStates, ClaimsOutcomes}
 use Rattle.obligation.specs.declared.Made.{Made}
 use Rattle.obligation.specs.declared.Made.the-variants.{Refused}
-use Rattle.obligation.specs.Appended.{roomOf, Asks, ClaimsOf, Continues, MakesAll, relationAfter, transducerAfter, terminalAfter}
+use Rattle.obligation.specs.Inner.Appended.{roomOf, Asks, ClaimsOf, Continues, MakesAll, relationAfter, transducerAfter, terminalAfter}
 use Rattle.obligation.proofs.ReadyLaws.{many}
 
 -- ---- two tests, and what is left

@@ -11,12 +11,12 @@ use Rattle.lists.proofs.WordLaws.{pairs-count, triples-count, words-length}
 use Rattle.aiger.specs.Gates.{gateFrom}
 use Rattle.cnf.specs.declared.ClauseCounts.{ClauseCounts}
 use Rattle.cnf.specs.Clauses.{clausesIn}
-use Rattle.cnf.specs.Appending.{Appends, Space}
+use Rattle.cnf.specs.Inner.Appending.{Appends, Space}
 use Rattle.cnf.proofs.AppendLaws.{appends-then, space-empty, space-less, space-left}
 use Rattle.obligation_spec.specs.Lists.{sourceLists, predicateLiteral, gateLists}
 use Rattle.obligation_gates.proofs.SourceLaws.{count}
-use Rattle.obligation_claims.specs.Claims.{claimList, stateClaims, outcomeClaims}
-use Rattle.obligation.specs.Appended.{Parts, Claimed, claimedOf, frontLists, claimLists, allLists, claimCount, FrontReady, ClaimsReady, empty}
+use Rattle.obligation_claims.specs.Inner.Claims.{claimList, stateClaims, outcomeClaims}
+use Rattle.obligation.specs.Inner.Appended.{Parts, Claimed, claimedOf, frontLists, claimLists, allLists, claimCount, FrontReady, ClaimsReady, empty}
 
 module _ (p : Parts) (f : FrontReady p) where
   abbrev sources : List (List ℕ)

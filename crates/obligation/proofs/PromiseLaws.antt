@@ -11,14 +11,14 @@ use Rattle.lists.proofs.AnswerLaws.{andThen-got, got-same}
 use Rattle.model.proofs.ValueLaws.{Sized}
 use Rattle.cnf.specs.declared.ClauseCounts.{ClauseCounts}
 use Rattle.cnf.specs.Clauses.{Clause, literalsOf, pairsFrom, returned}
-use Rattle.cnf.specs.Appending.{Holding}
+use Rattle.cnf.specs.Inner.Appending.{Holding}
 use Rattle.cnf.proofs.AppendLaws.{holding-pairs, holding-words}
 use Rattle.obligation_spec.specs.Calls.{Asked, within, relationRow, transducerRow, terminalList}
 use Rattle.obligation_spec.proofs.ReturnedLaws.{inBuffers, relation-returned, transducer-returned, terminal-returned}
 use Rattle.obligation.specs.declared.Made.{Made}
 use Rattle.obligation.specs.declared.Made.the-variants.{Clauses, Refused}
 use Rattle.obligation.specs.Promise.{answerOf, sizes, pairsAfter, literalsAfter, Buffers, lentOf, Makes, clausesAfter, MakesRelation, MakesTransducer, MakesTerminal}
-use Rattle.obligation.specs.Appended.{roomOf, Continues, MakesAll}
+use Rattle.obligation.specs.Inner.Appended.{roomOf, Continues, MakesAll}
 
 -- ---- an accepted answer: its clauses are those in the buffers at exit
 

@@ -16,14 +16,14 @@ use Rattle.obligation_spec.specs.Limits.{statesClaimed, outcomesClaimed}
 use Rattle.obligation_spec.specs.Lists.{outcomesOf}
 use Rattle.obligation_spec.specs.Calls.{Asked, circuit}
 use Rattle.obligation_spec.proofs.AcceptedLaws.{states-facts, outcomes-facts}
-use Rattle.word_sort.specs.Sorted.{sorted}
+use Rattle.word_sort.specs.Inner.Sorted.{sorted}
 use Rattle.word_sort.proofs.SortedLaws.{each-sorted, sorted-length}
 use Rattle.obligation_check.proofs.OutcomeLaws.{outcomes-count}
-use Rattle.obligation_claims.specs.Claims.{keysFrom, outcomeKeys}
+use Rattle.obligation_claims.specs.Inner.Claims.{keysFrom, outcomeKeys}
 use Rattle.obligation_claims.proofs.KeyLaws.{keys-length, keys-low, outcome-length, outcome-low}
-use Rattle.obligation_gates.specs.Encoding.{Low}
+use Rattle.obligation_gates.specs.Inner.Encoding.{Low}
 use Rattle.obligation_gates.proofs.BoundedLaws.{currents-low, nexts-low, outputs-low, gates-low, accepted-bounded, accepted-few}
-use Rattle.obligation.specs.Appended.{partsOf, claimedOf, FrontReady, ClaimsReady, Asks}
+use Rattle.obligation.specs.Inner.Appended.{partsOf, claimedOf, FrontReady, ClaimsReady, Asks}
 
 module _ (q : Asked) (a : Asks q) (sized : Sized (q .model)) where
   passed : Passed (q .model) (q .gates) (a .work) (circuit q)

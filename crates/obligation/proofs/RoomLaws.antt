@@ -14,13 +14,13 @@ use Rattle.aiger.specs.Gates.{gateFrom}
 use Rattle.cnf.specs.declared.ClauseCounts.{ClauseCounts}
 use Rattle.cnf.specs.Clauses.{clausesIn}
 use Rattle.cnf.specs.Simplified.{simplified}
-use Rattle.cnf.specs.Appending.{Appends, Holding}
+use Rattle.cnf.specs.Inner.Appending.{Appends, Holding}
 use Rattle.cnf.proofs.AppendLaws.{appends-start}
 use Rattle.cnf.proofs.SizeLaws.{total, total-append, total-more, kept-few}
 use Rattle.obligation_spec.specs.Lists.{valued, sourceLists, predicateLiteral, gateLists}
-use Rattle.obligation_claims.specs.Claims.{claimList, stateClaims, outcomeClaims}
+use Rattle.obligation_claims.specs.Inner.Claims.{claimList, stateClaims, outcomeClaims}
 use Rattle.obligation.specs.declared.Made.the-variants.{Clauses}
-use Rattle.obligation.specs.Appended.{Parts, Claimed, frontLists, claimLists, allLists, claimCount, Ready, Roomy, MakesAll, empty}
+use Rattle.obligation.specs.Inner.Appended.{Parts, Claimed, frontLists, claimLists, allLists, claimCount, Ready, Roomy, MakesAll, empty}
 use Rattle.obligation.proofs.PromiseLaws.{made-all}
 use Rattle.obligation.proofs.MakingLaws.{front-most, claims-many, claims-few}
 

@@ -1,3 +1,3 @@
 -- Item 7 of 01: what the obligations promise.
 pub mod Promise
-pub mod Appended
+pub mod Inner

@@ -1,5 +1,5 @@
 // The obligations of item 7 of 01: the clauses of rows and of terminal lists, in lent buffers.
-ghost use Rattle.obligation_check.specs.Boundary.{askedOf};
+ghost use Rattle.obligation_spec.specs.Calls.{askedOf};
 ghost use Rattle.obligation.specs.Promise.{buffersOf, MakesRelation, MakesTransducer, MakesTerminal};
 use cnf::ClauseCounts;
 use model::AigerTransition;

@@ -4,8 +4,8 @@ ghost use mathlib.Core.Path.{_≡_};
 ghost use Prim.Native.Nat.{_*_, _≤_};
 ghost use Rattle.lists.specs.Words.{wordsOf};
 ghost use Rattle.cnf.specs.Simplified.{simplified};
-ghost use Rattle.cnf.specs.Appending.{Appends, Space};
-ghost use Rattle.obligation.specs.Appended.{partsOf, claimedOf, frontLists, claimLists, allLists, claimCount, FrontReady, ClaimsReady, Ready, Roomy, MakesAll, empty};
+ghost use Rattle.cnf.specs.Inner.Appending.{Appends, Space};
+ghost use Rattle.obligation.specs.Inner.Appended.{partsOf, claimedOf, frontLists, claimLists, allLists, claimCount, FrontReady, ClaimsReady, Ready, Roomy, MakesAll, empty};
 use crate::Made;
 use cnf::ClauseCounts;
 

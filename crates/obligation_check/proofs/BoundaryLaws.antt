@@ -23,7 +23,7 @@ use Rattle.model.proofs.ValueLaws.{checked-got}
 use Rattle.cnf.specs.Clauses.{clausesIn}
 use Rattle.obligation_spec.specs.Calls.{Asked, circuit, Lent, asked}
 use Rattle.obligation_spec.specs.Limits.{bounded, statesClaimed}
-use Rattle.obligation_check.specs.Boundary.{indexes, predicateHolds, Bounds, IsState, ClaimsStates, Checks}
+use Rattle.obligation_check.specs.Inner.Boundary.{indexes, predicateHolds, Bounds, IsState, ClaimsStates, Checks}
 
 -- the loop over the pairs: the rest decides, and the pair at i has this offset and this length
 module _ (n : ℕ) (words pairs : List ℕ) (end i : ℕ) (r : Bool) (k : r ≡ predicateHolds n end words (drop (2 * i) pairs)) where

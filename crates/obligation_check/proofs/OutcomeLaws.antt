@@ -16,7 +16,7 @@ use Rattle.lists.proofs.TestLaws.{all-stop, all-more, all-end, all-and, each-of
 use Rattle.lists.proofs.WordLaws.{triples-count, triples-at}
 use Rattle.obligation_spec.specs.Lists.{outcomesOf}
 use Rattle.obligation_spec.specs.Limits.{before, risingOutcomes, outcomesClaimed}
-use Rattle.obligation_check.specs.Boundary.{noOutcome, outcomeFits, ClaimsOutcomes}
+use Rattle.obligation_check.specs.Inner.Boundary.{noOutcome, outcomeFits, ClaimsOutcomes}
 
 not-less : (n : ℕ) → ltb n n ≡ false
 not-less n = le-ltb n n (omega arith)

@@ -13,13 +13,13 @@ use Rattle.lists.specs.Tests.{any}
 use Rattle.lists.proofs.BitLaws.{bits-length, bits-at}
 use Rattle.lists.proofs.TestLaws.{any-map}
 use Rattle.lists.proofs.AnyLaws.{member-any}
-use Rattle.word_sort.specs.Sorted.{sorted}
+use Rattle.word_sort.specs.Inner.Sorted.{sorted}
 use Rattle.word_sort.proofs.SortedLaws.{any-sorted}
 use Rattle.cnf.specs.Simplified.{simplified}
 use Rattle.cnf.proofs.MemberLaws.{simplified-members}
 use Rattle.model_step.specs.declared.Outcome.{Outcome}
 use Rattle.obligation_spec.specs.Lists.{valued, differing, outputBits, outcomesOf}
-use Rattle.obligation_claims.specs.Claims.{keysFrom, claimList, stateClaims, outcomeClaims, observedKeys, outcomeKeys}
+use Rattle.obligation_claims.specs.Inner.Claims.{keysFrom, claimList, stateClaims, outcomeClaims, observedKeys, outcomeKeys}
 
 -- ---- the order of the keys does not matter
 

@@ -4,7 +4,7 @@ use mathlib.Core.List.{List, [], _∷_, _++_}
 use mathlib.Core.Path.{_≡_, refl}
 use lib.ListN.{getD, replicate}
 use Rattle.lists.specs.Sets.{holds}
-use Rattle.obligation_claims.specs.Claims.{keysFrom, claimList, stateClaims, outcomeClaims, outcomeKeys}
+use Rattle.obligation_claims.specs.Inner.Claims.{keysFrom, claimList, stateClaims, outcomeClaims, outcomeKeys}
 
 -- literals 2 and 4 at the bits 0 and 1
 two-latches : keysFrom 0 (2 ∷ 4 ∷ []) ≡ 512 ∷ 1025 ∷ []

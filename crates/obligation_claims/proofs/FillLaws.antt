@@ -18,12 +18,12 @@ use Rattle.lists.proofs.OnceLaws.{member-append}
 use Rattle.lists.proofs.RestLaws.{take-next}
 use Rattle.lists.proofs.TestLaws.{each-map, each-so, each-at}
 use Rattle.cnf.specs.Simplified.{opposite, cnfWord, withoutFalse}
-use Rattle.cnf.specs.Appending.{Filled, Narrow}
+use Rattle.cnf.specs.Inner.Appending.{Filled, Narrow}
 use Rattle.cnf.proofs.SignLaws.{opposite-is, without-append}
 use Rattle.obligation_spec.specs.Lists.{valued}
 use Rattle.obligation_claims.specs.declared.Fill.the-variants.{True, Words}
-use Rattle.obligation_claims.specs.Claims.{claimList, LowKeys}
-use Rattle.obligation_claims.specs.Filling.{Fills}
+use Rattle.obligation_claims.specs.Inner.Claims.{claimList, LowKeys}
+use Rattle.obligation_claims.specs.Inner.Filling.{Fills}
 
 -- ---- claim_literal
 

@@ -10,10 +10,10 @@ use Rattle.lists.specs.Parts.{part, put}
 use Rattle.lists.proofs.MapLaws.{map-at}
 use Rattle.lists.proofs.PartLaws.{Copied, copied-none, copied-more, copied-done, put-put, part-drop}
 use Rattle.lists.proofs.TestLaws.{each-append, each-take}
-use Rattle.word_sort.specs.Sorted.{sorted}
+use Rattle.word_sort.specs.Inner.Sorted.{sorted}
 use Rattle.word_sort.proofs.SortedLaws.{sorted-length, each-sorted}
-use Rattle.obligation_claims.specs.Claims.{keysFrom, observedKeys, outcomeKeys, LowKeys, LowLiterals}
-use Rattle.obligation_claims.specs.Filling.{InOrder}
+use Rattle.obligation_claims.specs.Inner.Claims.{keysFrom, observedKeys, outcomeKeys, LowKeys, LowLiterals}
+use Rattle.obligation_claims.specs.Inner.Filling.{InOrder}
 
 pub keys-length : (place : ℕ) (ls : List ℕ) → length (keysFrom place ls) ≡ length ls
 keys-length place [] = refl

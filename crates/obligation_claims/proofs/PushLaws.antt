@@ -16,7 +16,7 @@ use Rattle.lists.proofs.TestLaws.{each-append}
 use Rattle.lists.proofs.WordLaws.{triples-at, triples-count}
 use Rattle.cnf.specs.declared.ClauseCounts.{ClauseCounts}
 use Rattle.cnf.specs.Simplified.{simplified}
-use Rattle.cnf.specs.Appending.{Appends, Space, Filled, Narrow, NarrowWords}
+use Rattle.cnf.specs.Inner.Appending.{Appends, Space, Filled, Narrow, NarrowWords}
 use Rattle.cnf.proofs.AppendLaws.{appends-none, appends-same, appends-dropped, appends-next, appends-end, space-next}
 use Rattle.cnf.proofs.ShortLaws.{simplified-filled, simplified-one-true}
 use Rattle.cnf.proofs.SignLaws.{length-without}
@@ -24,8 +24,8 @@ use Rattle.cnf.proofs.SimplifyLaws.{filled-narrow}
 use Rattle.obligation_spec.specs.Lists.{valued}
 use Rattle.obligation_claims.specs.declared.Fill.{Fill}
 use Rattle.obligation_claims.specs.declared.Fill.the-variants.{True}
-use Rattle.obligation_claims.specs.Claims.{claimList, stateClaims, outcomeClaims, LowKeys}
-use Rattle.obligation_claims.specs.Filling.{Fills, Fits}
+use Rattle.obligation_claims.specs.Inner.Claims.{claimList, stateClaims, outcomeClaims, LowKeys}
+use Rattle.obligation_claims.specs.Inner.Filling.{Fills, Fits}
 use Rattle.obligation_claims.proofs.FillLaws.{claim-length, claim-narrow}
 
 -- ---- push_few: at most three literals, filled up with false constants

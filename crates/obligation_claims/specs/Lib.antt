@@ -1,3 +1,2 @@
 -- Inner definitions of item 7's claims.
-pub mod Claims
-pub mod Filling
+pub mod Inner

@@ -10,11 +10,11 @@ ghost use lib.ListN.{length, getD, take, drop};
 ghost use Rattle.lists.specs.Bits.{bit};
 ghost use Rattle.lists.specs.Parts.{put};
 ghost use Rattle.lists.specs.Sets.{holds};
-ghost use Rattle.word_sort.specs.Sorted.{sorted};
-ghost use Rattle.cnf.specs.Appending.{Appends, Space};
+ghost use Rattle.word_sort.specs.Inner.Sorted.{sorted};
+ghost use Rattle.cnf.specs.Inner.Appending.{Appends, Space};
 ghost use Rattle.obligation_spec.specs.Lists.{valued};
-ghost use Rattle.obligation_claims.specs.Claims.{keysFrom, observedKeys, outcomeKeys, claimList, stateClaims, outcomeClaims, LowKeys, LowLiterals};
-ghost use Rattle.obligation_claims.specs.Filling.{InOrder, Fills, Fits};
+ghost use Rattle.obligation_claims.specs.Inner.Claims.{keysFrom, observedKeys, outcomeKeys, claimList, stateClaims, outcomeClaims, LowKeys, LowLiterals};
+ghost use Rattle.obligation_claims.specs.Inner.Filling.{InOrder, Fills, Fits};
 use cnf::ClauseCounts;
 
 // What became of a claim's literals: one is the true constant, or so many words were filled in.

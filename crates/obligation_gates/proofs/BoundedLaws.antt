@@ -20,8 +20,8 @@ use Rattle.model.proofs.ValueLaws.{well-facts}
 use Rattle.cnf.specs.Clauses.{clausesIn}
 use Rattle.obligation_spec.specs.Limits.{bounded}
 use Rattle.obligation_spec.proofs.AcceptedLaws.{bounded-facts}
-use Rattle.obligation_check.specs.Boundary.{indexes}
-use Rattle.obligation_gates.specs.Encoding.{Low, LowGate, Bounded}
+use Rattle.obligation_check.specs.Inner.Boundary.{indexes}
+use Rattle.obligation_gates.specs.Inner.Encoding.{Low, LowGate, Bounded}
 
 module _ (c : Circuit) (well : wellDefined c ≡ true) where
   facts : Defined (c .variables) (leavesOf c) (c .gates)

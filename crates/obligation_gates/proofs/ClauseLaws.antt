@@ -16,11 +16,11 @@ use Rattle.lists.proofs.TestLaws.{all-at, each-of-all, each-so}
 use Rattle.lists.proofs.WordLaws.{pairs-count, pairs-at, twice}
 use Rattle.cnf.specs.declared.ClauseCounts.{ClauseCounts}
 use Rattle.cnf.specs.Clauses.{clausesIn}
-use Rattle.cnf.specs.Appending.{Appends, Space}
+use Rattle.cnf.specs.Inner.Appending.{Appends, Space}
 use Rattle.cnf.proofs.AppendLaws.{appends-none, appends-next, appends-end, space-next}
 use Rattle.obligation_spec.specs.Lists.{predicateLiteral}
-use Rattle.obligation_check.specs.Boundary.{indexes}
-use Rattle.obligation_gates.specs.Encoding.{Clausal, Bounded}
+use Rattle.obligation_check.specs.Inner.Boundary.{indexes}
+use Rattle.obligation_gates.specs.Inner.Encoding.{Clausal, Bounded}
 
 -- ---- pairs by their index
 

@@ -13,12 +13,12 @@ use Rattle.aiger.specs.declared.Gate.{Gate}
 use Rattle.aiger.specs.Gates.{gateFrom}
 use Rattle.cnf.specs.declared.ClauseCounts.{ClauseCounts}
 use Rattle.cnf.specs.Simplified.{opposite}
-use Rattle.cnf.specs.Appending.{Appends, Space, Narrow}
+use Rattle.cnf.specs.Inner.Appending.{Appends, Space, Narrow}
 use Rattle.cnf.proofs.AppendLaws.{appends-then, appends-item, space-left}
 use Rattle.cnf.proofs.PushLaws.{appends-same}
 use Rattle.cnf.proofs.ShortLaws.{simplified-filled-two}
 use Rattle.obligation_spec.specs.Lists.{gateLists}
-use Rattle.obligation_gates.specs.Encoding.{LowGate, gateArrays}
+use Rattle.obligation_gates.specs.Inner.Encoding.{LowGate, gateArrays}
 use Rattle.obligation_gates.proofs.PredicateLaws.{opposite-low}
 
 -- the arrays as the code makes them

@@ -11,9 +11,9 @@ use Rattle.lists.specs.Sets.{member}
 use Rattle.lists.specs.Tests.{Each}
 use Rattle.lists.proofs.TestLaws.{each-at, each-map, each-so}
 use Rattle.cnf.specs.Simplified.{opposite, cnfWord, withoutFalse}
-use Rattle.cnf.specs.Appending.{Filled}
+use Rattle.cnf.specs.Inner.Appending.{Filled}
 use Rattle.obligation_spec.specs.Lists.{predicateLiteral}
-use Rattle.obligation_gates.specs.Encoding.{Low, Clausal}
+use Rattle.obligation_gates.specs.Inner.Encoding.{Low, Clausal}
 
 pub low-at : (ls : List ℕ) (k : ℕ) → Low ls → getD ls k 0 < 2 ^ 31
 low-at [] k e = omega arith

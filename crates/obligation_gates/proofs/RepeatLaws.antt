@@ -18,13 +18,13 @@ use Rattle.lists.proofs.RestLaws.{take-next}
 use Rattle.lists.proofs.TestLaws.{any-map, each-map, each-append, each-at, each-any}
 use Rattle.lists.proofs.AnyLaws.{member-any, any-same}
 use Rattle.cnf.specs.declared.ClauseCounts.{ClauseCounts}
-use Rattle.cnf.specs.Appending.{Appends, PushesFilled, NarrowWords}
+use Rattle.cnf.specs.Inner.Appending.{Appends, PushesFilled, NarrowWords}
 use Rattle.cnf.specs.Simplified.{cnfWord}
 use Rattle.cnf.proofs.AppendLaws.{appends-same}
 use Rattle.cnf.proofs.MemberLaws.{simplified-members}
 use Rattle.cnf.proofs.SimplifyLaws.{filled-narrow}
 use Rattle.obligation_spec.specs.Lists.{predicateLiteral}
-use Rattle.obligation_gates.specs.Encoding.{Clausal, FilledAs}
+use Rattle.obligation_gates.specs.Inner.Encoding.{Clausal, FilledAs}
 use Rattle.obligation_gates.proofs.PredicateLaws.{coded, literal-some, literal-narrow, filled}
 
 -- the first i words of the clause were seen, and the list has n words in front: those of the same set that were kept

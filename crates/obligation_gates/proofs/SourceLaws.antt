@@ -10,10 +10,10 @@ use Rattle.lists.specs.Bits.{odd, bits}
 use Rattle.lists.proofs.BitLaws.{bits-length, bits-at}
 use Rattle.cnf.specs.declared.ClauseCounts.{ClauseCounts}
 use Rattle.cnf.specs.Simplified.{opposite}
-use Rattle.cnf.specs.Appending.{Appends, Space}
+use Rattle.cnf.specs.Inner.Appending.{Appends, Space}
 use Rattle.cnf.proofs.AppendLaws.{appends-next, appends-end, space-next}
 use Rattle.obligation_spec.specs.Lists.{valued, sourceLists}
-use Rattle.obligation_gates.specs.Encoding.{Low}
+use Rattle.obligation_gates.specs.Inner.Encoding.{Low}
 use Rattle.obligation_gates.proofs.PredicateLaws.{low-at, opposite-low}
 
 module _ (current source i : ℕ) where

@@ -1,2 +1,2 @@
 -- Inner definitions of item 7's clauses that come before the claims.
-pub mod Encoding
+pub mod Inner

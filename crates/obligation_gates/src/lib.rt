@@ -8,9 +8,9 @@ ghost use Rattle.lists.specs.Tests.{Each};
 ghost use Rattle.lists.specs.Words.{triplesOf, wordsOf};
 ghost use Rattle.aiger.specs.Gates.{gateFrom};
 ghost use Rattle.cnf.specs.Clauses.{clausesIn};
-ghost use Rattle.cnf.specs.Appending.{Appends, Space};
+ghost use Rattle.cnf.specs.Inner.Appending.{Appends, Space};
 ghost use Rattle.obligation_spec.specs.Lists.{valued, sourceLists, predicateLiteral, gateLists};
-ghost use Rattle.obligation_gates.specs.Encoding.{Low, LowGate, gateArrays, Clausal, Bounded, FilledAs};
+ghost use Rattle.obligation_gates.specs.Inner.Encoding.{Low, LowGate, gateArrays, Clausal, Bounded, FilledAs};
 use aiger::Gate;
 use cnf::ClauseCounts;
 

@@ -19,6 +19,10 @@ pub record Asked : Type 0 where
   pub pairs : List ℕ
   pub words : List ℕ
 
+-- what is asked, of a record, gate words, relevant inputs and predicate
+abbrev pub askedOf : AigerTransition → List ℕ → List ℕ → List ℕ → List ℕ → Asked
+askedOf m g relevant pairs words = record { model = m; gates = g; relevant = relevant; pairs = pairs; words = words }
+
 -- the circuit that the record and the gate words stand for
 abbrev pub circuit : Asked → Circuit
 circuit q = circuitOf (q .model) (q .gates)

@@ -11,9 +11,9 @@ use Rattle.model.specs.declared.Verdict.the-variants.{Valid, Refused}
 use Rattle.model.specs.Circuit.{Circuit, circuitOf, recordFrom}
 use Rattle.model.specs.Checked.{checked, judged, Validates}
 use Rattle.model.specs.RecordWords.{countsIn, latchesIn, recordIn}
-use Rattle.nitrasovy.specs.Inner as calls
+use Rattle.nitrasovy.specs.Inner.FlatEnums as calls
 use Rattle.nitrasovy.proofs.ModelLaws.{of-words}
-use Rattle.probe.specs.Flat.{reasonOf}
+use Rattle.probe.specs.Inner.Flat.{reasonOf}
 
 verdict-reason : (v : Verdict) (c : Circuit) → calls.reasonOf v ≡ reasonOf (judged v c)
 verdict-reason Valid c = refl

@@ -8,9 +8,9 @@ use Rattle.lists.specs.Parts.{Bytes}
 use Rattle.witness_read.specs.declared.ReadAag.{ReadAag}
 use Rattle.witness_read.specs.Sections.{Sections}
 use Rattle.witness_read.specs.Reading.{countsRead}
-use Rattle.witness_load.specs.Loaded.{withRoom, Loads}
-use Rattle.probe.specs.Flat.{reasonOf}
-use Rattle.probe.specs.FlatLoads.{reasonRead, LoadsFlat}
+use Rattle.witness_load.specs.Inner.Loaded.{withRoom, Loads}
+use Rattle.probe.specs.Inner.Flat.{reasonOf}
+use Rattle.probe.specs.Inner.FlatLoads.{reasonRead, LoadsFlat}
 
 reason-same : (a : Answer Sections) → reasonRead (countsRead a) ≡ reasonOf a
 reason-same (got x) = refl

@@ -8,8 +8,8 @@ ghost use Rattle.text.specs.Literals.{literalAt};
 ghost use Rattle.scan.specs.Same.{sameBytes, beginsWith};
 ghost use Rattle.text.specs.Texts.{limited, goodText};
 ghost use Rattle.text_decimal.specs.Decimal.{decimal};
-ghost use Rattle.text_decimal.specs.Writing.{written, writtenAt};
-ghost use Rattle.probe.specs.Flat.{readerOf, flatNumber, flatLiteral, flatLine, flatField, flatWritten, cursorAt};
+ghost use Rattle.text_decimal.specs.Inner.Writing.{written, writtenAt};
+ghost use Rattle.probe.specs.Inner.Flat.{readerOf, flatNumber, flatLiteral, flatLine, flatField, flatWritten, cursorAt};
 
 mod models;
 mod witnesses;

@@ -4,7 +4,7 @@ ghost use lib.ListN.{length};
 ghost use Rattle.lists.specs.Parts.{zeros};
 ghost use Rattle.model.specs.Checked.{checked};
 ghost use Rattle.model.specs.RecordWords.{recordIn};
-ghost use Rattle.probe.specs.Flat.{reasonOf};
+ghost use Rattle.probe.specs.Inner.Flat.{reasonOf};
 use model::words;
 use nitrasovy::models;
 

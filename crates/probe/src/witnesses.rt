@@ -2,7 +2,7 @@
 ghost use mathlib.Core.Path.{_≡_};
 ghost use Rattle.text.specs.Texts.{limited};
 ghost use Rattle.witness_read.specs.Reading.{readAag};
-ghost use Rattle.probe.specs.FlatLoads.{reasonRead, LoadsFlat};
+ghost use Rattle.probe.specs.Inner.FlatLoads.{reasonRead, LoadsFlat};
 use witness_read::ReadAag;
 
 // The number of an answer: 0 where there are counts.

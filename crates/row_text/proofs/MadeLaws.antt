@@ -20,9 +20,9 @@ use Rattle.obligation.specs.declared.Made.{Made}
 use Rattle.obligation.specs.declared.Made.the-variants.{Clauses, Refused}
 use Rattle.obligation.specs.Promise.{answerOf, sizes, Buffers, lentOf, Makes, MakesRelation}
 use Rattle.row_text.specs.RowProgram.{printed}
-use Rattle.row_text.specs.Steps.{numbersIn, InFront}
-use Rattle.row_text.specs.Made.{madeAnswer, Standing, Printable}
-use Rattle.text_decimal.specs.Writing.{Wrote}
+use Rattle.row_text.specs.Inner.Steps.{numbersIn, InFront}
+use Rattle.row_text.specs.Inner.Made.{madeAnswer, Standing, Printable}
+use Rattle.text_decimal.specs.Inner.Writing.{Wrote}
 
 pub numbers-in : (cs : List Clause) → numbersIn cs ≡ 2 * length cs + length (literalsOf cs)
 numbers-in [] = refl

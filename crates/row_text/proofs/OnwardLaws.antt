@@ -9,10 +9,10 @@ use Rattle.lists.proofs.PartLaws.{put-none, put-put, put-length, put-take-end}
 use Rattle.text_decimal.specs.declared.Written.{Written}
 use Rattle.text_decimal.specs.declared.Written.the-variants.{Next, NoRoom}
 use Rattle.text_decimal.specs.Decimal.{decimal}
-use Rattle.text_decimal.specs.Writing.{writtenAt, written, Wrote}
+use Rattle.text_decimal.specs.Inner.Writing.{writtenAt, written, Wrote}
 use Rattle.text_decimal.proofs.DecimalLaws.{decimal-length-word}
 use Rattle.text_decimal.proofs.WritingLaws.{wrote, kept}
-use Rattle.row_text.specs.Steps.{Prints}
+use Rattle.row_text.specs.Inner.Steps.{Prints}
 
 -- some bytes, and others behind them
 pub wrote-both : (o : Bytes) (at : ℕ) (a o₁ : Bytes) (n₁ : ℕ) (b o₂ : Bytes) (n₂ : ℕ) → Wrote o at a o₁ n₁ → Wrote o₁ n₁ b o₂ n₂ → Wrote o at (a ++ b) o₂ n₂

@@ -19,7 +19,7 @@ use Rattle.text.specs.declared.Reader.the-variants.{Transition}
 use Rattle.text.specs.Lines.{consHead}
 use Rattle.text.specs.Numbers.{numberOf}
 use Rattle.row_text.specs.RowProgram.{pieces, pieceNumber, numbersOf}
-use Rattle.row_text.specs.Steps.{inPiece}
+use Rattle.row_text.specs.Inner.Steps.{inPiece}
 
 pub piece-goes : (b : ℕ) → (b ≡ 32 → ⊥) → inPiece b ≡ true
 piece-goes b h = simp (ne-eqb b 32 h)

@@ -13,10 +13,10 @@ use Rattle.cnf.proofs.ReturnedLaws.{pairs-length}
 use Rattle.lists.proofs.RestLaws.{rest-head, rest-more}
 use Rattle.text_decimal.specs.Decimal.{decimal}
 use Rattle.text_decimal.specs.Printed.{numberLine, textOf}
-use Rattle.text_decimal.specs.Writing.{Wrote}
+use Rattle.text_decimal.specs.Inner.Writing.{Wrote}
 use Rattle.cnf.specs.Clauses.{Clause, literalsOf, pairsFrom}
 use Rattle.row_text.specs.RowProgram.{clauseLines, rowsWord, refusedWord, printed}
-use Rattle.row_text.specs.Steps.{spacedNumbers, clauseBytes, clausesBytes, numbersIn, InFront, Prints}
+use Rattle.row_text.specs.Inner.Steps.{spacedNumbers, clauseBytes, clausesBytes, numbersIn, InFront, Prints}
 use Rattle.row_text.proofs.OnwardLaws.{Onward, onward-start, onward-more, onward-done, wrote-both}
 
 -- ---- the numbers of a line

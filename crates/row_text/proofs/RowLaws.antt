@@ -21,9 +21,9 @@ use Rattle.obligation_spec.specs.Calls.{relationRow}
 use Rattle.row_text.specs.declared.Numbers.{Numbers}
 use Rattle.row_text.specs.declared.Numbers.the-variants.{Count, OtherForm}
 use Rattle.row_text.specs.RowProgram.{firstLine, afterLine, pieces, numbersOf, rowAnswer, printed, rowText, bare, bareOf, rowIn, RowWrites}
-use Rattle.row_text.specs.Steps.{answerIn}
-use Rattle.row_text.specs.Made.{PrintsIn, PrintsFor}
-use Rattle.text_decimal.specs.Writing.{Wrote}
+use Rattle.row_text.specs.Inner.Steps.{answerIn}
+use Rattle.row_text.specs.Inner.Made.{PrintsIn, PrintsFor}
+use Rattle.text_decimal.specs.Inner.Writing.{Wrote}
 
 -- ---- the model
 

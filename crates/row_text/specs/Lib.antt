@@ -1,4 +1,3 @@
 -- 01's row program.
 pub mod RowProgram
-pub mod Steps
-pub mod Made
+pub mod Inner

@@ -22,7 +22,7 @@ use Rattle.text.specs.declared.Taken.the-variants as taken
 use Rattle.text.specs.Numbers.{isDigit, tenfold, longZero, numberOf}
 use Rattle.text.specs.Fields.{isBlank, inField}
 use Rattle.text.specs.Literals.{takenAt}
-use Rattle.text.specs.Inner.{IsRun, IsPlain}
+use Rattle.text.specs.Inner.PlainDigits.{IsRun, IsPlain}
 use Rattle.text.proofs.NumberLaws.{number-plain}
 use Rattle.text.proofs.FieldLaws.{blank-above}
 use Rattle.text.proofs.LiteralLaws.{from-within, taken-got, taken-from}

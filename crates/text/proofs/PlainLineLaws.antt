@@ -29,7 +29,7 @@ use Rattle.text.specs.Numbers.{isDigit}
 use Rattle.text.specs.Lines.{linesOf, lineAt}
 use Rattle.text.specs.Fields.{inField, fieldsOf}
 use Rattle.text.specs.Literals.{numbersOf, oneOf, literalOf, literalNumber, literalLine, literalAt}
-use Rattle.text.specs.Inner.{IsPlain, ReadsPlain}
+use Rattle.text.specs.Inner.PlainDigits.{IsPlain, ReadsPlain}
 use Rattle.text.proofs.FieldLaws.{IsField, field-in-front, field-alone, blank-above}
 use Rattle.text.proofs.LineLaws.{line-front, line-in-front, line-more}
 

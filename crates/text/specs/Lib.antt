@@ -3,5 +3,5 @@ pub mod Numbers
 pub mod Lines
 pub mod Fields
 pub mod Literals
-pub mod Inner
 pub mod Texts
+pub mod Inner

@@ -9,7 +9,7 @@ ghost use Rattle.text.specs.Lines.{lineAt};
 ghost use Rattle.text.specs.Fields.{isBlank, inField, fieldFrom, fieldAt, firstField, isHeaderWord, hasHeaderWord};
 ghost use Rattle.text.specs.Numbers.{longZero};
 ghost use Rattle.text.specs.Literals.{takenField, takenAt, literalAt};
-ghost use Rattle.text.specs.Inner.{IsRun, ReadsPlain};
+ghost use Rattle.text.specs.Inner.PlainDigits.{IsRun, ReadsPlain};
 ghost use Rattle.text.specs.Texts.{limited, goodBytes, goodEnd, goodText};
 
 pub mod numbers;

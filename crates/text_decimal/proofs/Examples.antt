@@ -5,7 +5,7 @@ use Rattle.lists.specs.Quoted.{bytes}
 use Rattle.text_decimal.specs.declared.Written.the-variants.{Next, NoRoom}
 use Rattle.text_decimal.specs.Decimal.{decimal}
 use Rattle.text_decimal.specs.Printed.{numberLine, textOf}
-use Rattle.text_decimal.specs.Writing.{written, writtenAt}
+use Rattle.text_decimal.specs.Inner.Writing.{written, writtenAt}
 
 pub two-digits : decimal 10 ≡ bytes "10"
 unfolding decimal

@@ -16,7 +16,7 @@ use Rattle.text.specs.Numbers.{numberOf}
 use Rattle.text_decimal.specs.declared.Written.{Written}
 use Rattle.text_decimal.specs.declared.Written.the-variants.{Next, NoRoom}
 use Rattle.text_decimal.specs.Decimal.{decimal}
-use Rattle.text_decimal.specs.Writing.{writtenAt, written, Wrote}
+use Rattle.text_decimal.specs.Inner.Writing.{writtenAt, written, Wrote}
 use Rattle.text_decimal.proofs.ReadLaws.{decimal-read}
 use Rattle.text_decimal.proofs.FigureLaws.{figures, figures-length, decimal-figures}
 

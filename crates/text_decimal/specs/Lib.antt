@@ -1,4 +1,4 @@
 -- The decimal digits of numbers, printed lines, and bytes written into a lent buffer.
 pub mod Decimal
 pub mod Printed
-pub mod Writing
+pub mod Inner

@@ -3,7 +3,7 @@ ghost use mathlib.Core.Path.{_≡_};
 ghost use mathlib.Core.List.{[], _∷_};
 ghost use lib.ListN.{length};
 ghost use Rattle.text_decimal.specs.Decimal.{decimal};
-ghost use Rattle.text_decimal.specs.Writing.{written, writtenAt};
+ghost use Rattle.text_decimal.specs.Inner.Writing.{written, writtenAt};
 
 // Where to write on, or that the bytes do not fit; then none of them is written.
 pub enum Written {

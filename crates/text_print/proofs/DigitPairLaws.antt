@@ -5,7 +5,7 @@ use native.Mathlib.Nat.{add-zero}
 use native.Mathlib.Omega.{arith}
 use lib.ListN.{length, getD}
 use Rattle.lists.specs.Parts.{Bytes}
-use Rattle.text_print.specs.DigitPairs.{pairsFrom, digitPairs}
+use Rattle.text_print.specs.Inner.DigitPairs.{pairsFrom, digitPairs}
 
 tens-at : (t n i : ℕ) → i < n → getD (pairsFrom t n) (2 * i) 0 ≡ 48 + (t + i) / 10
 tens-at t zero i h = absurd (omega arith)

@@ -15,7 +15,7 @@ use Rattle.lists.proofs.DistinctLaws.{not-member}
 use Rattle.lists.proofs.TestLaws.{each-so}
 use Rattle.lists.proofs.SetLaws.{Order, lower, same, higher, order, put-lower, put-same, put-higher, put-new, put-old, set-snoc}
 use Rattle.lists.proofs.RisingLaws.{rising-cons}
-use Rattle.text_print.specs.Elements.{passing, elements}
+use Rattle.text_print.specs.Inner.Elements.{passing, elements}
 
 -- ---- the numbers that pass a test
 

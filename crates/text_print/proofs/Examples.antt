@@ -6,9 +6,9 @@ use Rattle.lists.specs.Quoted.{bytes}
 use Rattle.lists.specs.Sets.{holds}
 use Rattle.text_decimal.specs.Decimal.{decimal}
 use Rattle.text_decimal.specs.Printed.{textOf}
-use Rattle.text_print.specs.Prints.{capped, Prints}
-use Rattle.text_print.specs.Lines.{literalLines, literalsFrom, gateLines}
-use Rattle.text_print.specs.Elements.{elements}
+use Rattle.text_print.specs.Inner.Prints.{capped, Prints}
+use Rattle.text_print.specs.Inner.Lines.{literalLines, literalsFrom, gateLines}
+use Rattle.text_print.specs.Inner.Elements.{elements}
 
 -- places up to 2^64 - 1 are kept, and those behind it become that number
 pub place-kept : capped 18446744073709551615 ≡ 18446744073709551615

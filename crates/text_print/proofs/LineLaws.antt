@@ -8,7 +8,7 @@ use lib.ListN.{length, getD, drop, length-drop}
 use Rattle.lists.specs.Parts.{Bytes}
 use Rattle.lists.proofs.RestLaws.{rest-more}
 use Rattle.text_decimal.specs.Printed.{numberLine, textOf}
-use Rattle.text_print.specs.Lines.{literalLines, literalsFrom, gateLines}
+use Rattle.text_print.specs.Inner.Lines.{literalLines, literalsFrom, gateLines}
 
 -- a first line, with its byte 10
 text-first : (l : Bytes) (ls : List Bytes) → textOf (l ∷ ls) ≡ (l ++ (10 ∷ [])) ++ textOf ls

@@ -8,9 +8,9 @@ use Rattle.lists.specs.Parts.{Bytes, put}
 use Rattle.lists.proofs.PartLaws.{put-none, put-put}
 use Rattle.text_decimal.specs.declared.Written.{Written}
 use Rattle.text_decimal.specs.declared.Written.the-variants.{Next, NoRoom}
-use Rattle.text_decimal.specs.Writing.{writtenAt, written}
+use Rattle.text_decimal.specs.Inner.Writing.{writtenAt, written}
 use Rattle.text_decimal.proofs.WritingLaws.{wrote, kept}
-use Rattle.text_print.specs.Prints.{capped, Prints}
+use Rattle.text_print.specs.Inner.Prints.{capped, Prints}
 
 -- what a word can hold
 abbrev pub Word : ℕ → Type 0

@@ -16,9 +16,9 @@ use Rattle.lists.specs.Sets.{holds}
 use Rattle.lists.proofs.BoolLaws.{below-or}
 use Rattle.text_decimal.specs.Printed.{numberLine, textOf}
 use Rattle.text_decimal.proofs.PrintedLaws.{text-append}
-use Rattle.text_print.specs.Elements.{passing, elements, elementsIn}
-use Rattle.text_print.specs.Lines.{literalLines}
-use Rattle.text_print.specs.Prints.{Prints}
+use Rattle.text_print.specs.Inner.Elements.{passing, elements, elementsIn}
+use Rattle.text_print.specs.Inner.Lines.{literalLines}
+use Rattle.text_print.specs.Inner.Prints.{Prints}
 use Rattle.text_print.proofs.PrintsLaws.{Word, Printing, printing-none, printing-more, printing-as, printing-done}
 use Rattle.text_print.proofs.LineLaws.{literal-first}
 use Rattle.text_print.proofs.ElementLaws.{passing-append}

@@ -1,5 +1,2 @@
 -- Texts printed into a lent buffer, or only measured, and sets of numbers as lists.
-pub mod Prints
-pub mod Lines
-pub mod Elements
-pub mod DigitPairs
+pub mod Inner

@@ -6,10 +6,10 @@ ghost use lib.ListN.{length};
 ghost use Rattle.lists.specs.Parts.{put};
 ghost use Rattle.text_decimal.specs.Decimal.{decimal};
 ghost use Rattle.text_decimal.specs.Printed.{numberLine, textOf};
-ghost use Rattle.text_print.specs.Prints.{capped, Prints};
-ghost use Rattle.text_print.specs.Lines.{literalLines, literalsFrom, gateLines};
-ghost use Rattle.text_print.specs.DigitPairs.{digitPairs};
-ghost use Rattle.text_print.specs.Elements.{elements, elementsIn};
+ghost use Rattle.text_print.specs.Inner.Prints.{capped, Prints};
+ghost use Rattle.text_print.specs.Inner.Lines.{literalLines, literalsFrom, gateLines};
+ghost use Rattle.text_print.specs.Inner.DigitPairs.{digitPairs};
+ghost use Rattle.text_print.specs.Inner.Elements.{elements, elementsIn};
 use text_decimal::Written;
 
 // The place n bytes further on. Places that no word can hold are the largest word.

@@ -18,14 +18,14 @@ use Rattle.aiger.proofs.SectionLaws.{sectionOf, same-items, same-rest, section-
 use Rattle.circuit_lines.specs.declared.SectionEnd.{SectionEnd}
 use Rattle.circuit_lines.specs.declared.SectionEnd.the-variants as section-end
 use Rattle.circuit_lines.specs.SectionLines.{literalLine, gateLine}
-use Rattle.circuit_lines.specs.Places.{linesFrom}
+use Rattle.circuit_lines.specs.Inner.Takes.{linesFrom}
 use Rattle.witness_text.specs.declared.AagCounts.{AagCounts}
 use Rattle.witness_text.specs.declared.Latch.{Latch}
 use Rattle.witness_text.specs.LatchLines.{latchLine}
 use Rattle.witness_read.specs.Order.{Body}
 use Rattle.witness_read.proofs.AcceptedLaws.{Parts, body-parts}
-use Rattle.witness_load.specs.Loaded.{operandWords}
-use Rattle.witness_load.specs.Loading.{storedWords, literalWord, Stored, LoadsSection, literalCount, restRoom, LoadsRest, bodyWords, bodyRoom, LoadsBody}
+use Rattle.witness_load.specs.Inner.Loaded.{operandWords}
+use Rattle.witness_load.specs.Inner.Loading.{storedWords, literalWord, Stored, LoadsSection, literalCount, restRoom, LoadsRest, bodyWords, bodyRoom, LoadsBody}
 use Rattle.witness_load.proofs.SectionLaws.{literal-words}
 
 -- outputs, bads and constraints are one section

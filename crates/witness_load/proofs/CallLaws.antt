@@ -17,8 +17,8 @@ use Rattle.witness_read.specs.declared.ReadAag.{ReadAag}
 use Rattle.witness_read.specs.Sections.{Sections}
 use Rattle.witness_read.specs.Reading.{readAag, countsIn, countsRead}
 use Rattle.witness_read.proofs.AcceptedLaws.{read-accepted, read-got, read-refused}
-use Rattle.witness_load.specs.Loaded.{wordCount, Loads}
-use Rattle.witness_load.specs.Loading.{leafWords, bodyRoom, HasRoom, Loadable, LoadsText}
+use Rattle.witness_load.specs.Inner.Loaded.{wordCount, Loads}
+use Rattle.witness_load.specs.Inner.Loading.{leafWords, bodyRoom, HasRoom, Loadable, LoadsText}
 use Rattle.witness_load.proofs.TextLaws.{words-counted}
 use Rattle.witness_read.specs.declared.ReadAag.the-variants as read
 

@@ -16,7 +16,7 @@ use Rattle.witness_read.specs.Sections.{Sections}
 use Rattle.witness_read.specs.Names.{symbolsOf}
 use Rattle.witness_read.specs.Order.{latchNumbered, wellNumbered}
 use Rattle.witness_read.specs.Reading.{readAag}
-use Rattle.witness_load.specs.Loaded.{nameFrom, Loaded, withRoom}
+use Rattle.witness_load.specs.Inner.Loaded.{nameFrom, Loaded, withRoom}
 
 -- the lines `aag 2 1 1 1 0`, `2`, `4 3`, `4`, `i0 a` and `l0 `
 abbrev text : Bytes

@@ -11,7 +11,7 @@ use Rattle.text.specs.declared.Line.{Line}
 use Rattle.text.specs.declared.Line.the-variants as line
 use Rattle.text.specs.Lines.{lineAt}
 use Rattle.text.proofs.LineLaws.{lines-none, lines-some}
-use Rattle.circuit_lines.specs.Places.{linesFrom}
+use Rattle.circuit_lines.specs.Inner.Takes.{linesFrom}
 
 -- of n lines from the cursor c on, i are passed, and the others begin at the cursor p
 pub record Passing (s : Bytes) (c : Cursor) (n : ℕ) (p : Cursor) (i : ℕ) : Type 0 where

@@ -23,8 +23,8 @@ use Rattle.witness_text.specs.declared.Kind.the-variants as kind
 use Rattle.witness_text.specs.Symbols.{Symbol, countOf}
 use Rattle.witness_read.specs.Names.{isInput, isLatch, indicesOf, nameOf, namesOf}
 use Rattle.witness_read.proofs.AcceptedLaws.{names-length}
-use Rattle.witness_load.specs.Loaded.{nameFrom}
-use Rattle.witness_load.specs.Loading.{leafWords, withName, leafNames}
+use Rattle.witness_load.specs.Inner.Loaded.{nameFrom}
+use Rattle.witness_load.specs.Inner.Loading.{leafWords, withName, leafNames}
 
 -- ---- one name
 

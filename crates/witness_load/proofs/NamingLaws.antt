@@ -18,15 +18,15 @@ use Rattle.text.specs.declared.Line.{Line}
 use Rattle.text.specs.declared.Line.the-variants as line
 use Rattle.text.specs.Lines.{lineAt}
 use Rattle.text.proofs.LineLaws.{lines-none, lines-some, line-starts, line-moves}
-use Rattle.circuit_lines.specs.Places.{linesFrom}
+use Rattle.circuit_lines.specs.Inner.Takes.{linesFrom}
 use Rattle.witness_text.specs.declared.AagCounts.{AagCounts}
 use Rattle.witness_text.specs.Symbols.{endsSymbols, Symbol, symbolOf}
 use Rattle.witness_text.proofs.SymbolLaws.{symbol-below}
 use Rattle.witness_read.specs.Names.{Tail, withSymbol, tailOf, isInput, isLatch, indicesOf, namedOnce, symbolsOf}
 use Rattle.witness_read.proofs.AcceptedLaws.{symbols-tail, symbols-once}
 use Rattle.witness_read.proofs.TailLaws.{tail-comments, tail-symbol}
-use Rattle.witness_load.specs.Loaded.{nameFrom}
-use Rattle.witness_load.specs.Loading.{leafWords, withName, Named, NamesLine, leafNames, LoadsNames}
+use Rattle.witness_load.specs.Inner.Loaded.{nameFrom}
+use Rattle.witness_load.specs.Inner.Loading.{leafWords, withName, Named, NamesLine, leafNames, LoadsNames}
 use Rattle.witness_load.proofs.NameLaws.{name-new, leaf-named, said-named, leaf-none}
 
 -- of the symbols of t those of `done` are passed, and their names are stored

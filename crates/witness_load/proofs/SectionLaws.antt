@@ -20,14 +20,14 @@ use Rattle.circuit_lines.specs.declared.SectionEnd.the-variants as section-end
 use Rattle.circuit_lines.specs.declared.TakenGate.{TakenGate}
 use Rattle.circuit_lines.specs.declared.TakenGate.the-variants as gate
 use Rattle.circuit_lines.specs.SectionLines.{literalLine, gateLine}
-use Rattle.circuit_lines.specs.Places.{linesFrom, Takes, TakesGate}
+use Rattle.circuit_lines.specs.Inner.Takes.{linesFrom, Takes, TakesGate}
 use Rattle.witness_text.specs.declared.Latch.{Latch}
 use Rattle.witness_text.specs.declared.TakenLatch.{TakenLatch}
 use Rattle.witness_text.specs.declared.TakenLatch.the-variants as latch
 use Rattle.witness_text.specs.LatchLines.{latchLine}
-use Rattle.witness_text.specs.Inner.{TakesLatch}
-use Rattle.witness_load.specs.Loaded.{operandWords}
-use Rattle.witness_load.specs.Loading.{storedWords, literalWord, LoadsSection}
+use Rattle.witness_text.specs.Inner.Takes.{TakesLatch}
+use Rattle.witness_load.specs.Inner.Loaded.{operandWords}
+use Rattle.witness_load.specs.Inner.Loading.{storedWords, literalWord, LoadsSection}
 
 -- i items are taken, and their words stand in o₀ from place `at` on
 pub record Loading {A : Type 0} (item : Bytes → Answer A) (words : A → List ℕ) (s : Bytes) (c : Cursor) (n : ℕ) (o₀ : List ℕ) (at : ℕ) (o : List ℕ) (p : Cursor) (i : ℕ) : Type 0 where

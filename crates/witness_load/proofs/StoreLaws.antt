@@ -16,12 +16,12 @@ use Rattle.witness_text.specs.declared.AagCounts.{AagCounts}
 use Rattle.witness_text.specs.declared.Kind.{Kind}
 use Rattle.witness_text.specs.declared.Kind.the-variants as kind
 use Rattle.witness_text.specs.Symbols.{countOf, symbolOf}
-use Rattle.witness_text.specs.Inner.{symbolAnswer}
+use Rattle.witness_text.specs.Inner.Takes.{symbolAnswer}
 use Rattle.witness_text.specs.declared.SymbolLine.{SymbolLine}
 use Rattle.witness_text.specs.declared.SymbolLine.the-variants as symbol
 use Rattle.witness_text.proofs.SymbolLaws.{symbol-below}
-use Rattle.witness_load.specs.Loaded.{nameFrom}
-use Rattle.witness_load.specs.Loading.{leafWords, withWords, withName, NamesLine}
+use Rattle.witness_load.specs.Inner.Loaded.{nameFrom}
+use Rattle.witness_load.specs.Inner.Loading.{leafWords, withWords, withName, NamesLine}
 
 -- ---- store_leaf
 

@@ -19,7 +19,7 @@ use Rattle.text.specs.Lines.{linesOf}
 use Rattle.text.specs.Texts.{limited}
 use Rattle.aiger.proofs.SectionLaws.{section-shorter}
 use Rattle.circuit_lines.specs.SectionLines.{literalLine, gateLine}
-use Rattle.circuit_lines.specs.Places.{linesFrom}
+use Rattle.circuit_lines.specs.Inner.Takes.{linesFrom}
 use Rattle.witness_text.specs.declared.AagCounts.{AagCounts}
 use Rattle.witness_text.specs.declared.WitnessHeader.{WitnessHeader}
 use Rattle.witness_text.specs.declared.WitnessHeader.the-variants as header
@@ -27,13 +27,13 @@ use Rattle.witness_text.specs.declared.Latch.{Latch}
 use Rattle.witness_text.specs.Header.{headerOf}
 use Rattle.witness_text.specs.LatchLines.{latchLine}
 use Rattle.witness_text.specs.Symbols.{Symbol}
-use Rattle.witness_text.specs.Inner.{Headed, TakesCounts}
+use Rattle.witness_text.specs.Inner.Takes.{Headed, TakesCounts}
 use Rattle.witness_read.specs.Sections.{Sections, namesIn}
 use Rattle.witness_read.specs.Names.{isLatch, symbolsOf, nameOf, namesOf}
 use Rattle.witness_read.specs.Order.{Body, bodyOf}
 use Rattle.witness_read.specs.Reading.{namedLatches, countsIn}
-use Rattle.witness_load.specs.Loaded.{latchWords, operandWords, literalWords, wordCount}
-use Rattle.witness_load.specs.Loading.{storedWords, bodyWords, bodyRoom, LoadsBody, leafWords, leafNames, LoadsNames, HasRoom, Loadable, LoadsText}
+use Rattle.witness_load.specs.Inner.Loaded.{latchWords, operandWords, literalWords, wordCount}
+use Rattle.witness_load.specs.Inner.Loading.{storedWords, bodyWords, bodyRoom, LoadsBody, leafWords, leafNames, LoadsNames, HasRoom, Loadable, LoadsText}
 use Rattle.witness_read.proofs.AcceptedLaws.{Parts, body-parts, parts-counts, Accepted, read-accepted}
 
 -- ---- the latches with their names

@@ -1,3 +1,2 @@
 -- The sections of an accepted witness text as words in lent memory.
-pub mod Loaded
-pub mod Loading
+pub mod Inner

@@ -13,12 +13,12 @@ use Rattle.text.specs.declared.Reader.the-variants.{Witness}
 use Rattle.aiger.specs.Defined.{literal}
 use Rattle.aiger.specs.Sections.{section}
 use Rattle.circuit_lines.specs.SectionLines.{literalLine, gateLine}
-use Rattle.circuit_lines.specs.Places.{linesFrom}
+use Rattle.circuit_lines.specs.Inner.Takes.{linesFrom}
 use Rattle.witness_text.specs.declared.AagCounts.{AagCounts}
 use Rattle.witness_text.specs.LatchLines.{latchLine}
 use Rattle.witness_read.specs.declared.Checked.{Checked}
 use Rattle.witness_read.specs.Order.{Body, bodyOf, defines, latchNumbered, gateNumbered, wellNumbered}
-use Rattle.witness_read.specs.Passes.{Passed, Checks, Leaves, leavesOf, leavesNumbered, Properties, propertiesOf, propertiesNumbered, PassedAll, ChecksLeaves, ChecksProperties, ChecksBody}
+use Rattle.witness_read.specs.Inner.Passes.{Passed, Checks, Leaves, leavesOf, leavesNumbered, Properties, propertiesOf, propertiesNumbered, PassedAll, ChecksLeaves, ChecksProperties, ChecksBody}
 use Rattle.witness_read.specs.declared.Checked.the-variants as checked
 
 -- ---- inputs and latches

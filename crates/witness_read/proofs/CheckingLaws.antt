@@ -12,8 +12,8 @@ use Rattle.lists.proofs.TestLaws.{all-snoc, all-from-snoc}
 use Rattle.text.specs.declared.Cursor.{Cursor}
 use Rattle.aiger.specs.Sections.{section}
 use Rattle.aiger.proofs.SectionLaws.{sectionOf, Taking, taking-none, taking-more, taking-bad, taking-done}
-use Rattle.circuit_lines.specs.Places.{linesFrom}
-use Rattle.witness_read.specs.Passes.{Checks}
+use Rattle.circuit_lines.specs.Inner.Takes.{linesFrom}
+use Rattle.witness_read.specs.Inner.Passes.{Checks}
 use Rattle.witness_read.specs.declared.Checked.the-variants as checked
 
 -- of n items, i are taken from the lines of s between the cursors c and p, and `fine` says whether they pass the test

@@ -11,7 +11,7 @@ use Rattle.text.specs.declared.Line.{Line}
 use Rattle.text.specs.Fields.{firstField}
 use Rattle.text.specs.Lines.{lineAt}
 use Rattle.text.proofs.LineLaws.{lines-none, lines-some}
-use Rattle.circuit_lines.specs.Places.{linesFrom}
+use Rattle.circuit_lines.specs.Inner.Takes.{linesFrom}
 use Rattle.witness_read.specs.Comments.{MAPPING, INTERVENTION, plainComment, plainComments}
 use Rattle.text.specs.declared.Line.the-variants as line
 

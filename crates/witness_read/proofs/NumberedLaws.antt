@@ -15,14 +15,14 @@ use Rattle.aiger.specs.declared.Gate.{Gate}
 use Rattle.aiger.specs.Defined.{literal, ordered}
 use Rattle.circuit_lines.specs.declared.TakenGate.{TakenGate}
 use Rattle.circuit_lines.specs.SectionLines.{literalLine, gateLine}
-use Rattle.circuit_lines.specs.Places.{TakesGate}
+use Rattle.circuit_lines.specs.Inner.Takes.{TakesGate}
 use Rattle.circuit_lines.proofs.LiteralLaws.{literal-one, literal-bad}
 use Rattle.witness_text.specs.declared.Latch.{Latch}
 use Rattle.witness_text.specs.declared.TakenLatch.{TakenLatch}
 use Rattle.witness_text.specs.LatchLines.{latchLine}
-use Rattle.witness_text.specs.Inner.{TakesLatch}
+use Rattle.witness_text.specs.Inner.Takes.{TakesLatch}
 use Rattle.witness_read.specs.Order.{defines, latchNumbered, gateNumbered}
-use Rattle.witness_read.specs.Passes.{Checks}
+use Rattle.witness_read.specs.Inner.Passes.{Checks}
 use Rattle.witness_read.proofs.CheckingLaws.{Checking, checking-none, checking-bad, checking-done, all-more, from-more}
 use Rattle.text.specs.declared.Literal.the-variants as found
 use Rattle.circuit_lines.specs.declared.TakenGate.the-variants as gate

@@ -10,11 +10,11 @@ use Rattle.text.specs.declared.Cursor.{Cursor}
 use Rattle.text.specs.declared.Reader.the-variants.{Witness}
 use Rattle.text.specs.Lines.{linesOf}
 use Rattle.text.specs.Texts.{limited, goodText}
-use Rattle.circuit_lines.specs.Places.{linesFrom}
+use Rattle.circuit_lines.specs.Inner.Takes.{linesFrom}
 use Rattle.witness_text.specs.declared.AagCounts.{AagCounts}
 use Rattle.witness_text.specs.declared.WitnessHeader.{WitnessHeader}
 use Rattle.witness_text.specs.Header.{headerOf, counted, withoutLiveness}
-use Rattle.witness_text.specs.Inner.{Headed, TakesCounts}
+use Rattle.witness_text.specs.Inner.Takes.{Headed, TakesCounts}
 use Rattle.witness_read.specs.declared.Checked.{Checked}
 use Rattle.witness_read.specs.declared.ReadAag.{ReadAag}
 use Rattle.witness_read.specs.declared.Symbols.{Symbols}
@@ -23,7 +23,7 @@ use Rattle.witness_read.specs.Comments.{plainComments}
 use Rattle.witness_read.specs.Order.{bodyOf, wellNumbered}
 use Rattle.witness_read.specs.Reading.{sectionsFrom, sectionsOf, afterHeader, readAag, countsIn, countsRead}
 use Rattle.witness_read.proofs.AcceptedLaws.{body-parts, parts-counts, counts-same}
-use Rattle.witness_read.specs.Passes.{PassedAll, ChecksBody, PassedSymbols, ChecksSymbols}
+use Rattle.witness_read.specs.Inner.Passes.{PassedAll, ChecksBody, PassedSymbols, ChecksSymbols}
 use Rattle.witness_text.specs.declared.WitnessHeader.the-variants as header
 use Rattle.witness_read.specs.declared.Checked.the-variants as checked
 use Rattle.witness_read.specs.declared.ReadAag.the-variants as read

@@ -22,7 +22,7 @@ use Rattle.witness_read.specs.declared.NextSymbol.{NextSymbol}
 use Rattle.witness_read.specs.declared.NextSymbol.the-variants as next
 use Rattle.witness_read.specs.declared.Symbols.{Symbols}
 use Rattle.witness_read.specs.Names.{isInput, isLatch, indicesOf}
-use Rattle.witness_read.specs.Passes.{TakenSymbol, TakesSymbol, ChecksSymbols}
+use Rattle.witness_read.specs.Inner.Passes.{TakenSymbol, TakesSymbol, ChecksSymbols}
 use Rattle.witness_read.proofs.SymbolSetLaws.{indices-append}
 use Rattle.witness_read.proofs.TailLaws.{symbol-taken, index-below, Begun, begun-none, begun-end, begun-more}
 

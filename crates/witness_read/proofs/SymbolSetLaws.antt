@@ -19,7 +19,7 @@ use Rattle.witness_text.specs.declared.AagCounts.{AagCounts}
 use Rattle.witness_text.specs.declared.Kind.{Kind}
 use Rattle.witness_text.specs.Symbols.{Symbol, countOf}
 use Rattle.witness_read.specs.Names.{isInput, isLatch, indicesOf, namedOnce}
-use Rattle.witness_read.specs.Passes.{Unmarked, MarksName}
+use Rattle.witness_read.specs.Inner.Passes.{Unmarked, MarksName}
 use Rattle.witness_text.specs.declared.Kind.the-variants as kind
 
 -- the slot of a symbol; outputs, bads and constraints have none

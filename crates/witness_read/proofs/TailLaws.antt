@@ -15,15 +15,15 @@ use Rattle.text.specs.declared.Reader.the-variants.{Witness}
 use Rattle.text.specs.Lines.{lineAt}
 use Rattle.text.specs.Numbers.{numberOf}
 use Rattle.text.proofs.LineLaws.{lines-none, lines-some, line-less}
-use Rattle.circuit_lines.specs.Places.{linesFrom}
+use Rattle.circuit_lines.specs.Inner.Takes.{linesFrom}
 use Rattle.witness_text.specs.declared.AagCounts.{AagCounts}
 use Rattle.witness_text.specs.declared.Kind.{Kind}
 use Rattle.witness_text.specs.declared.SymbolLine.{SymbolLine}
-use Rattle.witness_text.specs.Inner.{symbolAnswer}
+use Rattle.witness_text.specs.Inner.Takes.{symbolAnswer}
 use Rattle.witness_text.specs.Symbols.{endsSymbols, Symbol, kindOf, countOf, readableIndex, indexed, symbolFrom, beforeSpace, symbolOf}
 use Rattle.witness_text.proofs.SymbolLaws.{symbol-below}
 use Rattle.witness_read.specs.Names.{Tail, withSymbol, tailOf, namedOnce, symbolsOf}
-use Rattle.witness_read.specs.Passes.{TakenSymbol, EndsSymbols, TakesSymbol, ChecksSymbols, Unmarked, MarksName}
+use Rattle.witness_read.specs.Inner.Passes.{TakenSymbol, EndsSymbols, TakesSymbol, ChecksSymbols, Unmarked, MarksName}
 use Rattle.witness_read.proofs.SymbolSetLaws.{Named, named-none, named-once, named-more, named-again, twice-append}
 use Rattle.text.specs.declared.Line.the-variants as line
 use Rattle.text.specs.declared.Number.the-variants as number

@@ -4,4 +4,4 @@ pub mod Names
 pub mod Comments
 pub mod Order
 pub mod Reading
-pub mod Passes
+pub mod Inner

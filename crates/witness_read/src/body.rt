@@ -9,7 +9,7 @@ ghost use Rattle.circuit_lines.specs.SectionLines.{literalLine, gateLine};
 ghost use Rattle.witness_text.specs.LatchLines.{latchLine};
 ghost use Rattle.witness_text.specs.Header.{counted};
 ghost use Rattle.witness_read.specs.Order.{defines, latchNumbered, gateNumbered};
-ghost use Rattle.witness_read.specs.Passes.{Checks, ChecksLeaves, ChecksProperties, ChecksBody};
+ghost use Rattle.witness_read.specs.Inner.Passes.{Checks, ChecksLeaves, ChecksProperties, ChecksBody};
 use super::Checked;
 use aiger::Gate;
 use circuit_lines::TakenGate;

@@ -2,7 +2,7 @@
 ghost use mathlib.Core.Bool.{true};
 ghost use mathlib.Core.Path.{_≡_};
 ghost use Rattle.text.specs.Texts.{limited};
-ghost use Rattle.circuit_lines.specs.Places.{linesFrom};
+ghost use Rattle.circuit_lines.specs.Inner.Takes.{linesFrom};
 ghost use Rattle.witness_text.specs.Header.{counted, withoutLiveness};
 ghost use Rattle.witness_read.specs.Reading.{sectionsOf, afterHeader, readAag, countsRead};
 

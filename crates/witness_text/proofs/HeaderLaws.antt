@@ -16,11 +16,11 @@ use Rattle.text.specs.declared.Reader.the-variants.{Witness}
 use Rattle.text.specs.Lines.{linesOf}
 use Rattle.circuit_lines.specs.declared.HeaderCount.{HeaderCount}
 use Rattle.circuit_lines.specs.SectionLines.{firstNumbers}
-use Rattle.circuit_lines.specs.Inner.{atMost}
-use Rattle.circuit_lines.specs.Places.{Headed, TakesHeaderNumbers}
+use Rattle.circuit_lines.specs.Inner.OneLine.{atMost}
+use Rattle.circuit_lines.specs.Inner.Takes.{Headed, TakesHeaderNumbers}
 use Rattle.witness_text.specs.declared.AagCounts.{AagCounts}
 use Rattle.witness_text.specs.Header.{countsFrom, fiveToNine, headerOf}
-use Rattle.witness_text.specs.Inner.{TakesCounts}
+use Rattle.witness_text.specs.Inner.Takes.{TakesCounts}
 use Rattle.circuit_lines.specs.declared.HeaderCount.the-variants as numbers
 use Rattle.witness_text.specs.declared.WitnessHeader.the-variants as header
 

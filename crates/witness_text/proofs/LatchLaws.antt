@@ -13,12 +13,12 @@ use Rattle.text.specs.declared.Reader.the-variants.{Witness}
 use Rattle.text.specs.Lines.{lineAt}
 use Rattle.text.proofs.LiteralLaws.{numbersFrom}
 use Rattle.circuit_lines.specs.declared.Numbers.{Numbers}
-use Rattle.circuit_lines.specs.Inner.{atMost, Stored, Stores}
+use Rattle.circuit_lines.specs.Inner.OneLine.{atMost, Stored, Stores}
 use Rattle.circuit_lines.proofs.PlaceLaws.{one-none, one-bad, one-got}
 use Rattle.witness_text.specs.declared.Latch.{Latch}
 use Rattle.witness_text.specs.declared.ReadLatch.{ReadLatch}
 use Rattle.witness_text.specs.LatchLines.{latchFrom, latchNumbers, latchLine}
-use Rattle.witness_text.specs.Inner.{latchAnswer, TakesLatch}
+use Rattle.witness_text.specs.Inner.Takes.{latchAnswer, TakesLatch}
 use Rattle.text.specs.declared.Line.the-variants as line
 use Rattle.circuit_lines.specs.declared.Numbers.the-variants as count
 use Rattle.witness_text.specs.declared.ReadLatch.the-variants as read

@@ -19,7 +19,7 @@ use Rattle.witness_text.specs.declared.AagCounts.{AagCounts}
 use Rattle.witness_text.specs.declared.Kind.{Kind}
 use Rattle.witness_text.specs.declared.KnownKind.{KnownKind}
 use Rattle.witness_text.specs.Symbols.{Symbol, kindOf, countOf, readableIndex, indexed, symbolFrom, notSpace, beforeSpace, symbolOf}
-use Rattle.witness_text.specs.Inner.{kindAnswer, symbolAnswer}
+use Rattle.witness_text.specs.Inner.Takes.{kindAnswer, symbolAnswer}
 use Rattle.witness_text.specs.declared.Kind.the-variants as kind
 use Rattle.witness_text.specs.declared.KnownKind.the-variants as known
 use Rattle.witness_text.specs.declared.SymbolLine.the-variants as symbol

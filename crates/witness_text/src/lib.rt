@@ -4,7 +4,7 @@ ghost use Rattle.text.specs.Texts.{limited};
 ghost use Rattle.witness_text.specs.Header.{countsFrom, counted, withoutLiveness};
 ghost use Rattle.witness_text.specs.LatchLines.{latchLine};
 ghost use Rattle.witness_text.specs.Symbols.{endsSymbols, countOf, kindOf, beforeSpace, symbolOf};
-ghost use Rattle.witness_text.specs.Inner.{TakesCounts, latchAnswer, kindAnswer, symbolAnswer, TakesLatch};
+ghost use Rattle.witness_text.specs.Inner.Takes.{TakesCounts, latchAnswer, kindAnswer, symbolAnswer, TakesLatch};
 use circuit_lines::Numbers;
 use text::Cursor;
 use text::Line;

@@ -1,5 +1,5 @@
 use native.Mathlib.Omega.{arith}
-use Rattle.compose_names.specs.Names.{ownName}
+use Rattle.compose_names.specs.Inner.Names.{ownName}
 use Rattle.compose_names.proofs.PieceLaws.{shared-printed, private-printed}
 use borrow.Author.Needs.{needs}
 use Rattle.compose_names.proofs.print_name.Statement.{statement}

@@ -1,7 +1,7 @@
 -- The loop has walked the rows in front of number k.
 use Prim.Native.Nat.{_-_}
 use native.Mathlib.Omega.{arith}
-use Rattle.compose_names.specs.Symbols.{rowAt}
+use Rattle.compose_names.specs.Inner.Symbols.{rowAt}
 use Rattle.compose_names.proofs.WalkLaws.{Walk, walk-none, walk-old, walk-new, walk-end}
 use Rattle.compose_names.proofs.WitnessLaws.{row-words}
 use borrow.Author.Needs.{needs}

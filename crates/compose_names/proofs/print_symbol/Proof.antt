@@ -1,4 +1,4 @@
-use Rattle.compose_names.specs.Names.{ownName, nameFor}
+use Rattle.compose_names.specs.Inner.Names.{ownName, nameFor}
 use native.Mathlib.Omega.{arith}
 use Rattle.compose_names.proofs.PieceLaws.{symbol-printed}
 use borrow.Author.Needs.{needs}

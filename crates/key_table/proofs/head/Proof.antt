@@ -1,7 +1,7 @@
 use Prim.Native.Nat.{ℕ, _*_, _/_}
 use mathlib.Core.Path.{ap}
 use native.Mathlib.Omega.{arith}
-use Rattle.key_table.specs.Table.{headOf}
+use Rattle.key_table.specs.Inner.Table.{headOf}
 use Rattle.key_table.proofs.HashLaws.{product-fits}
 use borrow.Author.Needs.{needs}
 use Rattle.key_table.proofs.head.Statement.{statement}

@@ -1,4 +1,4 @@
-use Rattle.key_table.specs.Table.{mixOf}
+use Rattle.key_table.specs.Inner.Table.{mixOf}
 use borrow.Author.Needs.{needs}
 use Rattle.key_table.proofs.mix.Statement.{statement}
 use Rattle.key_table.proofs.mix.Tie as tie

@@ -1,5 +1,5 @@
 use native.Mathlib.Omega.{arith}
-use Rattle.key_table.specs.Table.{codeOf}
+use Rattle.key_table.specs.Inner.Table.{codeOf}
 use Rattle.key_table.proofs.HashLaws.{turned-fits}
 use borrow.Author.Needs.{needs}
 use Rattle.key_table.proofs.turn.Statement.{statement}

@@ -1,7 +1,7 @@
 use Prim.Native.Nat.{_-_, _<_}
 use native.Mathlib.Omega.{arith}
 use lib.ListN.{length}
-use Rattle.key_table.specs.Table.{Comes}
+use Rattle.key_table.specs.Inner.Table.{Comes}
 use Rattle.key_table.proofs.HeldLaws.{Ahead, comes-none, comes-within, comes-ahead, comes-more, walked-none, walked-found}
 use borrow.Author.Needs.{needs}
 use Rattle.key_table.proofs.walk.Statement.{statement}

@@ -4,7 +4,7 @@ use mathlib.Core.Path.{_≡_, refl}
 use lib.ListN.{length, take}
 use borrow.Author.Needs.{needs}
 use Rattle.model.proofs.MarkingLaws.{adds-start, adds-more, adds-stop, adds-end}
-use Rattle.model.specs.Marking.{AddsLeaves}
+use Rattle.model.specs.Inner.Marking.{AddsLeaves}
 use Rattle.model.proofs.define_all.Statement.{statement}
 use Rattle.model.proofs.define_all.Tie as tie
 

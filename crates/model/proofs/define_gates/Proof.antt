@@ -5,7 +5,7 @@ use native.Mathlib.Omega.{arith}
 use lib.ListN.{length, take}
 use borrow.Author.Needs.{needs}
 use Rattle.model.proofs.MarkingLaws.{gates-undefined, gates-start, gates-more, gates-stop, gates-end}
-use Rattle.model.specs.Marking.{AddsGates}
+use Rattle.model.specs.Inner.Marking.{AddsGates}
 use Rattle.aiger.specs.Gates.{gateFrom}
 use Rattle.lists.specs.Words.{triplesOf}
 use Rattle.model.proofs.define_gates.Statement.{statement}

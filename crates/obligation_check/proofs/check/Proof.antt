@@ -1,6 +1,5 @@
 use Rattle.obligation_check.proofs.BoundaryLaws.{check-refused, check-valid, check-13}
-use Rattle.obligation_check.specs.Boundary.{askedOf}
-use Rattle.obligation_spec.specs.Calls.{Asked}
+use Rattle.obligation_spec.specs.Calls.{Asked, askedOf}
 use Rattle.model.specs.Circuit.{recordFrom}
 use borrow.Author.Needs.{needs}
 use Rattle.obligation_check.proofs.check.Statement.{statement}

@@ -5,7 +5,7 @@ use lib.Dec.{ltb}
 use lib.ListN.{length, drop}
 use Rattle.lists.specs.Tests.{all}
 use Rattle.lists.proofs.TestLaws.{all-stop, all-more, all-end}
-use Rattle.obligation_check.specs.Boundary.{indexes}
+use Rattle.obligation_check.specs.Inner.Boundary.{indexes}
 use borrow.Author.Needs.{needs}
 use Rattle.obligation_check.proofs.indexes_hold.Statement.{statement}
 use Rattle.obligation_check.proofs.indexes_hold.Tie as tie

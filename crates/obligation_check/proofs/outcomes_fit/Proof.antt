@@ -3,7 +3,7 @@ use mathlib.Core.Path.{_≡_}
 use lib.ListN.{drop}
 use Rattle.lists.specs.Tests.{all}
 use Rattle.obligation_spec.specs.Lists.{outcomesOf}
-use Rattle.obligation_check.specs.Boundary.{outcomeFits}
+use Rattle.obligation_check.specs.Inner.Boundary.{outcomeFits}
 use Rattle.obligation_check.proofs.OutcomeLaws.{target-stop, bits-stop, fit-more, fit-end}
 use borrow.Author.Needs.{needs}
 use Rattle.obligation_check.proofs.outcomes_fit.Statement.{statement}

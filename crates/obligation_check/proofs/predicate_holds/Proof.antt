@@ -1,7 +1,7 @@
 use Prim.Native.Nat.{_-_, _*_}
 use mathlib.Core.Path.{_≡_}
 use lib.ListN.{drop}
-use Rattle.obligation_check.specs.Boundary.{predicateHolds}
+use Rattle.obligation_check.specs.Inner.Boundary.{predicateHolds}
 use Rattle.obligation_check.proofs.BoundaryLaws.{early-stop, past-stop, long-stop, clause-stop, clause-more, pairs-stop}
 use borrow.Author.Needs.{needs}
 use Rattle.obligation_check.proofs.predicate_holds.Statement.{statement}

@@ -1,7 +1,7 @@
 use lib.ListN.{length}
 use Prim.Native.Nat.{_-_}
 use Rattle.lists.proofs.PartLaws.{Copied}
-use Rattle.obligation_claims.specs.Claims.{keysFrom}
+use Rattle.obligation_claims.specs.Inner.Claims.{keysFrom}
 use Rattle.obligation_claims.proofs.KeyLaws.{adding-none, adding-more, adding-done, literal-word}
 use borrow.Author.Needs.{needs}
 use Rattle.obligation_claims.proofs.add_keys.Statement.{statement}

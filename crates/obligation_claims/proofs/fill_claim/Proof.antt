@@ -1,6 +1,6 @@
 use lib.ListN.{length}
 use Prim.Native.Nat.{_-_}
-use Rattle.obligation_claims.specs.Claims.{claimList}
+use Rattle.obligation_claims.specs.Inner.Claims.{claimList}
 use Rattle.obligation_claims.proofs.FillLaws.{Filling, filling-none, claiming-true, claiming-false, claiming-word, claiming-done, key-low}
 use borrow.Author.Needs.{needs}
 use Rattle.obligation_claims.proofs.fill_claim.Statement.{statement}

@@ -1,6 +1,6 @@
 use native.Mathlib.Omega.{arith}
-use Rattle.cnf.specs.Appending.{Filled}
-use Rattle.obligation_claims.specs.Claims.{claimList}
+use Rattle.cnf.specs.Inner.Appending.{Filled}
+use Rattle.obligation_claims.specs.Inner.Claims.{claimList}
 use Rattle.obligation_claims.proofs.PushLaws.{claim-dropped, claim-words, words-narrow}
 use borrow.Author.Needs.{needs}
 use Rattle.obligation_claims.proofs.push_claim.Statement.{statement}

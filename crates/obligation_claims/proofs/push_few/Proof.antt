@@ -1,7 +1,7 @@
 use lib.ListN.{length}
 use Prim.Native.Nat.{_-_}
 use Rattle.lists.proofs.PartLaws.{Copied}
-use Rattle.obligation_claims.specs.Claims.{claimList}
+use Rattle.obligation_claims.specs.Inner.Claims.{claimList}
 use Rattle.obligation_claims.proofs.FillLaws.{key-low}
 use Rattle.obligation_claims.proofs.PushLaws.{three, few-none, few-more, few-done, few-narrow, few-appends}
 use borrow.Author.Needs.{needs}

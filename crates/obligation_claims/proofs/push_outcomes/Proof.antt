@@ -1,5 +1,5 @@
 use Prim.Native.Nat.{_-_}
-use Rattle.obligation_claims.specs.Claims.{outcomeClaims}
+use Rattle.obligation_claims.specs.Inner.Claims.{outcomeClaims}
 use Rattle.obligation_claims.proofs.PushLaws.{Pushing, pushing-none, pushing-fits, pushing-more, pushing-done, pushing-space, outcomes-count, outcomes-at}
 use borrow.Author.Needs.{needs}
 use Rattle.obligation_claims.proofs.push_outcomes.Statement.{statement}

@@ -1,6 +1,6 @@
 use lib.ListN.{length}
 use Prim.Native.Nat.{_-_}
-use Rattle.obligation_claims.specs.Claims.{stateClaims}
+use Rattle.obligation_claims.specs.Inner.Claims.{stateClaims}
 use Rattle.obligation_claims.proofs.PushLaws.{Pushing, pushing-none, pushing-fits, pushing-more, pushing-done, pushing-space, states-count, states-at}
 use borrow.Author.Needs.{needs}
 use Rattle.obligation_claims.proofs.push_states.Statement.{statement}

@@ -3,7 +3,7 @@ use mathlib.Core.Path.{_≡_}
 use lib.ListN.{length, take}
 use Rattle.lists.specs.Words.{triplesOf, wordsOf}
 use Rattle.aiger.specs.Gates.{gateFrom}
-use Rattle.cnf.specs.Appending.{Appends}
+use Rattle.cnf.specs.Inner.Appending.{Appends}
 use Rattle.cnf.proofs.AppendLaws.{appends-none}
 use Rattle.obligation_spec.specs.Lists.{gateLists}
 use native.Mathlib.Omega.{arith}

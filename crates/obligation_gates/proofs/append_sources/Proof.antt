@@ -2,7 +2,7 @@ use Rattle.obligation_gates.proofs.PredicateLaws.{low-at}
 use Prim.Native.Nat.{_-_}
 use mathlib.Core.Path.{_≡_}
 use lib.ListN.{length, take}
-use Rattle.cnf.specs.Appending.{Appends}
+use Rattle.cnf.specs.Inner.Appending.{Appends}
 use Rattle.cnf.proofs.AppendLaws.{appends-none}
 use native.Mathlib.Omega.{arith}
 use Rattle.obligation_gates.proofs.SourceLaws.{sources, source-narrow, source-space, source-next, source-end}

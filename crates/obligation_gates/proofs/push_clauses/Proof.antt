@@ -1,7 +1,7 @@
 use Prim.Native.Nat.{_-_}
 use mathlib.Core.Path.{_≡_}
 use lib.ListN.{length, take}
-use Rattle.cnf.specs.Appending.{Appends}
+use Rattle.cnf.specs.Inner.Appending.{Appends}
 use Rattle.cnf.proofs.AppendLaws.{appends-none}
 use native.Mathlib.Omega.{arith}
 use Rattle.obligation_gates.proofs.ClauseLaws.{clauseLists, clause-inside, clause-short, clause-clausal, clause-space, clause-next, clauses-end}

@@ -1,6 +1,6 @@
 use mathlib.Core.Path.{ap, _∙_}
 use borrow.Author.Needs.{needs}
-use Rattle.probe.specs.Flat.{flatWritten}
+use Rattle.probe.specs.Inner.Flat.{flatWritten}
 use Rattle.probe.proofs.probe_write_decimal.Statement.{statement}
 use Rattle.probe.proofs.probe_write_decimal.Tie as tie
 

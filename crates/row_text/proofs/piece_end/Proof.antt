@@ -3,7 +3,7 @@ use mathlib.Core.Path.{_≡_}
 use lib.ListN.{length, drop}
 use Rattle.scan.specs.Spans.{span}
 use Rattle.scan.proofs.SpanLaws.{span-again, span-stop, span-over}
-use Rattle.row_text.specs.Steps.{inPiece}
+use Rattle.row_text.specs.Inner.Steps.{inPiece}
 use Rattle.row_text.proofs.PieceLaws.{piece-goes, piece-stops}
 use borrow.Author.Needs.{needs}
 use Rattle.row_text.proofs.piece_end.Statement.{statement}

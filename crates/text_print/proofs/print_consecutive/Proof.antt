@@ -3,7 +3,7 @@ use Prim.Native.Nat.{_+_}
 use mathlib.Core.Path.{_≡_, refl}
 use native.Mathlib.Omega.{arith}
 use Rattle.text_decimal.specs.Printed.{textOf}
-use Rattle.text_print.specs.Lines.{literalLines, literalsFrom}
+use Rattle.text_print.specs.Inner.Lines.{literalLines, literalsFrom}
 use Rattle.text_print.proofs.PrintsLaws.{Printing, printing-none, printing-more, printing-done}
 use Rattle.text_print.proofs.LineLaws.{literals-more, literals-end}
 use borrow.Author.Needs.{needs}

@@ -4,7 +4,7 @@ use mathlib.Core.Path.{_≡_}
 use native.Mathlib.Omega.{arith}
 use lib.ListN.{length, drop}
 use Rattle.text_decimal.specs.Printed.{textOf}
-use Rattle.text_print.specs.Lines.{gateLines}
+use Rattle.text_print.specs.Inner.Lines.{gateLines}
 use Rattle.text_print.proofs.PrintsLaws.{Printing, printing-none, printing-more, printing-done}
 use Rattle.text_print.proofs.LineLaws.{gates-more, gates-end}
 use borrow.Author.Needs.{needs}

@@ -1,7 +1,7 @@
 -- The digits and byte 10 are counted, and written where there is room for all.
 use mathlib.Core.Path.{refl}
 use native.Mathlib.Omega.{arith}
-use Rattle.text_print.specs.DigitPairs.{digitPairs}
+use Rattle.text_print.specs.Inner.DigitPairs.{digitPairs}
 use Rattle.text_print.proofs.PrintsLaws.{prints-measured, prints-put}
 use Rattle.text_print.proofs.WriteLaws.{line-length}
 use borrow.Author.Needs.{needs}

@@ -1,7 +1,7 @@
 -- The digits are counted, and written where there is room for all.
 use mathlib.Core.Path.{refl}
 use native.Mathlib.Omega.{arith}
-use Rattle.text_print.specs.DigitPairs.{digitPairs}
+use Rattle.text_print.specs.Inner.DigitPairs.{digitPairs}
 use Rattle.text_print.proofs.PrintsLaws.{prints-measured, prints-put}
 use borrow.Author.Needs.{needs}
 use Rattle.text_print.proofs.print_number.Statement.{statement}

@@ -1,6 +1,6 @@
 -- The table is the one that the inner function asks for.
 use mathlib.Core.Path.{refl}
-use Rattle.text_print.specs.DigitPairs.{digitPairs}
+use Rattle.text_print.specs.Inner.DigitPairs.{digitPairs}
 use borrow.Author.Needs.{needs}
 use Rattle.text_print.proofs.print_pairs.Statement.{statement}
 use Rattle.text_print.proofs.print_pairs.Tie as tie

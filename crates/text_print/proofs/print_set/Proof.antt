@@ -2,7 +2,7 @@
 use Prim.Native.Nat.{_-_}
 use native.Mathlib.Omega.{arith}
 use lib.ListN.{length}
-use Rattle.text_print.specs.Elements.{elements}
+use Rattle.text_print.specs.Inner.Elements.{elements}
 use Rattle.text_print.proofs.PrintsLaws.{Printing, printing-more, printing-done}
 use Rattle.text_print.proofs.WordLaws.{linesOf, elementsFrom, set-none, set-more, set-end}
 use borrow.Author.Needs.{needs}

@@ -1,7 +1,7 @@
 -- The loop has printed the numbers in front of k; `rest` has the bits from k on.
 use Prim.Native.Nat.{_+_, _*_}
 use native.Mathlib.Omega.{arith}
-use Rattle.text_print.specs.Elements.{elementsIn}
+use Rattle.text_print.specs.Inner.Elements.{elementsIn}
 use Rattle.text_print.proofs.WordLaws.{linesOf, InWord, word-none, word-room, word-room-eight, word-eight, word-one, word-print, word-done}
 use borrow.Author.Needs.{needs}
 use Rattle.text_print.proofs.print_word.Statement.{statement}

@@ -6,8 +6,8 @@ use Rattle.compose_gather.proofs.TurnLaws.{gather-before, gather-behind
 use lib.ListN.{length}
 use Prim.Native.Nat.{_-_, _/_}
 use mathlib.Core.Path.{_≡_}
-use Rattle.compose_joint.specs.Joint.{jointLiterals, listOf}
-use Rattle.compose_gather.specs.Gathered.{literalCount}
+use Rattle.compose_joint.specs.Inner.Joint.{jointLiterals, listOf}
+use Rattle.compose_gather.specs.Inner.Gathered.{literalCount}
 
 abbrev Inv-loop : tie.InvT-loop
 Inv-loop witnesses pairs counts work₀ kind inputs latches to count b₀ from₀ at₀ w₀ work b from at w = Gathering (jointLiterals (listOf kind) inputs latches) (literalCount kind) witnesses pairs work₀ work to from at b w × (count ≡ length pairs / 2) × (length work ≡ length work₀)

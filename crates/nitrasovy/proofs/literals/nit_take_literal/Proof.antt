@@ -42,7 +42,7 @@ use denote.Triple.Walked.{says, Stays, stay-ref, stay-none-slice, walkOf, goes-n
 use denote.Exit.{yes}
 use Rattle.nitrasovy.specs.declared.literals.Moved.{Moved}
 use Rattle.nitrasovy.specs.declared.literals.NitCursor.{NitCursor}
-use Rattle.nitrasovy.specs.Inner.{flatMoved}
+use Rattle.nitrasovy.specs.Inner.FlatEnums.{flatMoved}
 use Rattle.nitrasovy.specs.FlatLiterals.{literalFrom}
 use Rattle.nitrasovy.proofs.literals.NitCursor as T
 use Rattle.nitrasovy.proofs.literals.NitCursor.Laws as T′

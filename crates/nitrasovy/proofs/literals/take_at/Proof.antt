@@ -1,6 +1,6 @@
 use mathlib.Core.Path.{ap, _∙_}
 use borrow.Author.Needs.{needs}
-use Rattle.nitrasovy.specs.Inner.{flatMoved}
+use Rattle.nitrasovy.specs.Inner.FlatEnums.{flatMoved}
 use Rattle.nitrasovy.proofs.literals.take_at.Statement.{statement}
 use Rattle.nitrasovy.proofs.literals.take_at.Tie as tie
 

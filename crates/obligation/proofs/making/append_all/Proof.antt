@@ -1,4 +1,4 @@
-use Rattle.obligation.specs.Appended.{claimedOf}
+use Rattle.obligation.specs.Inner.Appended.{claimedOf}
 use Rattle.obligation.proofs.MakingLaws.{claims-space, last-space, claims-few, all-appends}
 use borrow.Author.Needs.{needs}
 use Rattle.obligation.proofs.making.append_all.Statement.{statement}

@@ -1,7 +1,6 @@
 use lib.ListN.{length}
 use Rattle.obligation.proofs.CallLaws.{asks, relation-refused, relation-continues}
-use Rattle.obligation_check.specs.Boundary.{askedOf}
-use Rattle.obligation_spec.specs.Calls.{Asked}
+use Rattle.obligation_spec.specs.Calls.{Asked, askedOf}
 use Rattle.model.specs.Circuit.{recordFrom}
 use Rattle.model.proofs.ValueLaws.{Sized}
 use borrow.Author.Needs.{needs}

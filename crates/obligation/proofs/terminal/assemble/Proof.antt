@@ -1,8 +1,7 @@
 use native.Mathlib.Omega.{arith}
 use Rattle.model.proofs.ValueLaws.{Sized}
 use Rattle.model.specs.Circuit.{recordFrom}
-use Rattle.obligation_spec.specs.Calls.{Asked}
-use Rattle.obligation_check.specs.Boundary.{askedOf}
+use Rattle.obligation_spec.specs.Calls.{Asked, askedOf}
 use Rattle.obligation.proofs.AssembleLaws.{in-order, currents-list, low-list-now, few-list-now, terminal-list-ready, terminal-made, output-low, bad-output}
 use borrow.Author.Needs.{needs}
 use Rattle.obligation.proofs.terminal.assemble.Statement.{statement}

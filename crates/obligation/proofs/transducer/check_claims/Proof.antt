@@ -1,7 +1,6 @@
 use Rattle.obligation.proofs.ReadyLaws.{few-latches, few-outputs}
 use Rattle.obligation.proofs.ClaimLaws.{outcomes-hold, transducer-no-source, transducer-no-outcomes, transducer-made}
-use Rattle.obligation_check.specs.Boundary.{askedOf}
-use Rattle.obligation_spec.specs.Calls.{Asked}
+use Rattle.obligation_spec.specs.Calls.{Asked, askedOf}
 use Rattle.model.specs.Circuit.{recordFrom}
 use Rattle.model.proofs.ValueLaws.{Sized}
 use borrow.Author.Needs.{needs}

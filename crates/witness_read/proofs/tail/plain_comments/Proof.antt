@@ -5,7 +5,7 @@ use borrow.Author.Needs.{needs}
 use Rattle.witness_read.proofs.CommentLaws.{model-comments, comments-end, comments-stop, comments-more}
 use Rattle.witness_read.specs.Comments.{plainComment}
 use Rattle.text.proofs.LineLaws.{line-ordered, line-within, line-less}
-use Rattle.circuit_lines.specs.Places.{linesFrom}
+use Rattle.circuit_lines.specs.Inner.Takes.{linesFrom}
 use Rattle.lists.specs.Tests.{all}
 use Rattle.witness_read.proofs.tail.plain_comments.Statement.{statement}
 use Rattle.witness_read.proofs.tail.plain_comments.Tie as tie

@@ -1,0 +1,4 @@
+-- For the contracts of inner functions; no promise of an export names these.
+pub mod Header
+pub mod GateText
+pub mod Text
