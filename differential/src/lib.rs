@@ -3,6 +3,13 @@
 
 #![cfg(published)]
 
+// The Rust crate's declarations of the library's calls. The crate itself would always link the
+// library, and the stand-in does without.
+#[macro_use]
+#[allow(dead_code)]
+#[path = "../../bindings/rust/src/library.rs"]
+mod library;
+
 pub mod arguments;
 pub mod circuit;
 pub mod compare;
@@ -15,3 +22,6 @@ pub mod sections;
 pub mod subject;
 mod tally;
 mod unsat_proof;
+
+/// A word of the library, as its header has it.
+type Word = u64;
