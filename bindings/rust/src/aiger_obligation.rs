@@ -10,8 +10,10 @@ pub use rows::{
     relation_row_completeness_cnf, terminal_completeness_cnf, transducer_row_completeness_cnf,
 };
 
-use crate::library;
+pub use crate::library::AigerAnd;
+
 use crate::refusal::error_named;
+use crate::{Refusal, library};
 
 pub const AIGER_OBLIGATION_VERSION: u32 = 1;
 pub const MAX_AIGER_VARIABLES: usize = 1_000_000;
@@ -31,15 +33,6 @@ error_named!(AigerObligationError);
 pub struct AigerLatch {
     pub current: usize,
     pub next: usize,
-}
-
-/// A gate: its literal, and those of its operands.
-#[repr(C)]
-#[derive(Clone, Debug, Eq, PartialEq)]
-pub struct AigerAnd {
-    pub output: usize,
-    pub left: usize,
-    pub right: usize,
 }
 
 /// A transition model. A literal is 2 x variable, plus 1 when negated; 0 is false, 1 is true.
@@ -96,15 +89,17 @@ impl AigerTransition {
         state: usize,
         declared_input: u64,
     ) -> Result<(usize, u128), AigerObligationError> {
-        let [target, high, low] = self.step(state as u64, declared_input)?;
-        Ok((target as usize, u128::from(high) << 64 | u128::from(low)))
+        let stepped = self.step(state as u64, declared_input)?;
+        let outputs = u128::from(stepped.high) << 64 | u128::from(stepped.low);
+        Ok((stepped.target as usize, outputs))
     }
 
-    /// Target, high and low half of the outputs.
-    fn step(&self, state: u64, input: u64) -> Result<[u64; 3], AigerObligationError> {
-        let record = record::words(self);
+    fn step(&self, state: u64, input: u64) -> Result<library::Stepped, AigerObligationError> {
+        let record = record::of(self);
         let mut work = record::work(&record);
-        let stepped = library::nit_step_records(&record, &self.ands, &mut work, state, input);
-        Ok(stepped.result()?)
+        let words = record.words();
+        let stepped = library::nit_step_records(words, &self.ands, &mut work, state, input);
+        Refusal::accepted(stepped.reason)?;
+        Ok(stepped)
     }
 }

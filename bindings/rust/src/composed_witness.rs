@@ -1,5 +1,8 @@
 //! Safety witnesses: their reader, and their composition.
 
+pub use crate::library::Cursor;
+
+use crate::library::Witness;
 use crate::refusal::error_named;
 use crate::room::{Room, lend};
 use crate::{Refusal, header, library};
@@ -11,7 +14,6 @@ pub const MAX_COMPOSED_AIGER_BYTES: usize = 16 * 1024 * 1024;
 error_named!(ComposedWitnessError);
 
 /// How many there are of each in a witness, or in the model of a composition.
-#[repr(C)]
 #[derive(Clone, Copy, Debug, Default, Eq, PartialEq)]
 pub struct WitnessCounts {
     pub max_variable: usize,
@@ -21,13 +23,6 @@ pub struct WitnessCounts {
     pub gates: usize,
     pub bads: usize,
     pub constraints: usize,
-}
-
-/// A place in a text, in bytes.
-#[repr(C)]
-#[derive(Clone, Copy, Debug, Default, Eq, PartialEq)]
-pub struct Cursor {
-    pub at: usize,
 }
 
 /// Reads a witness. In the original this reader is a part of composing.
@@ -45,14 +40,34 @@ pub fn read_model(text: &[u8]) -> Result<WitnessCounts, ComposedWitnessError> {
 }
 
 fn read(text: &[u8], witness: bool) -> Result<WitnessCounts, ComposedWitnessError> {
-    Ok(library::nit_read_witness(text, witness).result()?)
+    let Witness {
+        reason,
+        max_variable,
+        inputs,
+        latches,
+        outputs,
+        gates,
+        bads,
+        constraints,
+    } = library::nit_read_witness(text, witness);
+    Refusal::accepted(reason)?;
+    Ok(WitnessCounts {
+        max_variable,
+        inputs,
+        latches,
+        outputs,
+        gates,
+        bads,
+        constraints,
+    })
 }
 
 /// Takes the next line of a text as one literal, by the witness reader's rule for numbers. The
 /// cursor moves past the line, also where it is refused (8); with no line left it stays.
 pub fn take_literal(text: &[u8], cursor: &mut Cursor) -> Result<usize, ComposedWitnessError> {
-    let literal = library::nit_take_literal(text, cursor).result()?;
-    Ok(literal as usize)
+    let taken = library::nit_take_literal(text, cursor);
+    Refusal::accepted(taken.reason)?;
+    Ok(taken.value as usize)
 }
 
 /// Composes witnesses of a model into one text.
@@ -122,8 +137,8 @@ fn compose_with(
         let mut out = vec![0; bytes];
         let pairs = parts.as_flattened();
         let composed = library::nit_compose(model, witnesses, pairs, &mut work, &mut out);
-        let length = composed.result()?;
-        out.truncate(length);
+        Refusal::accepted(composed.reason)?;
+        out.truncate(composed.bytes);
         out.shrink_to_fit();
         Ok(out)
     })

@@ -44,11 +44,16 @@ pub mod aiger_obligation;
 pub mod composed_witness;
 mod header;
 mod library;
+#[cfg(test)]
+mod library_tests;
 mod refusal;
 mod room;
 pub mod unsat_proof;
 
 pub use refusal::Refusal;
+
+/// A word of the library: the original's lists are of `usize`.
+type Word = usize;
 
 /// The example of the README is run with the others.
 #[cfg(doctest)]

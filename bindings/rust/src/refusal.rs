@@ -47,6 +47,11 @@ impl Refusal {
         (number != 0).then_some(Self(number))
     }
 
+    /// The reason of an answer as a result.
+    pub(crate) fn accepted(reason: u64) -> Result<(), Self> {
+        Self::of(reason).map_or(Ok(()), Err)
+    }
+
     /// The number, 1 to 20.
     pub fn number(self) -> u8 {
         self.0

@@ -27,116 +27,28 @@ mod stand_in {
 
 #[cfg(not(feature = "stand-in"))]
 mod library {
-    use crate::subject::model::{Model, Read, Stepped, Subject};
+    use crate::library::{AigerAnd, nit_read_transition, nit_step, nit_step_records};
+    use crate::subject::model::{Model, Stepped, Subject};
 
-    // A slice passes as a pointer and then a length in elements, a record as the words of its memory.
-    unsafe extern "C" {
-        fn nit_read_transition(
-            text: *const u8,
-            text_length: usize,
-            gates: *mut u64,
-            gates_length: usize,
-            work: *mut u64,
-            work_length: usize,
-        ) -> Read;
-        fn probe_validate(
-            model: *const u64,
-            model_length: usize,
-            gates: *const u64,
-            gates_length: usize,
-            work: *mut u64,
-            work_length: usize,
-        ) -> u64;
-        fn nit_step(
-            model: *const u64,
-            model_length: usize,
-            gates: *const u64,
-            gates_length: usize,
-            work: *mut u64,
-            work_length: usize,
-            state: u64,
-            input: u64,
-        ) -> Stepped;
-        fn nit_step_records(
-            model: *const u64,
-            model_length: usize,
-            gates: *const Gate,
-            gates_length: usize,
-            work: *mut u64,
-            work_length: usize,
-            state: u64,
-            input: u64,
-        ) -> Stepped;
+    calls! {
+        fn probe_validate(model: &[u64], gates: &[u64], work: &mut [u64],) -> u64;
     }
 
-    /// A gate's output, left and right.
-    type Gate = [u64; 3];
-
-    // In every `unsafe` below: pointer and length are those of one slice that lives through the
-    // call, no two overlap, and the library asks nothing else of its arguments.
-
     pub const SUBJECT: Subject = Subject {
-        read,
+        read: nit_read_transition,
         validate,
         step,
-        validate_words,
-        step_words,
+        validate_words: probe_validate,
+        step_words: nit_step,
         step_records,
     };
 
-    fn read(text: &[u8], gates: &mut [u64], work: &mut [u64]) -> Read {
-        unsafe {
-            nit_read_transition(
-                text.as_ptr(),
-                text.len(),
-                gates.as_mut_ptr(),
-                gates.len(),
-                work.as_mut_ptr(),
-                work.len(),
-            )
-        }
-    }
-
     fn validate(model: &Model, gates: &[u64], work: &mut [u64]) -> u64 {
-        validate_words(model.words(), gates, work)
-    }
-
-    fn validate_words(record: &[u64], gates: &[u64], work: &mut [u64]) -> u64 {
-        unsafe {
-            probe_validate(
-                record.as_ptr(),
-                record.len(),
-                gates.as_ptr(),
-                gates.len(),
-                work.as_mut_ptr(),
-                work.len(),
-            )
-        }
+        probe_validate(model.words(), gates, work)
     }
 
     fn step(model: &Model, gates: &[u64], work: &mut [u64], state: u64, input: u64) -> Stepped {
-        step_words(model.words(), gates, work, state, input)
-    }
-
-    fn step_words(
-        record: &[u64],
-        gates: &[u64],
-        work: &mut [u64],
-        state: u64,
-        input: u64,
-    ) -> Stepped {
-        unsafe {
-            nit_step(
-                record.as_ptr(),
-                record.len(),
-                gates.as_ptr(),
-                gates.len(),
-                work.as_mut_ptr(),
-                work.len(),
-                state,
-                input,
-            )
-        }
+        nit_step(model.words(), gates, work, state, input)
     }
 
     fn step_records(
@@ -146,18 +58,15 @@ mod library {
         state: u64,
         input: u64,
     ) -> Stepped {
-        let (gates, _): (&[Gate], _) = gates.as_chunks();
-        unsafe {
-            nit_step_records(
-                record.as_ptr(),
-                record.len(),
-                gates.as_ptr(),
-                gates.len(),
-                work.as_mut_ptr(),
-                work.len(),
-                state,
-                input,
-            )
-        }
+        nit_step_records(record, records(gates), work, state, input)
+    }
+
+    /// The gates that lie in words, three words each.
+    fn records(words: &[u64]) -> &[AigerAnd] {
+        const { assert!(size_of::<AigerAnd>() == size_of::<[u64; 3]>()) };
+        let (gates, _) = words.as_chunks::<3>();
+        // SAFETY: a gate is `repr(C)` with three words and nothing else, and any words are a gate;
+        // the slice lives as long as the words.
+        unsafe { std::slice::from_raw_parts(gates.as_ptr().cast(), gates.len()) }
     }
 }

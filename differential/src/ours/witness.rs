@@ -23,38 +23,20 @@ mod stand_in {
 
 #[cfg(not(feature = "stand-in"))]
 mod library {
+    use crate::library::nit_read_witness;
     use crate::subject::witness::{Read, Role, Subject};
 
-    // A slice passes as a pointer and then a length in elements.
-    unsafe extern "C" {
-        fn nit_read_witness(text: *const u8, text_length: usize, witness: bool) -> Read;
-        fn probe_load_witness(
-            text: *const u8,
-            text_length: usize,
-            witness: bool,
-            words: *mut u64,
-            words_length: usize,
-        ) -> u64;
+    calls! {
+        fn probe_load_witness(text: &[u8], witness: bool, words: &mut [u64],) -> u64;
     }
-
-    // In every `unsafe` below: pointer and length are those of one slice that lives through the
-    // call, no two overlap, and the library asks nothing else of its arguments.
 
     pub const SUBJECT: Subject = Subject { read, load };
 
     fn read(text: &[u8], role: Role) -> Read {
-        unsafe { nit_read_witness(text.as_ptr(), text.len(), role == Role::Witness) }
+        nit_read_witness(text, role == Role::Witness)
     }
 
     fn load(text: &[u8], role: Role, words: &mut [u64]) -> u64 {
-        unsafe {
-            probe_load_witness(
-                text.as_ptr(),
-                text.len(),
-                role == Role::Witness,
-                words.as_mut_ptr(),
-                words.len(),
-            )
-        }
+        probe_load_witness(text, role == Role::Witness, words)
     }
 }

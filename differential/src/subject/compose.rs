@@ -1,5 +1,8 @@
 //! What is compared in the compose layer: the composer.
 
+/// What it answers: reason 0 and the length of the text in front of `out`, or the reason and 0.
+pub use crate::library::Composed;
+
 /// What a call is given: the model's text, a buffer with the witnesses' texts, and where each of
 /// them stands in it, as pairs of offset and length.
 #[derive(Clone, Copy)]
@@ -13,14 +16,6 @@ pub struct Asked<'a> {
 pub struct Lent<'a> {
     pub work: &'a mut [u64],
     pub out: &'a mut [u8],
-}
-
-/// What it answers: reason 0 and the length of the text in front of `out`, or the reason and 0.
-#[repr(C)]
-#[derive(Clone, Copy, Debug, Eq, PartialEq)]
-pub struct Composed {
-    pub reason: u64,
-    pub bytes: usize,
 }
 
 impl Composed {

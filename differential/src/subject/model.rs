@@ -1,54 +1,16 @@
 //! What is compared in the model layer: the transition reader, the validation and the step, over
 //! the records of the library's C interface.
 
+/// The record, what the reader answers (reason 0 and the model, or the reason's number and a record
+/// of zeros), what a step answers, and how many words a record is.
+pub use crate::library::{Latch, RECORD_WORDS as WORDS, Read, Stepped, Transition as Model};
+
 use crate::circuit::Circuit;
 use std::fmt;
 
 pub const INPUTS: usize = 64;
 pub const LATCHES: usize = 8;
 pub const OUTPUTS: usize = 128;
-
-#[repr(C)]
-#[derive(Clone, Copy, Debug, Default, Eq, PartialEq)]
-pub struct Latch {
-    pub current: u64,
-    pub next: u64,
-}
-
-/// A transition model by value. The gates' words are lent beside it, three a gate.
-#[repr(C)]
-#[derive(Clone, Copy, Eq, PartialEq)]
-pub struct Model {
-    pub max_variable: usize,
-    pub input_count: usize,
-    pub inputs: [u64; INPUTS],
-    pub latch_count: usize,
-    pub latches: [Latch; LATCHES],
-    pub output_count: usize,
-    pub outputs: [u64; OUTPUTS],
-    pub and_count: usize,
-}
-
-/// What the reader answers: reason 0 and the model, or the reason's number and a record of zeros.
-#[repr(C)]
-#[derive(Clone, Copy, Debug, Eq, PartialEq)]
-pub struct Read {
-    pub reason: u64,
-    pub model: Model,
-}
-
-/// What a step answers: reason 0 and the outcome, or the reason's number and zeros.
-#[repr(C)]
-#[derive(Clone, Copy, Debug, Eq, PartialEq)]
-pub struct Stepped {
-    pub reason: u64,
-    pub target: u64,
-    pub high: u64,
-    pub low: u64,
-}
-
-/// How many words a record is: all its fields and elements are words.
-pub const WORDS: usize = size_of::<Model>() / size_of::<u64>();
 
 /// The functions of the model layer. Gate words come before work words.
 #[derive(Clone, Copy)]
@@ -69,20 +31,6 @@ pub type Validate<R> = fn(&R, &[u64], &mut [u64]) -> u64;
 pub type Step<R> = fn(&R, &[u64], &mut [u64], u64, u64) -> Stepped;
 
 impl Model {
-    pub const ZERO: Self = Self {
-        max_variable: 0,
-        input_count: 0,
-        inputs: [0; INPUTS],
-        latch_count: 0,
-        latches: [Latch {
-            current: 0,
-            next: 0,
-        }; LATCHES],
-        output_count: 0,
-        outputs: [0; OUTPUTS],
-        and_count: 0,
-    };
-
     /// The record of a circuit whose lists fit, with zeros past them.
     pub fn of(circuit: &Circuit) -> Self {
         let mut model = Self {
@@ -97,12 +45,6 @@ impl Model {
         model.latches[..circuit.latches.len()].copy_from_slice(&circuit.latches);
         model.outputs[..circuit.outputs.len()].copy_from_slice(&circuit.outputs);
         model
-    }
-
-    /// The words of the record's memory.
-    pub fn words(&self) -> &[u64; WORDS] {
-        // All fields and elements are words of 64 bits, so that there is no gap between them.
-        unsafe { &*std::ptr::from_ref(self).cast() }
     }
 
     /// The record that lies in words: M, I, the inputs, L, the latches, O, the outputs, A. A word
@@ -159,6 +101,14 @@ impl Stepped {
             high: 0,
             low: 0,
         }
+    }
+}
+
+impl fmt::Debug for Read {
+    fn fmt(&self, out: &mut fmt::Formatter<'_>) -> fmt::Result {
+        let Self { reason, model } = self;
+        let mut shown = out.debug_struct("Read");
+        shown.field("reason", reason).field("model", model).finish()
     }
 }
 

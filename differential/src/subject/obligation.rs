@@ -1,5 +1,8 @@
 //! What is compared in the obligation layer: the three calls that make clauses.
 
+/// What a call answers: reason 0 and the counts, or the reason's number and zeros.
+pub use crate::library::Made;
+
 /// A model's record as words, its gate words, the relevant inputs, the predicate and the claim.
 #[derive(Clone, Copy)]
 pub struct Asked<'a> {
@@ -37,15 +40,6 @@ pub struct Lent<'a> {
     pub work: &'a mut [u64],
     pub pairs: &'a mut [u64],
     pub literals: &'a mut [u32],
-}
-
-/// What a call answers: reason 0 and the counts, or the reason's number and zeros.
-#[repr(C)]
-#[derive(Clone, Copy, Debug, Eq, PartialEq)]
-pub struct Made {
-    pub reason: u64,
-    pub clauses: u64,
-    pub literals: u64,
 }
 
 pub type Make = fn(&Asked, &mut Lent) -> Made;

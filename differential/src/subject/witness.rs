@@ -1,6 +1,9 @@
 //! What is compared in the witness layer: the witness reader, which says what a text's counts are,
 //! and the loader, which hands its sections and names out as words.
 
+/// What the reader answers: reason 0 and the counts, or the reason's number and zeros.
+pub use crate::library::Witness as Read;
+
 use crate::sections::Sections;
 
 /// As what a text is read. Only a witness is refused for its comments.
@@ -11,20 +14,6 @@ pub enum Role {
 }
 
 pub const ROLES: [Role; 2] = [Role::Model, Role::Witness];
-
-/// What the reader answers: reason 0 and the counts, or the reason's number and zeros.
-#[repr(C)]
-#[derive(Clone, Copy, Debug, Default, Eq, PartialEq)]
-pub struct Read {
-    pub reason: u64,
-    pub max_variable: u64,
-    pub inputs: u64,
-    pub latches: u64,
-    pub outputs: u64,
-    pub gates: u64,
-    pub bads: u64,
-    pub constraints: u64,
-}
 
 /// The functions of the witness layer.
 #[derive(Clone, Copy)]

@@ -29,7 +29,8 @@ fn read_with(first: Room, bytes: &[u8]) -> Result<AigerTransition, Refusal> {
         let mut gates = vec![[0; 3]; gates];
         let mut work = vec![0; work];
         let read = library::nit_read_transition(bytes, gates.as_flattened_mut(), &mut work);
-        read.result().map(|record| record::model(&record, gates))
+        Refusal::accepted(read.reason)?;
+        Ok(record::model(&read.model, gates))
     })
 }
 

@@ -1,69 +1,52 @@
-//! A model's record as the words of its memory: M; I and 64 inputs; L and 8 latches, two words
-//! each; O and 128 outputs; A.
+//! A model as the library's record.
 
-use super::{
-    AigerAnd, AigerLatch, AigerTransition, MAX_AIGER_INPUTS, MAX_AIGER_LATCHES, MAX_AIGER_OUTPUTS,
-    MAX_AIGER_VARIABLES,
-};
-use crate::library::RECORD_WORDS;
-
-const VARIABLES: usize = 0;
-const INPUTS: usize = 1;
-const LATCHES: usize = INPUTS + 1 + MAX_AIGER_INPUTS;
-const OUTPUTS: usize = LATCHES + 1 + 2 * MAX_AIGER_LATCHES;
-const GATES: usize = OUTPUTS + 1 + MAX_AIGER_OUTPUTS;
-const _: () = assert!(GATES + 1 == RECORD_WORDS);
-
-pub type Record = [usize; RECORD_WORDS];
+use super::{AigerAnd, AigerLatch, AigerTransition, MAX_AIGER_VARIABLES};
+use crate::library::{Latch, Transition};
 
 /// The record of a model. A list that is longer than its place has its whole length in the count,
 /// so that the library refuses it; what does not fit is not looked at then.
-pub fn words(model: &AigerTransition) -> Record {
-    let mut record = [0; RECORD_WORDS];
-    // Too many variables are too many, however many; so no huge work slice is needed to say so.
-    record[VARIABLES] = model.max_variable.min(MAX_AIGER_VARIABLES + 1);
-    record[INPUTS] = model.inputs.len();
-    record[LATCHES] = model.latches.len();
-    record[OUTPUTS] = model.outputs.len();
-    record[GATES] = model.ands.len();
-    let latches = model.latches.iter();
-    let latches = latches.flat_map(|latch| [latch.current, latch.next]);
-    fill(
-        &mut record[INPUTS + 1..LATCHES],
-        model.inputs.iter().copied(),
-    );
-    fill(&mut record[LATCHES + 1..OUTPUTS], latches);
-    fill(
-        &mut record[OUTPUTS + 1..GATES],
-        model.outputs.iter().copied(),
-    );
+pub fn of(model: &AigerTransition) -> Transition {
+    let mut record = Transition {
+        // Too many variables are too many, however many; so no huge work slice is needed to say so.
+        max_variable: model.max_variable.min(MAX_AIGER_VARIABLES + 1),
+        input_count: model.inputs.len(),
+        latch_count: model.latches.len(),
+        output_count: model.outputs.len(),
+        and_count: model.ands.len(),
+        ..Transition::ZERO
+    };
+    let latch = |&AigerLatch { current, next }: &_| Latch { current, next };
+    fill(&mut record.inputs, model.inputs.iter().copied());
+    fill(&mut record.latches, model.latches.iter().map(latch));
+    fill(&mut record.outputs, model.outputs.iter().copied());
     record
 }
 
-fn fill(slots: &mut [usize], values: impl Iterator<Item = usize>) {
+fn fill<T>(slots: &mut [T], values: impl Iterator<Item = T>) {
     for (slot, value) in slots.iter_mut().zip(values) {
         *slot = value;
     }
 }
 
 /// As many work words as a call on this record needs: more than M.
-pub fn work(record: &Record) -> Vec<usize> {
-    vec![0; record[VARIABLES] + 1]
+pub fn work(record: &Transition) -> Vec<usize> {
+    vec![0; record.max_variable + 1]
 }
 
 /// The model of a record that the library has read, with gates for as many as it says.
-pub fn model(record: &Record, mut gates: Vec<[usize; 3]>) -> AigerTransition {
-    gates.truncate(record[GATES]);
+pub fn model(record: &Transition, mut gates: Vec<[usize; 3]>) -> AigerTransition {
+    gates.truncate(record.and_count);
     gates.shrink_to_fit();
-    let [inputs, latches, outputs] = [INPUTS, LATCHES, OUTPUTS].map(|at| &record[at + 1..]);
-    let latches = latches.as_chunks().0.iter().take(record[LATCHES]);
+    let inputs = record.inputs.iter().take(record.input_count);
+    let latches = record.latches.iter().take(record.latch_count);
+    let outputs = record.outputs.iter().take(record.output_count);
     AigerTransition {
-        max_variable: record[VARIABLES],
-        inputs: inputs.iter().take(record[INPUTS]).copied().collect(),
+        max_variable: record.max_variable,
+        inputs: inputs.copied().collect(),
         latches: latches
-            .map(|&[current, next]| AigerLatch { current, next })
+            .map(|&Latch { current, next }| AigerLatch { current, next })
             .collect(),
-        outputs: outputs.iter().take(record[OUTPUTS]).copied().collect(),
+        outputs: outputs.copied().collect(),
         // The list stays where it is: three words become a gate in place.
         ands: gates
             .into_iter()

@@ -1,14 +1,14 @@
 //! Rows, rows with outputs, and terminal lists.
 
 use super::predicate::Words;
-use super::record::{self, Record};
+use super::record;
 use super::{
     AigerInputPredicate, AigerObligationError, AigerOutcome, AigerTransition, MAX_AIGER_LATCHES,
     MAX_AIGER_OUTPUTS, MAX_AIGER_VARIABLES, MAX_CLAIMED_OUTCOMES, MAX_PREDICATE_CLAUSES,
     MAX_PREDICATE_LITERALS,
 };
 use crate::Refusal;
-use crate::library::{self, Made};
+use crate::library::{self, Made, Transition};
 use crate::room::{Room, doubled, lend};
 use crate::unsat_proof::CnfClause;
 
@@ -17,7 +17,7 @@ const NO_ROOM: u8 = 20;
 
 /// What the three calls have in common, in the library's form.
 struct Asked<'a> {
-    model: Record,
+    model: Transition,
     gates: &'a [usize],
     latches: usize,
     relevant: &'a [usize],
@@ -46,7 +46,7 @@ pub fn relation_row_completeness_cnf(
     let room = asked.room(claimed_targets.len(), 0);
     asked.make(room, |asked, lent| {
         library::nit_relation_row(
-            &asked.model,
+            asked.model.words(),
             asked.gates,
             asked.relevant,
             source as u64,
@@ -76,7 +76,7 @@ pub fn transducer_row_completeness_cnf(
     let room = asked.room(claimed_outcomes.len(), observed_outputs.len());
     asked.make(room, |asked, lent| {
         library::nit_transducer_row(
-            &asked.model,
+            asked.model.words(),
             asked.gates,
             asked.relevant,
             source as u64,
@@ -106,7 +106,7 @@ pub fn terminal_completeness_cnf(
     let room = asked.room(claimed_safe_states.len(), 0);
     asked.make(room, |asked, lent| {
         library::nit_terminal(
-            &asked.model,
+            asked.model.words(),
             asked.gates,
             asked.relevant,
             &asked.predicate.pairs,
@@ -161,7 +161,7 @@ impl<'a> Asked<'a> {
         predicate: &AigerInputPredicate,
     ) -> Self {
         Self {
-            model: record::words(model),
+            model: record::of(model),
             gates: library::gate_words(&model.ands),
             latches: model.latches.len(),
             relevant,
@@ -195,8 +195,9 @@ impl<'a> Asked<'a> {
                 pairs: vec![0; 2 * clauses],
                 literals: vec![0; literals],
             };
-            let [made, _] = call(self, &mut lent).result()?;
-            Ok(lent.clauses(made))
+            let made = call(self, &mut lent);
+            Refusal::accepted(made.reason)?;
+            Ok(lent.clauses(made.clauses))
         });
         Ok(made?)
     }

@@ -23,9 +23,8 @@ fn made_with(first: Room) -> (Result<Vec<CnfClause>, AigerObligationError>, usiz
             pairs,
             literals,
         } = lent;
-        let model = &asked.model;
         library::nit_relation_row(
-            model,
+            asked.model.words(),
             asked.gates,
             &[],
             1,

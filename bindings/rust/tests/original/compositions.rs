@@ -1,7 +1,8 @@
 //! The witness reader, `take_literal` and the composer.
 
 use crate::circuits::spaced;
-use crate::published::composed_witness as original;
+use crate::published::composed_witness::access::{self, Circuit, read_aag};
+use crate::published::composed_witness::compose_safety_witnesses_v1 as original;
 use crate::random::Random;
 use crate::texts::damage;
 use nitrasovy::composed_witness::{
@@ -112,7 +113,7 @@ fn texts(random: &mut Random, count: usize) -> (String, Vec<String>) {
 /// Composes with both; whether it was accepted. The original stops at some texts that are refused.
 fn compare(model: &[u8], witnesses: &[&[u8]]) -> bool {
     let ours = compose_safety_witnesses_v1(model, witnesses).ok();
-    let expected = catch_unwind(|| original::compose_safety_witnesses_v1(model, witnesses).ok());
+    let expected = catch_unwind(|| original(model, witnesses).ok());
     assert_eq!(
         ours,
         expected.ok().flatten(),
@@ -121,23 +122,23 @@ fn compare(model: &[u8], witnesses: &[&[u8]]) -> bool {
     );
     for text in witnesses {
         for (witness, read) in [(true, read_witness(text)), (false, read_model(text))] {
-            let expected = catch_unwind(|| original::access::counts(text, witness));
-            assert_eq!(read.ok().map(numbers), expected.ok().flatten());
+            let expected = catch_unwind(|| read_aag(text, witness).map(counts));
+            assert_eq!(read.ok(), expected.ok().flatten());
         }
     }
     ours.is_some()
 }
 
-fn numbers(counts: WitnessCounts) -> [usize; 7] {
-    [
-        counts.max_variable,
-        counts.inputs,
-        counts.latches,
-        counts.outputs,
-        counts.gates,
-        counts.bads,
-        counts.constraints,
-    ]
+fn counts(read: Circuit) -> WitnessCounts {
+    WitnessCounts {
+        max_variable: read.max_variable,
+        inputs: read.inputs.len(),
+        latches: read.latches.len(),
+        outputs: read.outputs.len(),
+        gates: read.gates.len(),
+        bads: read.bads.len(),
+        constraints: read.constraints.len(),
+    }
 }
 
 #[test]
@@ -218,11 +219,7 @@ fn literals_are_taken_alike() {
         while cursor.at < text.len() {
             let before = cursor.at;
             let ours = take_literal(text.as_bytes(), &mut cursor);
-            assert_eq!(
-                ours.ok(),
-                original::access::take_literal(&mut lines),
-                "{text:?}"
-            );
+            assert_eq!(ours.ok(), access::take_literal(&mut lines), "{text:?}");
             assert!(cursor.at > before, "{text:?}");
         }
         assert_eq!(lines.next(), None, "{text:?}");
