@@ -17,11 +17,11 @@ fn check(name: &str, root: &Path, of: &Path) -> Output {
         .unwrap_or_else(|error| panic!("checks/{name}: {error}"))
 }
 
-/// A folder of its own for each trial, with the files of `crates/` that the checks read.
+/// A folder of its own for each trial, with the repository's files.
 fn trial(root: &Path, name: &str) -> PathBuf {
     let trial = Path::new(env!("CARGO_TARGET_TMPDIR")).join(name);
     let _ = fs::remove_dir_all(&trial);
-    copy(&root.join("crates"), &trial.join("crates"));
+    copy(root, &trial);
     trial
 }
 
@@ -31,6 +31,9 @@ fn copy(from: &Path, to: &Path) {
         let (from, name) = entry
             .map(|entry| (entry.path(), entry.file_name()))
             .unwrap();
+        if name == "target" || name == ".git" {
+            continue;
+        }
         if from.is_dir() {
             copy(&from, &to.join(name));
         } else {

@@ -1,7 +1,17 @@
 //! A model as the library's record.
 
-use super::{AigerAnd, AigerLatch, AigerTransition, MAX_AIGER_VARIABLES};
+use super::{
+    AigerAnd, AigerLatch, AigerTransition, MAX_AIGER_INPUTS, MAX_AIGER_LATCHES, MAX_AIGER_OUTPUTS,
+    MAX_AIGER_VARIABLES,
+};
 use crate::library::{Latch, Transition};
+
+// The record has room for as many as the limits allow.
+const _: () = assert!(
+    Transition::ZERO.inputs.len() == MAX_AIGER_INPUTS
+        && Transition::ZERO.latches.len() == MAX_AIGER_LATCHES
+        && Transition::ZERO.outputs.len() == MAX_AIGER_OUTPUTS
+);
 
 /// The record of a model. A list that is longer than its place has its whole length in the count,
 /// so that the library refuses it; what does not fit is not looked at then.
