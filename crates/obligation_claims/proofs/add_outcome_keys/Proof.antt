@@ -6,7 +6,10 @@ use Rattle.obligation_claims.proofs.add_keys.Reads as add-keys-reads
 use Rattle.obligation_claims.proofs.observed_keys.Reads as observed-keys-reads
 
 returns : tie.Need-returns
-returns c = outcome-put (c .before .before .before .before .before .before .before .before .before .before .before .args .keys .now) (c .before .before .before .before .before .before .before .before .before .before .before .args .nexts .now) (c .before .before .before .before .before .before .before .before .before .before .before .args .literals .now) _ _ (c .before .before .before .before .before .before .add-keys .ensures) (c .before .before .observed-keys .ensures)
+returns c =
+    let b6 = c .before .before .before .before .before .before in
+    let start = b6 .before .before .before .before .before in
+    outcome-put (start .args .keys .now) (start .args .nexts .now) (start .args .literals .now) _ _ (b6 .add-keys .ensures) (c .before .before .observed-keys .ensures)
 
 pub add-outcome-keys-spec : {M : Type 1} → statement M
 add-outcome-keys-spec =

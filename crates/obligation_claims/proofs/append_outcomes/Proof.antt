@@ -5,7 +5,10 @@ use Rattle.obligation_claims.proofs.append_outcomes.Tie as tie
 use Rattle.obligation_claims.proofs.push_outcomes.Reads as push-outcomes-reads
 
 push-outcomes-requires : tie.Need-push-outcomes-requires
-push-outcomes-requires c κs = (c .before .before .before .before .before .before .before .before .before .pre .0, fits-few (c .before .before .before .before .before .before .before .before .before .args .keys .now) _ _ (c .before .before .before .before .if1 .taken) (c .before .before .before .before .before .before .before .before .before .pre .2))
+push-outcomes-requires c κs =
+    let b4 = c .before .before .before .before in
+    let start = b4 .before .before .before .before .before in
+    (start .pre .0, fits-few (start .args .keys .now) _ _ (b4 .if1 .taken) (start .pre .2))
 
 pub append-outcomes-spec : {M : Type 1} → statement M
 append-outcomes-spec =

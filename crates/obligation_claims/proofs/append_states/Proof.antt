@@ -5,7 +5,10 @@ use Rattle.obligation_claims.proofs.append_states.Tie as tie
 use Rattle.obligation_claims.proofs.push_states.Reads as push-states-reads
 
 push-states-requires : tie.Need-push-states-requires
-push-states-requires c κs = (c .before .before .before .before .before .before .before .before .before .pre .0, fits-few (c .before .before .before .before .before .before .before .before .before .args .keys .now) _ _ (c .before .before .before .before .if1 .taken) (c .before .before .before .before .before .before .before .before .before .pre .2))
+push-states-requires c κs =
+    let b4 = c .before .before .before .before in
+    let start = b4 .before .before .before .before .before in
+    (start .pre .0, fits-few (start .args .keys .now) _ _ (b4 .if1 .taken) (start .pre .2))
 
 pub append-states-spec : {M : Type 1} → statement M
 append-states-spec =

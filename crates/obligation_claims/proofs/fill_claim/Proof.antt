@@ -21,13 +21,25 @@ claim-literal-requires : tie.Need-claim-literal-requires Inv-loop μ-loop
 claim-literal-requires c κs = key-low (c .before .before .before .before .before .before .args .keys .now) (c .before .before .before .before .before .before .pre .1) (c .before .before .loop .i) (c .before .loop-test .taken)
 
 returns : tie.Need-returns Inv-loop μ-loop
-returns c = claiming-true (c .before .before .before .before .before .before .before .before .before .args .keys .now) (c .before .before .before .before .before .before .before .before .before .args .claim .now) _ _ _ _ (c .before .before .before .before .before .loop .inv) (c .before .before .before .before .loop-test .taken) _ (c .before .before .claim-literal .ensures) (c .if2 .taken)
+returns c =
+    let b4 = c .before .before .before .before in
+    let b5 = b4 .before in
+    let start = b5 .before .before .before .before in
+    claiming-true (start .args .keys .now) (start .args .claim .now) _ _ _ _ (b5 .loop .inv) (b4 .loop-test .taken) _ (c .before .before .claim-literal .ensures) (c .if2 .taken)
 
 loop-again : tie.Need-loop-again Inv-loop μ-loop
-loop-again c = claiming-false (c .before .before .before .before .before .before .before .before .before .args .keys .now) (c .before .before .before .before .before .before .before .before .before .args .claim .now) _ _ _ _ (c .before .before .before .before .before .loop .inv) (c .before .before .before .before .loop-test .taken) _ (c .before .before .claim-literal .ensures) (c .before .if1 .taken) (c .if2 .left)
+loop-again c =
+    let b4 = c .before .before .before .before in
+    let b5 = b4 .before in
+    let start = b5 .before .before .before .before in
+    claiming-false (start .args .keys .now) (start .args .claim .now) _ _ _ _ (b5 .loop .inv) (b4 .loop-test .taken) _ (c .before .before .claim-literal .ensures) (c .before .if1 .taken) (c .if2 .left)
 
 loop-again-2 : tie.Need-loop-again-2 Inv-loop μ-loop
-loop-again-2 c = claiming-word (c .before .before .before .before .before .before .before .before .before .args .keys .now) (c .before .before .before .before .before .before .before .before .before .args .claim .now) _ _ _ _ (c .before .before .before .before .before .loop .inv) (c .before .before .before .before .loop-test .taken) _ (c .before .before .claim-literal .ensures) _ (c .before .if1 .left) (c .word .ensures) (c .before .before .before .before .before .before .before .before .before .pre .0)
+loop-again-2 c =
+    let b4 = c .before .before .before .before in
+    let b5 = b4 .before in
+    let start = b5 .before .before .before .before in
+    claiming-word (start .args .keys .now) (start .args .claim .now) _ _ _ _ (b5 .loop .inv) (b4 .loop-test .taken) _ (c .before .before .claim-literal .ensures) _ (c .before .if1 .left) (c .word .ensures) (start .pre .0)
 
 returns-2 : tie.Need-returns-2 Inv-loop μ-loop
 returns-2 c = claiming-done (c .before .before .before .before .before .args .keys .now) (c .before .before .before .before .before .args .claim .now) _ _ _ _ (c .before .loop .inv) (c .loop-test .left)

@@ -8,17 +8,29 @@ use Rattle.lists.proofs.cut.Reads as cut-reads
 use Rattle.lists.proofs.first.Reads as first-reads
 
 add-keys-requires : tie.Need-add-keys-requires
-add-keys-requires c κs = let few = halves-few (c .before .before .before .before .before .args .literals .now) (c .before .before .first .result .now) (c .before .cut .result .now) (c .before .before .first .ensures) (c .before .cut .ensures) in
-    let all = halves-length (c .before .before .before .before .before .args .literals .now) (c .before .before .first .result .now) (c .before .cut .result .now) (c .before .before .first .ensures) (c .before .cut .ensures) in
-    (omega (arith, few, all, c .before .before .before .before .before .pre .0), omega (arith, few), halves-low (c .before .before .before .before .before .args .literals .now) (c .before .before .first .result .now) (c .before .cut .result .now) (c .before .before .first .ensures) (c .before .cut .ensures) (c .before .before .before .before .before .pre .2))
+add-keys-requires c κs =
+    let start = c .before .before .before .before .before in
+    let few = halves-few (start .args .literals .now) (c .before .before .first .result .now) (c .before .cut .result .now) (c .before .before .first .ensures) (c .before .cut .ensures) in
+    let all = halves-length (start .args .literals .now) (c .before .before .first .result .now) (c .before .cut .result .now) (c .before .before .first .ensures) (c .before .cut .ensures) in
+    (omega (arith, few, all, start .pre .0), omega (arith, few), halves-low (start .args .literals .now) (c .before .before .first .result .now) (c .before .cut .result .now) (c .before .before .first .ensures) (c .before .cut .ensures) (start .pre .2))
 
 add-keys-requires-2 : tie.Need-add-keys-requires-2
-add-keys-requires-2 c κs = let few = halves-few (c .before .before .before .before .before .before .before .before .before .args .literals .now) (c .before .before .before .before .before .before .first .result .now) (c .before .before .before .before .before .cut .result .now) (c .before .before .before .before .before .before .first .ensures) (c .before .before .before .before .before .cut .ensures) in
-    let all = halves-length (c .before .before .before .before .before .before .before .before .before .args .literals .now) (c .before .before .before .before .before .before .first .result .now) (c .before .before .before .before .before .cut .result .now) (c .before .before .before .before .before .before .first .ensures) (c .before .before .before .before .before .cut .ensures) in
-    (omega (arith, few, all, c .before .before .before .before .before .before .before .before .before .pre .0, c .before .before .before .add-keys .kept .1 .1 .0), omega (arith, few, all, c .before .before .before .before .before .before .before .before .before .pre .1), halves-high (c .before .before .before .before .before .before .before .before .before .args .literals .now) (c .before .before .before .before .before .before .first .result .now) (c .before .before .before .before .before .cut .result .now) (c .before .before .before .before .before .before .first .ensures) (c .before .before .before .before .before .cut .ensures) (c .before .before .before .before .before .before .before .before .before .pre .2))
+add-keys-requires-2 c κs =
+    let b3 = c .before .before .before in
+    let b5 = b3 .before .before in
+    let b6 = b5 .before in
+    let start = b6 .before .before .before in
+    let few = halves-few (start .args .literals .now) (b6 .first .result .now) (b5 .cut .result .now) (b6 .first .ensures) (b5 .cut .ensures) in
+    let all = halves-length (start .args .literals .now) (b6 .first .result .now) (b5 .cut .result .now) (b6 .first .ensures) (b5 .cut .ensures) in
+    (omega (arith, few, all, start .pre .0, b3 .add-keys .kept .1 .1 .0), omega (arith, few, all, start .pre .1), halves-high (start .args .literals .now) (b6 .first .result .now) (b5 .cut .result .now) (b6 .first .ensures) (b5 .cut .ensures) (start .pre .2))
 
 returns : tie.Need-returns
-returns c = halves-put (c .before .before .before .before .before .before .before .before .before .before .before .before .args .keys .now) (c .before .before .before .before .before .before .before .before .before .before .before .before .args .at) (c .before .before .before .before .before .before .before .before .before .before .before .before .args .literals .now) _ _ _ _ (c .before .before .before .before .before .before .before .before .before .first .ensures) (c .before .before .before .before .before .before .before .before .cut .ensures) (omega (arith, c .before .before .before .before .before .before .before .before .before .before .before .before .pre .0)) (c .before .before .before .before .before .before .add-keys .ensures) (c .before .before .add-keys2 .ensures)
+returns c =
+    let b6 = c .before .before .before .before .before .before in
+    let b8 = b6 .before .before in
+    let b9 = b8 .before in
+    let start = b9 .before .before .before in
+    halves-put (start .args .keys .now) (start .args .at) (start .args .literals .now) _ _ _ _ (b9 .first .ensures) (b8 .cut .ensures) (omega (arith, start .pre .0)) (b6 .add-keys .ensures) (c .before .before .add-keys2 .ensures)
 
 pub observed-keys-spec : {M : Type 1} → statement M
 observed-keys-spec =

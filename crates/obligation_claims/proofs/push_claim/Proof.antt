@@ -10,24 +10,38 @@ use Rattle.obligation_claims.proofs.push_few.Reads as push-few-reads
 use Rattle.cnf.proofs.push_simplified.Reads as push-simplified-reads
 
 push-few-requires : tie.Need-push-few-requires
-push-few-requires c κs = (c .before .before .before .before .before .before .before .before .before .pre .0, c .before .before .if1 .taken, c .before .before .before .before .before .before .before .before .before .pre .1 .low)
+push-few-requires c κs =
+    let start = c .before .before .before .before .before .before .before .before .before in
+    (start .pre .0, c .before .before .if1 .taken, start .pre .1 .low)
 
 returns : tie.Need-returns
 returns c = c .before .before .before .before .push-few .ensures
 
 fill-claim-requires : tie.Need-fill-claim-requires
-fill-claim-requires c κs = (c .before .before .before .before .before .before .before .before .pre .1 .listFits (c .before .if1 .left), c .before .before .before .before .before .before .before .before .pre .1 .low)
+fill-claim-requires c κs =
+    let start = c .before .before .before .before .before .before .before .before in
+    (start .pre .1 .listFits (c .before .if1 .left), start .pre .1 .low)
 
 returns-2 : tie.Need-returns-2
 returns-2 c = claim-dropped _ _ _ (c .before .before .before .before .fill-claim .ensures) (c .enum-told .given .1) _ _ _
 
 push-simplified-requires : tie.Need-push-simplified-requires
-push-simplified-requires c κs = let f : Filled (claimList (c .before .before .before .before .before .before .before .before .before .before .before .before .before .before .before .before .before .before .args .keys .now) (c .before .before .before .before .before .before .before .before .before .before .before .before .before .before .before .before .before .before .args .claim .now)) (c .before .before .before .before .before .before .before .before .before .fill-claim .last .1 .1 .0) (c .before .before .before .before .before .n .given .0 .0) = c .before .before .before .before .before .before .before .before .before .fill-claim .ensures .whenWords (c .before .before .before .before .before .n .given .0 .0) (c .before .before .before .before .before .n .given .1) in
-    let w = claim-words (c .before .before .before .before .before .before .before .before .before .before .before .before .before .before .before .before .before .before .args .keys .now) (c .before .before .before .before .before .before .before .before .before .before .before .before .before .before .before .before .before .before .args .claim .now) _ _ f in
-    (omega (arith, w, c .before .before .before .before .before .before .before .before .before .before .before .before .before .before .before .before .before .before .pre .1 .listFits (c .before .before .before .before .before .before .before .before .before .before .before .if1 .left), c .before .before .before .before .before .before .before .before .before .fill-claim .kept .1 .1 .0), omega (arith, w, c .before .before .before .before .before .before .before .before .before .before .before .before .before .before .before .before .before .before .pre .1 .workFits (c .before .before .before .before .before .before .before .before .before .before .before .if1 .left)), omega (arith, w, c .before .before .before .before .before .before .before .before .before .before .before .before .before .before .before .before .before .before .pre .1 .short), c .before .before .before .before .before .before .before .before .before .before .before .before .before .before .before .before .before .before .pre .0, words-narrow (c .before .before .before .before .before .before .before .before .before .before .before .before .before .before .before .before .before .before .args .keys .now) (c .before .before .before .before .before .before .before .before .before .before .before .before .before .before .before .before .before .before .args .claim .now) _ _ f (c .before .before .before .before .before .before .before .before .before .before .before .before .before .before .before .before .before .before .pre .1 .low))
+push-simplified-requires c κs =
+    let b5 = c .before .before .before .before .before in
+    let b9 = b5 .before .before .before .before in
+    let b11 = b9 .before .before in
+    let start = b11 .before .before .before .before .before .before .before in
+    let f : Filled (claimList (start .args .keys .now) (start .args .claim .now)) (b9 .fill-claim .last .1 .1 .0) (b5 .n .given .0 .0) = b9 .fill-claim .ensures .whenWords (b5 .n .given .0 .0) (b5 .n .given .1) in
+    let w = claim-words (start .args .keys .now) (start .args .claim .now) _ _ f in
+    (omega (arith, w, start .pre .1 .listFits (b11 .if1 .left), b9 .fill-claim .kept .1 .1 .0), omega (arith, w, start .pre .1 .workFits (b11 .if1 .left)), omega (arith, w, start .pre .1 .short), start .pre .0, words-narrow (start .args .keys .now) (start .args .claim .now) _ _ f (start .pre .1 .low))
 
 returns-3 : tie.Need-returns-3
-returns-3 c = c .before .before .before .before .before .before .before .before .push-simplified .ensures (claimList (c .before .before .before .before .before .before .before .before .before .before .before .before .before .before .before .before .before .before .before .before .before .before .before .before .before .before .before .args .keys .now) (c .before .before .before .before .before .before .before .before .before .before .before .before .before .before .before .before .before .before .before .before .before .before .before .before .before .before .before .args .claim .now)) (c .before .before .before .before .before .before .before .before .before .before .before .before .before .before .before .before .before .before .fill-claim .ensures .whenWords (c .before .before .before .before .before .before .before .before .before .before .before .before .before .before .n .given .0 .0) (c .before .before .before .before .before .before .before .before .before .before .before .before .before .before .n .given .1))
+returns-3 c =
+    let b8 = c .before .before .before .before .before .before .before .before in
+    let b14 = b8 .before .before .before .before .before .before in
+    let b18 = b14 .before .before .before .before in
+    let start = b18 .before .before .before .before .before .before .before .before .before in
+    b8 .push-simplified .ensures (claimList (start .args .keys .now) (start .args .claim .now)) (b18 .fill-claim .ensures .whenWords (b14 .n .given .0 .0) (b14 .n .given .1))
 
 pub push-claim-spec : {M : Type 1} → statement M
 push-claim-spec =

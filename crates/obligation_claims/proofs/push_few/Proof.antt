@@ -17,19 +17,34 @@ abbrev μ-loop : tie.MeasureT-loop
 μ-loop keys claim pairs literals at clause₀ i₀ clause i = length keys - i
 
 loop-holds : tie.Need-loop-holds Inv-loop μ-loop
-loop-holds c = few-none (c .before .before .before .before .args .keys .now) (c .before .before .before .before .args .claim .now) (c .before .before .before .before .pre .1)
+loop-holds c =
+    let start = c .before .before .before .before in
+    few-none (start .args .keys .now) (start .args .claim .now) (start .pre .1)
 
 claim-literal-requires : tie.Need-claim-literal-requires Inv-loop μ-loop
-claim-literal-requires c κs = key-low (c .before .before .before .before .before .before .before .args .keys .now) (c .before .before .before .before .before .before .before .pre .2) (c .before .before .loop .i) (c .before .loop-test .taken)
+claim-literal-requires c κs =
+    let start = c .before .before .before .before .before .before .before in
+    key-low (start .args .keys .now) (start .pre .2) (c .before .before .loop .i) (c .before .loop-test .taken)
 
 loop-again : tie.Need-loop-again Inv-loop μ-loop
-loop-again c = few-more (c .before .before .before .before .before .before .before .before .args .keys .now) (c .before .before .before .before .before .before .before .before .args .claim .now) _ _ (c .before .before .before .loop .inv) (c .before .before .loop-test .taken) _ (c .claim-literal .ensures)
+loop-again c =
+    let b3 = c .before .before .before in
+    let start = b3 .before .before .before .before .before in
+    few-more (start .args .keys .now) (start .args .claim .now) _ _ (b3 .loop .inv) (c .before .before .loop-test .taken) _ (c .claim-literal .ensures)
 
 push-short-requires : tie.Need-push-short-requires Inv-loop μ-loop
-push-short-requires c κs = (c .before .before .before .before .before .before .before .before .pre .0, few-narrow (c .before .before .before .before .before .before .before .before .args .keys .now) (c .before .before .before .before .before .before .before .before .args .claim .now) _ (few-done (c .before .before .before .before .before .before .before .before .args .keys .now) (c .before .before .before .before .before .before .before .before .args .claim .now) _ _ (c .before .before .before .loop .inv) (c .before .before .loop-test .left)) (c .before .before .before .before .before .before .before .before .pre .2))
+push-short-requires c κs =
+    let b3 = c .before .before .before in
+    let start = b3 .before .before .before .before .before in
+    (start .pre .0, few-narrow (start .args .keys .now) (start .args .claim .now) _ (few-done (start .args .keys .now) (start .args .claim .now) _ _ (b3 .loop .inv) (c .before .before .loop-test .left)) (start .pre .2))
 
 returns : tie.Need-returns Inv-loop μ-loop
-returns c = few-appends (c .before .before .before .before .before .before .before .before .before .before .before .before .before .args .keys .now) (c .before .before .before .before .before .before .before .before .before .before .before .before .before .args .claim .now) _ (few-done (c .before .before .before .before .before .before .before .before .before .before .before .before .before .args .keys .now) (c .before .before .before .before .before .before .before .before .before .before .before .before .before .args .claim .now) _ _ (c .before .before .before .before .before .before .before .before .loop .inv) (c .before .before .before .before .before .before .before .loop-test .left)) _ _ _ _ _ _ (c .before .before .before .before .push-short .ensures)
+returns c =
+    let b4 = c .before .before .before .before in
+    let b7 = b4 .before .before .before in
+    let b8 = b7 .before in
+    let start = b8 .before .before .before .before .before in
+    few-appends (start .args .keys .now) (start .args .claim .now) _ (few-done (start .args .keys .now) (start .args .claim .now) _ _ (b8 .loop .inv) (b7 .loop-test .left)) _ _ _ _ _ _ (b4 .push-short .ensures)
 
 pub push-few-spec : {M : Type 1} → statement M
 push-few-spec =

@@ -16,13 +16,24 @@ loop-holds : tie.Need-loop-holds Inv-loop μ-loop
 loop-holds c = pushing-none _ _ _ _ _ _ _
 
 push-claim-requires : tie.Need-push-claim-requires Inv-loop μ-loop
-push-claim-requires c κs = (pushing-space (outcomeClaims (c .before .before .before .before .before .before .before .before .before .before .before .before .before .args .keys .now) (c .before .before .before .before .before .before .before .before .before .before .before .before .before .args .words .now)) (c .before .before .before .before .before .before .before .before .before .before .before .before .before .args .keys .now) _ _ _ _ _ _ _ _ _ _ _ (c .before .before .before .before .before .before .loop .inv) _ (outcomes-count (c .before .before .before .before .before .before .before .before .before .before .before .before .before .args .keys .now) (c .before .before .before .before .before .before .before .before .before .before .before .before .before .args .words .now)) (c .before .before .before .before .before .loop-test .taken) (c .before .before .before .before .before .before .before .before .before .before .before .before .before .pre .0), pushing-fits (outcomeClaims (c .before .before .before .before .before .before .before .before .before .before .before .before .before .args .keys .now) (c .before .before .before .before .before .before .before .before .before .before .before .before .before .args .words .now)) (c .before .before .before .before .before .before .before .before .before .before .before .before .before .args .keys .now) _ _ _ _ _ _ _ _ _ _ _ (c .before .before .before .before .before .before .loop .inv) (c .before .before .before .before .before .before .before .before .before .before .before .before .before .pre .1))
+push-claim-requires c κs =
+    let b5 = c .before .before .before .before .before in
+    let b6 = b5 .before in
+    let start = b6 .before .before .before .before .before .before .before in
+    (pushing-space (outcomeClaims (start .args .keys .now) (start .args .words .now)) (start .args .keys .now) _ _ _ _ _ _ _ _ _ _ _ (b6 .loop .inv) _ (outcomes-count (start .args .keys .now) (start .args .words .now)) (b5 .loop-test .taken) (start .pre .0), pushing-fits (outcomeClaims (start .args .keys .now) (start .args .words .now)) (start .args .keys .now) _ _ _ _ _ _ _ _ _ _ _ (b6 .loop .inv) (start .pre .1))
 
 loop-again : tie.Need-loop-again Inv-loop μ-loop
-loop-again c = pushing-more (outcomeClaims (c .before .before .before .before .before .before .before .before .before .before .before .before .before .before .before .before .before .before .before .before .before .before .args .keys .now) (c .before .before .before .before .before .before .before .before .before .before .before .before .before .before .before .before .before .before .before .before .before .before .args .words .now)) (c .before .before .before .before .before .before .before .before .before .before .before .before .before .before .before .before .before .before .before .before .before .before .args .keys .now) _ _ _ _ _ _ _ _ _ _ _ (c .before .before .before .before .before .before .before .before .before .before .before .before .before .before .before .loop .inv) _ (outcomes-count (c .before .before .before .before .before .before .before .before .before .before .before .before .before .before .before .before .before .before .before .before .before .before .args .keys .now) (c .before .before .before .before .before .before .before .before .before .before .before .before .before .before .before .before .before .before .before .before .before .before .args .words .now)) (c .before .before .before .before .before .before .before .before .before .before .before .before .before .before .loop-test .taken) _ (outcomes-at (c .before .before .before .before .before .before .before .before .before .before .before .before .before .before .before .before .before .before .before .before .before .before .args .keys .now) (c .before .before .before .before .before .before .before .before .before .before .before .before .before .before .before .before .before .before .before .before .before .before .args .words .now) _ (c .before .before .before .before .before .before .before .before .before .before .before .before .before .before .loop-test .taken)) _ _ _ _ _ (c .before .before .before .before .before .before .before .before .push-claim .ensures) (c .before .before .before .before .before .before .before .before .push-claim .kept .1 .1 .0) (c .before .before .before .before .before .before .before .before .push-claim .kept .1 .1 .1 .0) (c .before .before .before .before .before .before .before .before .push-claim .kept .1 .1 .1 .1 .0) (c .before .before .before .before .before .before .before .before .push-claim .kept .1 .1 .1 .1 .1 .0)
+loop-again c =
+    let b8 = c .before .before .before .before .before .before .before .before in
+    let b14 = b8 .before .before .before .before .before .before in
+    let b15 = b14 .before in
+    let start = b15 .before .before .before .before .before .before .before in
+    pushing-more (outcomeClaims (start .args .keys .now) (start .args .words .now)) (start .args .keys .now) _ _ _ _ _ _ _ _ _ _ _ (b15 .loop .inv) _ (outcomes-count (start .args .keys .now) (start .args .words .now)) (b14 .loop-test .taken) _ (outcomes-at (start .args .keys .now) (start .args .words .now) _ (b14 .loop-test .taken)) _ _ _ _ _ (b8 .push-claim .ensures) (b8 .push-claim .kept .1 .1 .0) (b8 .push-claim .kept .1 .1 .1 .0) (b8 .push-claim .kept .1 .1 .1 .1 .0) (b8 .push-claim .kept .1 .1 .1 .1 .1 .0)
 
 returns : tie.Need-returns Inv-loop μ-loop
-returns c = pushing-done (outcomeClaims (c .before .before .before .before .before .before .before .before .args .keys .now) (c .before .before .before .before .before .before .before .before .args .words .now)) (c .before .before .before .before .before .before .before .before .args .keys .now) _ _ _ _ _ _ _ _ _ _ _ (c .before .loop .inv) _ (outcomes-count (c .before .before .before .before .before .before .before .before .args .keys .now) (c .before .before .before .before .before .before .before .before .args .words .now)) (c .loop-test .left)
+returns c =
+    let start = c .before .before .before .before .before .before .before .before in
+    pushing-done (outcomeClaims (start .args .keys .now) (start .args .words .now)) (start .args .keys .now) _ _ _ _ _ _ _ _ _ _ _ (c .before .loop .inv) _ (outcomes-count (start .args .keys .now) (start .args .words .now)) (c .loop-test .left)
 
 pub push-outcomes-spec : {M : Type 1} → statement M
 push-outcomes-spec =

@@ -12,8 +12,12 @@ push-simplified-requires c κs = let s = c .before .before .before .before .befo
     (search needs, search needs, search needs, search needs, kept-narrow (s .args .inputs .now) (s .args .relevant .now) (s .args .clause .now) _ _ f)
 
 returns : tie.Need-returns
-returns c = let s = c .before .before .before .before .before .before .before .before .before .before .before .before .before .before .before .before .before .before .before .before .before .before .before .before in
-    kept-appends (s .args .inputs .now) (s .args .relevant .now) (s .args .clause .now) _ _ (c .before .before .before .before .before .before .before .before .before .before .before .before .before .before .before .fill-clause .ensures) _ _ _ _ _ _ (c .before .before .before .before .before .before .before .before .push-simplified .ensures)
+returns c =
+    let b8 = c .before .before .before .before .before .before .before .before in
+    let b15 = b8 .before .before .before .before .before .before .before in
+    let b24 = b15 .before .before .before .before .before .before .before .before .before in
+    let s = b24 in
+    kept-appends (s .args .inputs .now) (s .args .relevant .now) (s .args .clause .now) _ _ (b15 .fill-clause .ensures) _ _ _ _ _ _ (b8 .push-simplified .ensures)
 
 pub push-clause-spec : {M : Type 1} → statement M
 push-clause-spec =

@@ -5,7 +5,10 @@ use Rattle.probe.proofs.probe_first_field.Statement.{statement}
 use Rattle.probe.proofs.probe_first_field.Tie as tie
 
 returns : tie.Need-returns
-returns c = (c .flat-written .ensures ∙ ap flatWritten (c .before .before .before .write-bytes .ensures .0) ∙ simp (c .before .before .before .before .first-field .ensures), c .before .before .before .write-bytes .ensures .1 ∙ simp (c .before .before .before .before .first-field .ensures))
+returns c =
+    let b3 = c .before .before .before in
+    let b4 = b3 .before in
+    (c .flat-written .ensures ∙ ap flatWritten (b3 .write-bytes .ensures .0) ∙ simp (b4 .first-field .ensures), b3 .write-bytes .ensures .1 ∙ simp (b4 .first-field .ensures))
 
 pub probe-first-field-spec : {M : Type 1} → statement M
 probe-first-field-spec =

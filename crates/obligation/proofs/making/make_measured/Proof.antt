@@ -18,8 +18,13 @@ append-all-requires-2 : tie.Need-append-all-requires-2
 append-all-requires-2 c κs = c .before .before .before .before .before .before .before .before .before .before .before .before .before .before .before .before .before .before .before .before .before .pre
 
 returns-3 : tie.Need-returns-3
-returns-3 c = let m = c .before .before .before .before .before .before .before .before .before .before .before .before .before in
-    made-all _ _ _ _ _ _ _ _ (appends-start _ _ _ _ _ _ (m .append-all .ensures)) (c .before .before .before .before .before .before .before .before .before .if1 .left) (c .before .before .before .before .before .before .before .if2 .left) _ _ _ (appends-start _ _ _ _ _ _ (c .before .before .before .before .append-all2 .ensures))
+returns-3 c =
+    let b4 = c .before .before .before .before in
+    let b7 = b4 .before .before .before in
+    let b9 = b7 .before .before in
+    let b13 = b9 .before .before .before .before in
+    let m = b13 in
+    made-all _ _ _ _ _ _ _ _ (appends-start _ _ _ _ _ _ (m .append-all .ensures)) (b9 .if1 .left) (b7 .if2 .left) _ _ _ (appends-start _ _ _ _ _ _ (b4 .append-all2 .ensures))
 
 pub make-measured-spec : {M : Type 1} → statement M
 make-measured-spec =

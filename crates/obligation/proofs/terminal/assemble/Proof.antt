@@ -27,20 +27,46 @@ state-keys-requires c κs = let s = c .before .before .before .before .before .b
     (omega (arith, few-list-now (question s) (s .pre .0) (sized s) _ e), omega (arith, few-list-now (question s) (s .pre .0) (sized s) _ e), low-list-now (question s) (s .pre .0) (sized s) _ e)
 
 opposite-of-requires : tie.Need-opposite-of-requires
-opposite-of-requires c κs = let s = c .before .before .before .before .before .before .before .before .before .before .before .before .before .before .before .before .before .before .before .before .before .before in
-    output-low (question s) (s .pre .0) (sized s) (s .args .bad) _ (bad-output (question s) (s .args .bad) _ _ (c .before .before .before .before .before .before .first2 .ensures) (c .before .before .before .before .before .word .ensures))
+opposite-of-requires c κs =
+    let b5 = c .before .before .before .before .before in
+    let b6 = b5 .before in
+    let b22 = b6 .before .before .before .before .before .before .before .before .before .before .before .before .before .before .before .before in
+    let s = b22 in
+    output-low (question s) (s .pre .0) (sized s) (s .args .bad) _ (bad-output (question s) (s .args .bad) _ _ (b6 .first2 .ensures) (b5 .word .ensures))
 
 make-requires : tie.Need-make-requires
-make-requires c κs = let s = c .before .before .before .before .before .before .before .before .before .before .before .before .before .before .before .before .before .before .before .before .before .before .before .before .before in
+make-requires c κs =
+    let b3 = c .before .before .before in
+    let b5 = b3 .before .before in
+    let b6 = b5 .before in
+    let b8 = b6 .before .before in
+    let b9 = b8 .before in
+    let b11 = b9 .before .before in
+    let b13 = b11 .before .before in
+    let b15 = b13 .before .before in
+    let b25 = b15 .before .before .before .before .before .before .before .before .before .before in
+    let s = b25 in
     let q = question s in
-    let ce = currents-list q _ _ (c .before .before .before .before .before .before .before .before .before .before .before .before .before .before .before .currents .ensures) (c .before .before .before .before .before .before .before .before .before .before .before .before .before .first .ensures) in
-    terminal-list-ready q (s .pre .0) (sized s) _ _ _ _ ce (c .before .before .before .before .before .before .first3 .ensures) (c .before .before .before .before .before .first4 .ensures) (in-order _ _ _ _ (c .before .before .before .before .before .before .before .before .before .before .before .state-keys .ensures) (c .before .before .before .first5 .ensures)) (s .args .bad) _ _ (bad-output q (s .args .bad) _ _ (c .before .before .before .before .before .before .before .before .before .first2 .ensures) (c .before .before .before .before .before .before .before .before .word .ensures)) (c .before .before .opposite-of .ensures) _ (s .pre .1)
+    let ce = currents-list q _ _ (b15 .currents .ensures) (b13 .first .ensures) in
+    terminal-list-ready q (s .pre .0) (sized s) _ _ _ _ ce (b6 .first3 .ensures) (b5 .first4 .ensures) (in-order _ _ _ _ (b11 .state-keys .ensures) (b3 .first5 .ensures)) (s .args .bad) _ _ (bad-output q (s .args .bad) _ _ (b9 .first2 .ensures) (b8 .word .ensures)) (c .before .before .opposite-of .ensures) _ (s .pre .1)
 
 returns : tie.Need-returns
-returns c = let s = c .before .before .before .before .before .before .before .before .before .before .before .before .before .before .before .before .before .before .before .before .before .before .before .before .before .before .before .before .before .before in
+returns c =
+    let b4 = c .before .before .before .before in
+    let b7 = b4 .before .before .before in
+    let b8 = b7 .before in
+    let b10 = b8 .before .before in
+    let b11 = b10 .before in
+    let b13 = b11 .before .before in
+    let b14 = b13 .before in
+    let b16 = b14 .before .before in
+    let b18 = b16 .before .before in
+    let b20 = b18 .before .before in
+    let b30 = b20 .before .before .before .before .before .before .before .before .before .before in
+    let s = b30 in
     let q = question s in
-    let ce = currents-list q _ _ (c .before .before .before .before .before .before .before .before .before .before .before .before .before .before .before .before .before .before .before .before .currents .ensures) (c .before .before .before .before .before .before .before .before .before .before .before .before .before .before .before .before .before .before .first .ensures) in
-    terminal-made q (s .pre .0) (sized s) _ _ _ _ ce (c .before .before .before .before .before .before .before .before .before .before .before .first3 .ensures) (c .before .before .before .before .before .before .before .before .before .before .first4 .ensures) (in-order _ _ _ _ (c .before .before .before .before .before .before .before .before .before .before .before .before .before .before .before .before .state-keys .ensures) (c .before .before .before .before .before .before .before .before .first5 .ensures)) (s .args .bad) _ _ (bad-output q (s .args .bad) _ _ (c .before .before .before .before .before .before .before .before .before .before .before .before .before .before .first2 .ensures) (c .before .before .before .before .before .before .before .before .before .before .before .before .before .word .ensures)) (c .before .before .before .before .before .before .before .opposite-of .ensures) _ _ _ _ _ _ (c .before .before .before .before .make .ensures)
+    let ce = currents-list q _ _ (b20 .currents .ensures) (b18 .first .ensures) in
+    terminal-made q (s .pre .0) (sized s) _ _ _ _ ce (b11 .first3 .ensures) (b10 .first4 .ensures) (in-order _ _ _ _ (b16 .state-keys .ensures) (b8 .first5 .ensures)) (s .args .bad) _ _ (bad-output q (s .args .bad) _ _ (b14 .first2 .ensures) (b13 .word .ensures)) (b7 .opposite-of .ensures) _ _ _ _ _ _ (b4 .make .ensures)
 
 pub assemble-spec : {M : Type 1} → statement M
 assemble-spec =

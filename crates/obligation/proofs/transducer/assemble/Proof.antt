@@ -28,18 +28,38 @@ outcome-keys-requires c κs = let s = c .before .before .before .before .before 
     (few-list q (s .pre .0) (sized s) _ e, few-observed q (s .pre .0) (sized s) _ (s .args .outcomes .now) (s .pre .1), omega arith, low-list q (s .pre .0) (sized s) _ e, low-list-out q (s .pre .0) (sized s) _ (c .before .first2 .ensures))
 
 make-requires : tie.Need-make-requires
-make-requires c κs = let s = c .before .before .before .before .before .before .before .before .before .before .before .before .before .before .before .before .before .before .before .before .before .before .before .before .before in
+make-requires c κs =
+    let b4 = c .before .before .before .before in
+    let b5 = b4 .before in
+    let b8 = b5 .before .before .before in
+    let b10 = b8 .before .before in
+    let b11 = b10 .before in
+    let b13 = b11 .before .before in
+    let b14 = b13 .before in
+    let b25 = b14 .before .before .before .before .before .before .before .before .before .before .before in
+    let s = b25 in
     let q = question s in
-    let ne = nexts-list q _ _ (c .before .before .before .before .before .before .before .before .before .before .before .before .before .nexts .ensures) (c .before .before .before .before .before .before .before .before .before .before .before .first .ensures) in
-    let ce = currents-list q _ _ (c .before .before .before .before .before .before .before .before .before .before .before .before .before .before .currents .ensures) (c .before .before .before .before .before .first3 .ensures) in
-    transducer-ready q (s .pre .0) (sized s) (s .args .source) _ _ _ _ ce (c .before .before .before .before .first4 .ensures) ne _ (s .args .observed .now) (s .args .outcomes .now) (c .before .before .before .before .before .before .before .before .before .before .first2 .ensures) (s .pre .1) (in-order _ _ _ _ (c .before .before .before .before .before .before .before .before .outcome-keys .ensures) (c .before .before .first5 .ensures))
+    let ne = nexts-list q _ _ (b13 .nexts .ensures) (b11 .first .ensures) in
+    let ce = currents-list q _ _ (b14 .currents .ensures) (b5 .first3 .ensures) in
+    transducer-ready q (s .pre .0) (sized s) (s .args .source) _ _ _ _ ce (b4 .first4 .ensures) ne _ (s .args .observed .now) (s .args .outcomes .now) (b10 .first2 .ensures) (s .pre .1) (in-order _ _ _ _ (b8 .outcome-keys .ensures) (c .before .before .first5 .ensures))
 
 returns : tie.Need-returns
-returns c = let s = c .before .before .before .before .before .before .before .before .before .before .before .before .before .before .before .before .before .before .before .before .before .before .before .before .before .before .before .before .before .before in
+returns c =
+    let b4 = c .before .before .before .before in
+    let b7 = b4 .before .before .before in
+    let b9 = b7 .before .before in
+    let b10 = b9 .before in
+    let b13 = b10 .before .before .before in
+    let b15 = b13 .before .before in
+    let b16 = b15 .before in
+    let b18 = b16 .before .before in
+    let b19 = b18 .before in
+    let b30 = b19 .before .before .before .before .before .before .before .before .before .before .before in
+    let s = b30 in
     let q = question s in
-    let ne = nexts-list q _ _ (c .before .before .before .before .before .before .before .before .before .before .before .before .before .before .before .before .before .before .nexts .ensures) (c .before .before .before .before .before .before .before .before .before .before .before .before .before .before .before .before .first .ensures) in
-    let ce = currents-list q _ _ (c .before .before .before .before .before .before .before .before .before .before .before .before .before .before .before .before .before .before .before .currents .ensures) (c .before .before .before .before .before .before .before .before .before .before .first3 .ensures) in
-    transducer-made q (s .pre .0) (sized s) (s .args .source) _ _ _ _ ce (c .before .before .before .before .before .before .before .before .before .first4 .ensures) ne _ (s .args .observed .now) (s .args .outcomes .now) (c .before .before .before .before .before .before .before .before .before .before .before .before .before .before .before .first2 .ensures) (s .pre .1) (in-order _ _ _ _ (c .before .before .before .before .before .before .before .before .before .before .before .before .before .outcome-keys .ensures) (c .before .before .before .before .before .before .before .first5 .ensures)) _ _ _ _ _ (c .before .before .before .before .make .ensures)
+    let ne = nexts-list q _ _ (b18 .nexts .ensures) (b16 .first .ensures) in
+    let ce = currents-list q _ _ (b19 .currents .ensures) (b10 .first3 .ensures) in
+    transducer-made q (s .pre .0) (sized s) (s .args .source) _ _ _ _ ce (b9 .first4 .ensures) ne _ (s .args .observed .now) (s .args .outcomes .now) (b15 .first2 .ensures) (s .pre .1) (in-order _ _ _ _ (b13 .outcome-keys .ensures) (b7 .first5 .ensures)) _ _ _ _ _ (b4 .make .ensures)
 
 pub assemble-spec : {M : Type 1} → statement M
 assemble-spec =
