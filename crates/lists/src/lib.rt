@@ -27,30 +27,6 @@ pub fn clear(work: &mut [u64])
     }
 }
 
-// Whether bit k of the words is set.
-pub fn has(words: &[u64], k: usize) -> bool
-    ensures { λ r. ⌜ r ≡ holds (now (words .entry)) k ⌝ }
-{
-    let at = k / 64;
-    if words.len() <= at {
-        return false;
-    }
-    let w = words[at];
-    (w >> (k % 64)) % 2 == 1
-}
-
-// Sets bit k of the words.
-pub fn mark(words: &mut [u64], k: usize)
-    ensures { λ _. ⌜ now (words .exit) ≡ withBit (now (words .entry)) k ⌝ }
-{
-    let at = k / 64;
-    if at < words.len() {
-        let one: u64 = 1;
-        let w = words[at];
-        words[at] = w | (one << (k % 64));
-    }
-}
-
 // Sets bit k of the words, and says whether it was not set before.
 pub fn add(words: &mut [u64], k: usize) -> bool
     ensures { λ r. ⌜ (r ≡ not (holds (now (words .entry)) k)) × (now (words .exit) ≡ withBit (now (words .entry)) k) ⌝ }

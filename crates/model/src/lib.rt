@@ -306,13 +306,3 @@ pub fn validate_parts(
     }
     Verdict::Refused(11)
 }
-
-// Whether a record and its gate words are a model: the validation that comes before every step and obligation.
-pub fn validate(model: AigerTransition, gates: &[u64], work: &mut [u64]) -> Verdict
-    ensures { λ r. ⌜ Validates model (now (gates .entry)) (length (now (work .entry))) r (now (work .exit)) ⌝ }
-{
-    let n = counts_of(model);
-    let latches = model.latches;
-    let outputs = model.outputs;
-    validate_parts(n, &model.inputs, latches, &outputs, gates, work)
-}

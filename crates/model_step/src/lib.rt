@@ -181,28 +181,3 @@ pub fn evaluate_parts(
     lists::clear(work);
     Stepped::Done(outcome)
 }
-
-// One step of a model, or the number of the reason why there is none. The work words are 0 again afterwards.
-pub fn evaluate(
-    model: AigerTransition,
-    gates: &[u64],
-    work: &mut [u64],
-    state: u64,
-    input: u64,
-) -> Stepped
-    ensures { λ r. ⌜ (answerOf r ≡ stepOf model (now (gates .entry)) (length (now (work .entry))) state input) × (now (work .exit) ≡ zeros (length (now (work .entry)))) ⌝ }
-{
-    let n = model::counts_of(model);
-    let latches = model.latches;
-    let outputs = model.outputs;
-    evaluate_parts(
-        n,
-        &model.inputs,
-        latches,
-        &outputs,
-        gates,
-        work,
-        state,
-        input,
-    )
-}
