@@ -141,11 +141,6 @@ module _ {A : Type 0} (same : A → A → Bool) where
   appearing-begins xs (y ∷ ys) =
       begins-then xs (joined same y xs) (appearing same (joined same y xs) ys) (joined-begins y xs) (appearing-begins (joined same y xs) ys)
 
-  -- two lists appear one after the other
-  pub appearing-append : (xs ys zs : List A) → appearing same xs (ys ++ zs) ≡ appearing same (appearing same xs ys) zs
-  appearing-append xs [] zs = refl
-  appearing-append xs (y ∷ ys) zs = appearing-append (joined same y xs) ys zs
-
   -- there are at most as many as appear
   pub appearing-length : (xs ys : List A) → length (appearing same xs ys) ≤ length xs + length ys
   appearing-length xs [] = omega arith

@@ -1,8 +1,7 @@
 // The step of item 6 of 01. The values stand in the work words, one word a variable.
 ghost use mathlib.Core.Path.{_≡_};
 ghost use mathlib.Core.List.{[], _∷_, map};
-ghost use Prim.Native.Nat.{_+_, _*_, _<_, _≤_, _^_};
-ghost use lib.Dec.{ltb};
+ghost use Prim.Native.Nat.{_+_, _*_, _<_, _≤_};
 ghost use lib.ListN.{length, take, drop};
 ghost use Rattle.lists.specs.Bits.{bit, bits, packed};
 ghost use Rattle.lists.specs.Parts.{zeros};
@@ -15,7 +14,6 @@ ghost use Rattle.model_step.specs.Inner.Runnable.{Runnable};
 ghost use Rattle.model_step.specs.Inner.Stored.{held, Becomes, Inside, InsideGate, Readable, readings};
 use aiger::Gate;
 use model::AigerLatch;
-use model::AigerTransition;
 use model::Counts;
 use model::Verdict;
 

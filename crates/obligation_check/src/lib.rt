@@ -1,6 +1,5 @@
 // Whether an obligation's boundary (01, reason 13) and its claims (14) are within the limits.
 ghost use mathlib.Core.Path.{_≡_};
-ghost use mathlib.Core.Bool.{_&&_};
 ghost use Prim.Native.Nat.{_+_, _*_, _/_, _≤_, _<_, _^_};
 ghost use lib.Dec.{ltb};
 ghost use lib.ListN.{length, getD};

@@ -6,8 +6,6 @@ use Rattle.obligation_check.proofs.BoundaryLaws.{early-stop, past-stop,
 use borrow.Author.Needs.{needs}
 use Rattle.obligation_check.proofs.predicate_holds.Statement.{statement}
 use Rattle.obligation_check.proofs.predicate_holds.Tie as tie
-use Rattle.obligation_check.proofs.indexes_hold.Reads as indexes-hold-reads
-use Rattle.lists.proofs.index.Reads as index-reads
 
 abbrev Inv-loop : tie.InvT-loop
 Inv-loop pairs words n size count end₀ i₀ end i = predicateHolds n 0 words pairs ≡ predicateHolds n end words (drop (2 * i) pairs)

@@ -2,7 +2,6 @@ use Rattle.obligation_claims.proofs.PushLaws.{fits-few}
 use borrow.Author.Needs.{needs}
 use Rattle.obligation_claims.proofs.append_outcomes.Statement.{statement}
 use Rattle.obligation_claims.proofs.append_outcomes.Tie as tie
-use Rattle.obligation_claims.proofs.push_outcomes.Reads as push-outcomes-reads
 
 push-outcomes-requires : tie.Need-push-outcomes-requires
 push-outcomes-requires c κs = (c .before .before .before .before .before .before .before .before .before .pre .0, fits-few (c .before .before .before .before .before .before .before .before .before .args .keys .now) _ _ (c .before .before .before .before .if1 .taken) (c .before .before .before .before .before .before .before .before .before .pre .2))
