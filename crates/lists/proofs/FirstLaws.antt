@@ -169,6 +169,19 @@ module _ {A : Type 0} (same : A → A → Bool) where
     place-new x [] h = rw (self x) refl
     place-new x (y ∷ ys) h = rw (or-left (same x y) (any (same x) ys) h) (ap suc (place-new x ys (or-right (same x y) (any (same x) ys) h)))
 
+    -- joining x keeps its place
+    pub place-joined : (x : A) (ys : List A) → place same x (joined same x ys) ≡ place same x ys
+    place-joined x ys = go (any (same x) ys) refl
+      where
+        go : (q : Bool) → any (same x) ys ≡ q → place same x (cond q ys (ys ++ (x ∷ []))) ≡ place same x ys
+        go true e = refl
+        go false e = place-new x ys e ∙ sym (place-outside x ys e)
+
+    -- and so does all that appears later
+    pub place-first : (x : A) (ys zs : List A) → place same x (appearing same (joined same x ys) zs) ≡ place same x ys
+    place-first x ys zs =
+        place-begins x (joined same x ys) (appearing same (joined same x ys) zs) (appearing-begins (joined same x ys) zs) (joined-any x ys) ∙ place-joined x ys
+
     -- one that appears has the place k
     abbrev standsAt : List A → ℕ → A → Bool
     standsAt all k y = eqb (place same y all) k

@@ -1,7 +1,7 @@
 // Small functions on words that every layer uses.
 ghost use mathlib.Core.Path.{_≡_};
 ghost use mathlib.Core.Bool.{not};
-ghost use Prim.Native.Nat.{_≤_, _^_};
+ghost use Prim.Native.Nat.{_≤_, _^_, min, max};
 ghost use lib.Dec.{leb, ltb};
 ghost use lib.ListN.{length, getD, take};
 ghost use Rattle.lists.specs.Parts.{part, zeros};
@@ -14,6 +14,33 @@ pub fn index(x: u64) -> usize
     ensures { λ r. ⌜ r ≡ x ⌝ }
 {
     x as usize
+}
+
+// A literal's word as a wider number.
+pub fn wide(x: u32) -> u64
+    ensures { λ r. ⌜ r ≡ x ⌝ }
+{
+    x as u64
+}
+
+// The smaller of two words. This and the next compile without a branch: in a merge it cannot be predicted.
+pub fn least(a: u64, b: u64) -> u64
+    ensures { λ r. ⌜ r ≡ min a b ⌝ }
+{
+    if b < a {
+        return b;
+    }
+    a
+}
+
+// The larger of two words.
+pub fn most(a: u64, b: u64) -> u64
+    ensures { λ r. ⌜ r ≡ max a b ⌝ }
+{
+    if b < a {
+        return a;
+    }
+    b
 }
 
 // Every word becomes 0.

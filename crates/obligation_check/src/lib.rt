@@ -59,7 +59,7 @@ fn predicate_holds(pairs: &[u64], words: &[u32], n: u32) -> bool
 }
 
 // Whether relevant inputs and predicate are right for a model of so many inputs: reason 13.
-pub fn validate_boundary(inputs: u64, relevant: &[u64], pairs: &[u64], words: &[u32]) -> bool
+fn validate_boundary(inputs: u64, relevant: &[u64], pairs: &[u64], words: &[u32]) -> bool
     ensures { λ r. ⌜ Bounds inputs (now (relevant .entry)) (now (pairs .entry)) (now (words .entry)) r ⌝ }
 {
     let count = relevant.len();

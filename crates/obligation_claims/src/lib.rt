@@ -24,7 +24,7 @@ pub enum Fill {
 }
 
 // Writes the keys of the literals, whose bits begin at `place`.
-pub fn add_keys(literals: &[u64], place: u64, keys: &mut [u64], at: usize)
+fn add_keys(literals: &[u64], place: u64, keys: &mut [u64], at: usize)
     requires { ⌜ (at + length (now literals) ≤ length (now keys)) × (place + length (now literals) ≤ 256) × LowLiterals (now literals) ⌝ }
     ensures { λ _. ⌜ now (keys .exit) ≡ put (now (keys .entry)) at (keysFrom place (now (literals .entry))) ⌝ }
 {
