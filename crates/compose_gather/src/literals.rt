@@ -47,38 +47,38 @@ fn range_of(kind: Literals, counts: AagCounts) -> Range
 }
 
 // The joint variable of a variable.
-fn shift(shift: Shift, x: usize) -> usize
-    requires { ⌜ Shiftable shift x ⌝ }
-    ensures { λ r. ⌜ SmallWord r (shifted shift x) ⌝ }
+fn shift(by: Shift, x: usize) -> usize
+    requires { ⌜ Shiftable by x ⌝ }
+    ensures { λ r. ⌜ SmallWord r (shifted by x) ⌝ }
 {
     if x == 0 {
         return 0;
     }
-    if x <= shift.inputs {
-        return x + shift.by_input;
+    if x <= by.inputs {
+        return x + by.by_input;
     }
-    if x <= shift.leaves {
-        return x + shift.by_latch;
+    if x <= by.leaves {
+        return x + by.by_latch;
     }
-    x + shift.by_gate
+    x + by.by_gate
 }
 
-fn shift_literal(shift: Shift, l: u64) -> u64
-    requires { ⌜ Shiftable shift l ⌝ }
-    ensures { λ r. ⌜ r ≡ shiftedLiteral shift l ⌝ }
+fn shift_literal(by: Shift, l: u64) -> u64
+    requires { ⌜ Shiftable by l ⌝ }
+    ensures { λ r. ⌜ r ≡ shiftedLiteral by l ⌝ }
 {
-    let x = shift(shift, lists::index(l / 2));
+    let x = shift(by, lists::index(l / 2));
     2 * x as u64 + l % 2
 }
 
 // Literals from one place on, written as joint literals from another place on.
-fn shift_words(work: &mut [u64], from: usize, count: usize, to: usize, shift: Shift)
-    requires { ⌜ CanShift shift (now work) from count to ⌝ }
-    ensures { λ _. ⌜ now (work .exit) ≡ put (now (work .entry)) to (map (shiftedLiteral shift) (part (now (work .entry)) from (from + count))) ⌝ }
+fn shift_words(work: &mut [u64], from: usize, count: usize, to: usize, by: Shift)
+    requires { ⌜ CanShift by (now work) from count to ⌝ }
+    ensures { λ _. ⌜ now (work .exit) ≡ put (now (work .entry)) to (map (shiftedLiteral by) (part (now (work .entry)) from (from + count))) ⌝ }
 {
     let mut i = 0;
     while i < count {
-        work[to + i] = shift_literal(shift, work[from + i]);
+        work[to + i] = shift_literal(by, work[from + i]);
         i += 1;
     }
 }
@@ -111,11 +111,11 @@ fn pass(inputs: usize, latches: usize, before: Before, counts: AagCounts) -> Bef
 }
 
 // The literals of a range behind a place, written as joint literals from another place on. Returns the place after them.
-fn shift_range(range: Range, shift: Shift, work: &mut [u64], from: usize, to: usize) -> usize
-    requires { ⌜ CanShift shift (now work) (from + range .start) (range .count) to ⌝ }
-    ensures { λ r. ⌜ ShiftsRange range shift (now (work .entry)) from to (now (work .exit)) r ⌝ }
+fn shift_range(range: Range, by: Shift, work: &mut [u64], from: usize, to: usize) -> usize
+    requires { ⌜ CanShift by (now work) (from + range .start) (range .count) to ⌝ }
+    ensures { λ r. ⌜ ShiftsRange range by (now (work .entry)) from to (now (work .exit)) r ⌝ }
 {
-    shift_words(work, from + range.start, range.count, to, shift);
+    shift_words(work, from + range.start, range.count, to, by);
     to + range.count
 }
 
@@ -134,9 +134,9 @@ fn shift_list(
     requires { ⌜ CanShiftList kind counts (shiftFor inputs latches before counts) (now work) from to ⌝ }
     ensures { λ r. ⌜ ShiftsRange (rangeOf kind counts) (shiftFor inputs latches before counts) (now (work .entry)) from to (now (work .exit)) r ⌝ }
 {
-    let h = shift_of(inputs, latches, before, counts);
+    let by = shift_of(inputs, latches, before, counts);
     let range = range_of(kind, counts);
-    shift_range(range, h, work, from, to)
+    shift_range(range, by, work, from, to)
 }
 
 // A list of all witnesses, from a place on. Returns the place after it. The texts are lent for the contract alone, which says of which witnesses the words are.

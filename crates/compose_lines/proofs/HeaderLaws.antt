@@ -4,7 +4,6 @@ use mathlib.Core.List.{List, [], _∷_, _++_, map, append-assoc, append-nil}
 use mathlib.Core.Path.{_≡_, refl, sym, ap, _∙_}
 use native.Mathlib.Omega.{arith}
 use lib.ListN.{length}
-use Rattle.lists.specs.Quoted.{bytes}
 use Rattle.lists.specs.Parts.{Bytes}
 use Rattle.text.specs.Fields.{aag}
 use Rattle.text_decimal.specs.Decimal.{decimal}
@@ -42,7 +41,7 @@ module _ (o : Bytes) (at : ℕ) (o₁ : Bytes) (r₁ : ℕ) (o₂ : Bytes) (r₂
   -- `aag` and the first four fields, four more, and the last
   pub header-printed : (n : Counts) (o₃ : Bytes) (r₃ : ℕ) → length o₂ ≡ length o
       → Prints o at (97 ∷ 97 ∷ 103 ∷ fieldsText (n .variables ∷ n .inputs ∷ n .latches ∷ 0 ∷ [])) o₁ r₁
-      → Prints o₁ r₁ (fieldsText (n .gates ∷ n .bads ∷ n .constraints ∷ 0 ∷ [])) o₂ r₂ → Prints o₂ r₂ (bytes " 0\n") o₃ r₃ → Prints o at (headerOf n ++ 10 ∷ []) o₃ r₃
+      → Prints o₁ r₁ (fieldsText (n .gates ∷ n .bads ∷ n .constraints ∷ 0 ∷ [])) o₂ r₂ → Prints o₂ r₂ (32 ∷ 48 ∷ 10 ∷ []) o₃ r₃ → Prints o at (headerOf n ++ 10 ∷ []) o₃ r₃
   unfolding headerOf decimal
   header-printed n o₃ r₃ same₂ p q s =
       let xs : List ℕ = n .variables ∷ n .inputs ∷ n .latches ∷ 0 ∷ [] in

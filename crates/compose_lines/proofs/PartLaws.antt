@@ -4,7 +4,6 @@ use mathlib.Core.List.{List, [], _∷_, _++_, map, append-assoc}
 use mathlib.Core.Option.{Option, some}
 use mathlib.Core.Path.{_≡_, refl, sym, ap, ap₂, _∙_}
 use lib.ListN.{length, length-map}
-use Rattle.lists.specs.Quoted.{bytes}
 use Rattle.lists.specs.Parts.{Bytes}
 use Rattle.lists.specs.Words.{wordsOf}
 use Rattle.text_decimal.specs.Printed.{textOf}
@@ -40,7 +39,7 @@ latch-lines x (q ∷ qs) = ap₂ (λ (l : Bytes) (ls : List Bytes). l ∷ ls) re
 module _ (s : Sections) where
   -- the symbols and the last lines
   tail-parts : textOf (tailLines s) ≡ textOf (symbolLines 105 0 (s .inputs)) ++ (textOf (symbolLines 108 0 (latchNames s)) ++ closingText)
-  tail-parts = then (symbolLines 105 0 (s .inputs)) (symbolLines 108 0 (latchNames s) ++ (bytes "c" ∷ closing ∷ [])) _ (text-append (symbolLines 108 0 (latchNames s)) (bytes "c" ∷ closing ∷ []))
+  tail-parts = then (symbolLines 105 0 (s .inputs)) (symbolLines 108 0 (latchNames s) ++ ((99 ∷ []) ∷ closing ∷ [])) _ (text-append (symbolLines 108 0 (latchNames s)) ((99 ∷ []) ∷ closing ∷ []))
 
   -- what comes behind the latches
   abbrev behind : Bytes
@@ -62,7 +61,7 @@ module _ (s : Sections) where
       let latches : List Bytes = latchLines (suc (length (s .inputs))) (s .latches) ++ (literalLines (s .outputs) ++ bads) in
       let none : literalLines (s .outputs) ++ bads ≡ bads = ap (λ (ls : List ℕ). literalLines ls ++ bads) e in
       ap (λ (l : Bytes). l ++ 10 ∷ textOf (inputLines 1 (s .inputs) ++ latches)) (header-is s e)
-      ∙ (sym (append-assoc (headerOf (countsOf s)) (bytes "\n") (textOf (inputLines 1 (s .inputs) ++ latches)))
+      ∙ (sym (append-assoc (headerOf (countsOf s)) (10 ∷ []) (textOf (inputLines 1 (s .inputs) ++ latches)))
       ∙ ap (λ (x : Bytes). (headerOf (countsOf s) ++ 10 ∷ []) ++ x)
       (then (inputLines 1 (s .inputs)) latches _
       (then (latchLines (suc (length (s .inputs))) (s .latches)) (literalLines (s .outputs) ++ bads) _

@@ -1,4 +1,4 @@
-// The text of the composition from the composer's words: its header, its gates and its last lines. Its other lines are printed by `printing` and `naming`;
+// The text of the composition from the composer's words: its header, its gates and its last lines. Its other lines are printed by `text_print` and `compose_names`;
 // the law `printed-parts` says how all of them make up the text.
 ghost use mathlib.Core.List.{[], _∷_, _++_};
 ghost use Rattle.text_print.specs.Inner.Prints.{Prints};

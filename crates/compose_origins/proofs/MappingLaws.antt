@@ -9,7 +9,6 @@ use native.Mathlib.Omega.{arith}
 use borrow.Author.Tests.{eq-eqb, ne-eqb, lt-ltb, le-ltb, le-leb, lt-leb}
 use lib.Dec.{eqb, ltb}
 use lib.ListN.{length, drop, take}
-use Rattle.lists.specs.Quoted.{bytes}
 use Rattle.lists.specs.Bits.{odd}
 use Rattle.lists.specs.Parts.{Bytes}
 use Rattle.lists.proofs.PartLaws.{tail-lent}
@@ -57,7 +56,7 @@ module _ (p : ModelLeaves) (name : Bytes) where
   pub name-short : length name < 2 → mapping.Private ≡ byName p (some name)
   name-short h = rw (short-begins name h) refl
 
-  module _ (b : Bool) (e : b ≡ beginsWith name (bytes "= ")) where
+  module _ (b : Bool) (e : b ≡ beginsWith name (61 ∷ 32 ∷ [])) where
     pub name-mapped : b ≡ true → (r : Mapping) → r ≡ ontoNumber p (numberOf Witness (take (length name - 2) (drop 2 name))) → r ≡ byName p (some name)
     name-mapped t r f = f ∙ (ap (λ (d : Bytes). ontoNumber p (numberOf Witness d)) (tail-lent name 2) ∙ rw (sym e ∙ t) refl)
 

@@ -8,7 +8,6 @@ use native.Mathlib.Omega.{arith}
 use borrow.Author.Tests.{eq-eqb, ne-eqb, leb-true}
 use lib.Dec.{eqb, leb}
 use lib.ListN.{length, getD}
-use Rattle.lists.specs.Quoted.{bytes}
 use Rattle.lists.specs.Parts.{Bytes, part}
 use Rattle.scan.specs.Same.{beginsWith}
 use Rattle.witness_load.specs.Inner.Loaded.{nameFrom}
@@ -66,7 +65,7 @@ module _ (t : Bytes) (offset size : ℕ) where
   pub tests-none : offset ≡ 0 → TestsName t offset size false
   tests-none z name e = rw (name-none t offset size name e z) refl
 
-  pub tests-name : (offset ≡ 0 → ⊥) → (d : Bytes) → d ≡ part t offset (offset + size) → (r : Bool) → r ≡ beginsWith d (bytes "= ") → TestsName t offset size r
+  pub tests-name : (offset ≡ 0 → ⊥) → (d : Bytes) → d ≡ part t offset (offset + size) → (r : Bool) → r ≡ beginsWith d (61 ∷ 32 ∷ []) → TestsName t offset size r
   tests-name n d f r g name e = g ∙ rw (name-placed t offset size name e n .1, f) refl
 
 -- ---- the word of an origin

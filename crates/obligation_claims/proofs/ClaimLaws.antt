@@ -88,7 +88,7 @@ module _ (keys ls : List ℕ) (h : length ls ≤ 64) (e : keys ≡ sorted (keysF
 
 -- ---- outcomes
 
--- the literals of an outcome, as `outcomeList` of crate `completeness` has them
+-- the literals of an outcome, as `outcomeList` of crate `obligation_spec` has them
 abbrev pub differingOutcome : List ℕ → List ℕ → Outcome → List ℕ
 differingOutcome nexts observed o = differing nexts (bits (length nexts) (o .target)) ++ differing observed (outputBits o)
 

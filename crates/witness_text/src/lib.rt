@@ -1,4 +1,4 @@
-// The header, the latch lines and the symbol lines of a witness text (item 4 of 01). Its other lines are those of `sections`.
+// The header, the latch lines and the symbol lines of a witness text (item 4 of 01). Its other lines are those of `circuit_lines`.
 ghost use mathlib.Core.Path.{_≡_};
 ghost use Rattle.text.specs.Texts.{limited};
 ghost use Rattle.witness_text.specs.Header.{countsFrom, counted, withoutLiveness};

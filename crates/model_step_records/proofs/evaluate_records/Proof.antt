@@ -69,17 +69,17 @@ use Rattle.model_step_records.proofs.Pass as P
 use Rattle.model_step_records.proofs.Pass.Laws as P′
 use Rattle.model_step_records.proofs.begin as begin
 use Rattle.model_step_records.proofs.begin.Symbol as begin-def
-use Rattle.model_step_records.proofs.begin.Symbol.{name as #records·begin}
+use Rattle.model_step_records.proofs.begin.Symbol.{name as #model-step-records·begin}
 use Rattle.model_step_records.proofs.begin.Met as begin-thm
 use Rattle.model_step_records.proofs.take_gate as take
 use Rattle.model_step_records.proofs.take_gate.Symbol as take-def
-use Rattle.model_step_records.proofs.take_gate.Symbol.{name as #records·take-gate}
+use Rattle.model_step_records.proofs.take_gate.Symbol.{name as #model-step-records·take-gate}
 use Rattle.model_step_records.proofs.take_gate.Met as take-thm
 use Rattle.model_step_records.proofs.finish as finish
 use Rattle.model_step_records.proofs.finish.Symbol as finish-def
-use Rattle.model_step_records.proofs.finish.Symbol.{name as #records·finish}
+use Rattle.model_step_records.proofs.finish.Symbol.{name as #model-step-records·finish}
 use Rattle.model_step_records.proofs.finish.Met as finish-thm
-use Rattle.model_step_records.proofs.evaluate_records.Key.{name as #records·evaluate-records}
+use Rattle.model_step_records.proofs.evaluate_records.Key.{name as #model-step-records·evaluate-records}
 use Rattle.model_step_records.proofs.evaluate_records as f
 use Rattle.model_step_records.proofs.evaluate_records.Statement as stated
 use Rattle.model_step_records.proofs.evaluate_records.Code as code
@@ -230,7 +230,7 @@ module _ {M : Type 1} (𝓤 : URA M) (H : Heap 𝓤) (A : Atoms 𝓤) (W : Given
   Nearer-wf : WellFounded Nearer
   Nearer-wf = InvImage·wf (λ (i : Stage). left (i .0)) (Nat·lt-wfRel .wf)
 
-  module _ (𝓣 : Tables 𝓤 H) (fm : FmC 𝓤 H (W .laws) (𝓣 .C)) (known-begin : Triple 𝓤 (𝓣 .C #records·begin) (Begin 𝓤 H A at-mem run)) (known-take : Triple 𝓤 (𝓣 .C #records·take-gate) (Take 𝓤 H A at-mem run)) (known-finish : Triple 𝓤 (𝓣 .C #records·finish) (Finish 𝓤 H A at-mem run))
+  module _ (𝓣 : Tables 𝓤 H) (fm : FmC 𝓤 H (W .laws) (𝓣 .C)) (known-begin : Triple 𝓤 (𝓣 .C #model-step-records·begin) (Begin 𝓤 H A at-mem run)) (known-take : Triple 𝓤 (𝓣 .C #model-step-records·take-gate) (Take 𝓤 H A at-mem run)) (known-finish : Triple 𝓤 (𝓣 .C #model-step-records·finish) (Finish 𝓤 H A at-mem run))
       (p : Is (ShrSlice (named 1) κ₁ T.the-row) s (v ∷ [])) (pw : Is (MutSlice (named 2) κ₂ u64) (x γ′ ws₀) (w ws₀ ∷ [])) (fs : Fits st) (fi : Fits inp) where
     abbrev C : Calls 𝓤 H
     C = 𝓣 .C
@@ -438,7 +438,7 @@ module _ {M : Type 1} (𝓤 : URA M) (H : Heap 𝓤) (A : Atoms 𝓤) (W : Given
         rest l₀ l₁ l₂ l₃ l₄ l₅ l₆ l₇ l₈ l₉ l₁₀ l₁₁ l₁₂ l₁₃ l₁₄ l₁₅ l₁₆ l₁₇ l₁₈ (begun t u is (zs .1 .1 .0) e))))))))))))))))))))))))))))
 
 module _ {M : Type 1} (𝓤 : URA M) (H : Heap 𝓤) (A : Atoms 𝓤) (W : Given 𝓤 H A) (mem : Memory → SProp 𝓤) (run : Routine → Fun 𝓤) (𝓣 : Tables 𝓤 H)
-    (known-begin : Triple 𝓤 (𝓣 .C #records·begin) (Begin 𝓤 H A mem run)) (known-take : Triple 𝓤 (𝓣 .C #records·take-gate) (Take 𝓤 H A mem run)) (known-finish : Triple 𝓤 (𝓣 .C #records·finish) (Finish 𝓤 H A mem run)) where
+    (known-begin : Triple 𝓤 (𝓣 .C #model-step-records·begin) (Begin 𝓤 H A mem run)) (known-take : Triple 𝓤 (𝓣 .C #model-step-records·take-gate) (Take 𝓤 H A mem run)) (known-finish : Triple 𝓤 (𝓣 .C #model-step-records·finish) (Finish 𝓤 H A mem run)) where
   evaluate-records-walks : Walks 𝓤 H A f.ended stayed (WpFn 𝓤 H (𝓣 .C) (𝓣 .Λ) code.function) (f.clauses 𝓤 H A mem run)
   evaluate-records-walks = walked 𝓤 H A f.ended stayed (f.clauses 𝓤 H A mem run) (WpFn 𝓤 H (𝓣 .C) (𝓣 .Λ) code.function) (λ κs. (slice-vals, (slice-vals, (slice-vals, (uint-vals w64, (uint-vals w64, tt))))))
       (λ κs. (shr-slice-tells (named 0) (κs .0) u64, (shr-slice-tells (named 1) (κs .1 .0) T.the-row, (mut-slice-tells (named 2) (κs .1 .1 .0) u64, (uint-tells w64, (uint-tells w64, tt))))))
@@ -454,8 +454,8 @@ pub evaluate-records-spec : {M : Type 1} → stated.statement M
 unfolding code.routine tablesOf
 evaluate-records-spec 𝓤 H 𝓜 𝓖 𝓡 =
     entered 𝓤 H (tripleOf 𝓤 H (𝓖 .A) f.signature (f.spec 𝓤 H (𝓖 .A) (𝓜 .mem) (𝓡 .run)))
-    (tables 𝓤 H 𝓜 𝓡 code.env .C) (tables 𝓤 H 𝓜 𝓡 code.env .Λ) #records·evaluate-records code.function (code.unfolded 𝓤 H 𝓜 𝓡)
+    (tables 𝓤 H 𝓜 𝓡 code.env .C) (tables 𝓤 H 𝓜 𝓡 code.env .Λ) #model-step-records·evaluate-records code.function (code.unfolded 𝓤 H 𝓜 𝓡)
     (evaluate-records-meets 𝓤 H (𝓖 .A) (givenOf 𝓤 H 𝓜 𝓖) (𝓜 .mem) (𝓡 .run) (tablesOf 𝓤 H 𝓜 (tables 𝓤 H 𝓜 𝓡 code.env))
-    (cited 𝓤 H (Begin 𝓤 H (𝓖 .A) (𝓜 .mem) (𝓡 .run)) 𝓜 𝓡 code.env #records·begin begin-def.routine code.calls-records·begin (begin-thm.met 𝓤 H 𝓜 𝓖 𝓡))
-    (cited 𝓤 H (Take 𝓤 H (𝓖 .A) (𝓜 .mem) (𝓡 .run)) 𝓜 𝓡 code.env #records·take-gate take-def.routine code.calls-records·take-gate (take-thm.met 𝓤 H 𝓜 𝓖 𝓡))
-    (cited 𝓤 H (Finish 𝓤 H (𝓖 .A) (𝓜 .mem) (𝓡 .run)) 𝓜 𝓡 code.env #records·finish finish-def.routine code.calls-records·finish (finish-thm.met 𝓤 H 𝓜 𝓖 𝓡)))
+    (cited 𝓤 H (Begin 𝓤 H (𝓖 .A) (𝓜 .mem) (𝓡 .run)) 𝓜 𝓡 code.env #model-step-records·begin begin-def.routine code.calls-model-step-records·begin (begin-thm.met 𝓤 H 𝓜 𝓖 𝓡))
+    (cited 𝓤 H (Take 𝓤 H (𝓖 .A) (𝓜 .mem) (𝓡 .run)) 𝓜 𝓡 code.env #model-step-records·take-gate take-def.routine code.calls-model-step-records·take-gate (take-thm.met 𝓤 H 𝓜 𝓖 𝓡))
+    (cited 𝓤 H (Finish 𝓤 H (𝓖 .A) (𝓜 .mem) (𝓡 .run)) 𝓜 𝓡 code.env #model-step-records·finish finish-def.routine code.calls-model-step-records·finish (finish-thm.met 𝓤 H 𝓜 𝓖 𝓡)))

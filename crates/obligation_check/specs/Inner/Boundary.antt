@@ -1,4 +1,4 @@
--- For the contracts of the functions that check an obligation's boundary and claims: the limits of `completeness/specs/Limits.antt` from the model's counts.
+-- For the contracts of the functions that check an obligation's boundary and claims: the limits of `obligation_spec/specs/Limits.antt` from the model's counts.
 use Prim.Native.Nat.{ℕ, _+_, _*_, _/_, _^_}
 use mathlib.Core.Bool.{Bool, _&&_}
 use mathlib.Core.List.{List}

@@ -8,7 +8,7 @@ use std::fmt::Write;
 /// operands are chosen among their literals.
 const INPUTS: u64 = 4_000;
 
-/// Where the search of the crate `sharing` for a key begins: it takes the high bits of this, so many
+/// Where the search of the crate `key_table` for a key begins: it takes the high bits of this, so many
 /// as it has heads. To be kept the same as there; else these gates are like any others.
 fn scattered(key: u64) -> u64 {
     let [low, high] = halves(key);

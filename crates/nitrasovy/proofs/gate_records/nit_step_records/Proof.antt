@@ -54,7 +54,7 @@ use Rattle.model_step.proofs.Stepped.Laws as S′
 use Rattle.model_step_records.proofs.Again.{LentAgain, lends-again, comes-back}
 use Rattle.model_step_records.proofs.evaluate_records as step
 use Rattle.model_step_records.proofs.evaluate_records.Symbol as step-def
-use Rattle.model_step_records.proofs.evaluate_records.Symbol.{name as #records·evaluate-records}
+use Rattle.model_step_records.proofs.evaluate_records.Symbol.{name as #model-step-records·evaluate-records}
 use Rattle.model_step_records.proofs.evaluate_records.Met as step-thm
 use Rattle.nitrasovy.specs.declared.models.NitStepped.{NitStepped}
 use Rattle.nitrasovy.specs.FlatModels.{flatStep, StepsFlat}
@@ -155,7 +155,7 @@ module _ {M : Type 1} (𝓤 : URA M) (H : Heap 𝓤) (A : Atoms 𝓤) (W : Given
   abbrev Answered : Stepped → List ℕ → Type 0
   Answered t zs = (answerOf t ≡ answer) × (zs ≡ zeros (length ws₀))
 
-  module _ (C : Calls 𝓤 H) (Λ : Loops 𝓤 H) (fm : FmC 𝓤 H (W .laws) C) (known-step : Triple 𝓤 (C #records·evaluate-records) (Step 𝓤 H A at-mem run)) (known-flat : Triple 𝓤 (C #nitrasovy·models·flat-stepped) (Flatten 𝓤 H A at-mem run)) where
+  module _ (C : Calls 𝓤 H) (Λ : Loops 𝓤 H) (fm : FmC 𝓤 H (W .laws) C) (known-step : Triple 𝓤 (C #model-step-records·evaluate-records) (Step 𝓤 H A at-mem run)) (known-flat : Triple 𝓤 (C #nitrasovy·models·flat-stepped) (Flatten 𝓤 H A at-mem run)) where
     walk : Is (ShrSlice (named 0) κ₀ u64) md (vm ∷ []) → Is (ShrSlice (named 1) κ₁ T.the-row) s (v ∷ []) → Is (MutSlice (named 2) κ₂ u64) (x γ′ ws₀) (w ∷ []) → Fits st → Fits inp
         → ent 𝓤 (onEntry 𝓤 H A f.signature (κ₀, (κ₁, (κ₂, tt))) (q₀, (q₁, (q₂, tt))) (md, (s, (x γ′ ws₀, (st, (inp, tt))))) vals) (WpFn 𝓤 H C Λ code.function (vm ∷ v ∷ w ∷ vint w64 st ∷ vint w64 inp ∷ []) Post)
     walk pm p pw fs fi =
@@ -206,7 +206,7 @@ module _ {M : Type 1} (𝓤 : URA M) (H : Heap 𝓤) (A : Atoms 𝓤) (W : Given
         keep ! (1 ∷ 2 ∷ 4 ∷ 7 ∷ 5 ∷ 8 ∷ 0 ∷ []) $ by ! (exits k y (zs .1 .1 .0) fs fi same (steps-flat (recordIn (md .now)) (wordsOf gateWords (s .now)) ws₀ st inp t (e .0) (zs .1 .1 .0) (e .1) k e′))))))))))))))))))))))))
 
 module _ {M : Type 1} (𝓤 : URA M) (H : Heap 𝓤) (A : Atoms 𝓤) (W : Given 𝓤 H A) (mem : Memory → SProp 𝓤) (run : Routine → Fun 𝓤) (𝓣 : Tables 𝓤 H)
-    (known-step : Triple 𝓤 (𝓣 .C #records·evaluate-records) (Step 𝓤 H A mem run)) (known-flat : Triple 𝓤 (𝓣 .C #nitrasovy·models·flat-stepped) (Flatten 𝓤 H A mem run)) where
+    (known-step : Triple 𝓤 (𝓣 .C #model-step-records·evaluate-records) (Step 𝓤 H A mem run)) (known-flat : Triple 𝓤 (𝓣 .C #nitrasovy·models·flat-stepped) (Flatten 𝓤 H A mem run)) where
   nit-step-records-walks : Walks 𝓤 H A f.ended stayed (WpFn 𝓤 H (𝓣 .C) (𝓣 .Λ) code.function) (f.clauses 𝓤 H A mem run)
   nit-step-records-walks = walked 𝓤 H A f.ended stayed (f.clauses 𝓤 H A mem run) (WpFn 𝓤 H (𝓣 .C) (𝓣 .Λ) code.function) (λ κs. (slice-vals, (slice-vals, (slice-vals, (uint-vals w64, (uint-vals w64, tt))))))
       (λ κs. (shr-slice-tells (named 0) (κs .0) u64, (shr-slice-tells (named 1) (κs .1 .0) T.the-row, (mut-slice-tells (named 2) (κs .1 .1 .0) u64, (uint-tells w64, (uint-tells w64, tt))))))
@@ -224,5 +224,5 @@ nit-step-records-spec 𝓤 H 𝓜 𝓖 𝓡 =
     entered 𝓤 H (tripleOf 𝓤 H (𝓖 .A) f.signature (f.spec 𝓤 H (𝓖 .A) (𝓜 .mem) (𝓡 .run)))
     (tables 𝓤 H 𝓜 𝓡 code.env .C) (tables 𝓤 H 𝓜 𝓡 code.env .Λ) #nitrasovy·gate-records·nit-step-records code.function (code.unfolded 𝓤 H 𝓜 𝓡)
     (nit-step-records-meets 𝓤 H (𝓖 .A) (givenOf 𝓤 H 𝓜 𝓖) (𝓜 .mem) (𝓡 .run) (tablesOf 𝓤 H 𝓜 (tables 𝓤 H 𝓜 𝓡 code.env))
-    (cited 𝓤 H (Step 𝓤 H (𝓖 .A) (𝓜 .mem) (𝓡 .run)) 𝓜 𝓡 code.env #records·evaluate-records step-def.routine code.calls-records·evaluate-records (step-thm.met 𝓤 H 𝓜 𝓖 𝓡))
+    (cited 𝓤 H (Step 𝓤 H (𝓖 .A) (𝓜 .mem) (𝓡 .run)) 𝓜 𝓡 code.env #model-step-records·evaluate-records step-def.routine code.calls-model-step-records·evaluate-records (step-thm.met 𝓤 H 𝓜 𝓖 𝓡))
     (cited 𝓤 H (Flatten 𝓤 H (𝓖 .A) (𝓜 .mem) (𝓡 .run)) 𝓜 𝓡 code.env #nitrasovy·models·flat-stepped flat-def.routine code.calls-nitrasovy·models·flat-stepped (flat-thm.met 𝓤 H 𝓜 𝓖 𝓡)))
