@@ -1,13 +1,20 @@
 // Small functions on words that every layer uses.
 ghost use mathlib.Core.Path.{_≡_};
 ghost use mathlib.Core.Bool.{not};
-ghost use Prim.Native.Nat.{_≤_, _^_, min, max};
+ghost use Prim.Native.Nat.{_+_, _*_, _≤_, _<_, _^_, min, max};
 ghost use lib.Dec.{leb, ltb};
 ghost use lib.ListN.{length, getD, take};
 ghost use Rattle.lists.specs.Parts.{part, zeros};
 ghost use Rattle.lists.specs.Sets.{holds, withBit, rising};
 ghost use Rattle.lists.specs.Tests.{all};
-ghost use Rattle.lists.specs.Words.{lengths};
+ghost use Rattle.lists.specs.Words.{lengths, inOrder};
+ghost use Rattle.lists.specs.Inner.Pairs.{partEnd};
+
+// Where a part ends, or that it starts before the end of the one ahead or runs past the buffer.
+pub enum PartEnd {
+    At(usize),
+    Outside,
+}
 
 // A word as an index.
 pub fn index(x: u64) -> usize
@@ -142,6 +149,49 @@ pub fn lengths_within(pairs: &[u64], most: u64) -> bool
             return false;
         }
         left -= n;
+        i += 1;
+    }
+    true
+}
+
+// Where a part ends that may not start before a place, and ends within so many elements.
+fn part_end(end: usize, start: usize, size: usize, all: usize) -> PartEnd
+    ensures { λ r. ⌜ r ≡ partEnd end start size all ⌝ }
+{
+    if start < end {
+        return PartEnd::Outside;
+    }
+    if all < start {
+        return PartEnd::Outside;
+    }
+    if all - start < size {
+        return PartEnd::Outside;
+    }
+    PartEnd::At(start + size)
+}
+
+// The same of the part that pair i says.
+pub fn pair_end(pairs: &[u64], i: usize, end: usize, all: usize) -> PartEnd
+    requires { ⌜ 2 * i + 1 < length (now pairs) ⌝ }
+    ensures { λ r. ⌜ r ≡ partEnd end (getD (now (pairs .entry)) (2 * i) 0) (getD (now (pairs .entry)) (2 * i + 1) 0) all ⌝ }
+{
+    let start = index(pairs[2 * i]);
+    let size = index(pairs[2 * i + 1]);
+    part_end(end, start, size, all)
+}
+
+// Whether the pairs are in order, within so many elements.
+pub fn in_order(pairs: &[u64], all: usize) -> bool
+    ensures { λ r. ⌜ r ≡ inOrder 0 all (now (pairs .entry)) ⌝ }
+{
+    let count = pairs.len() / 2;
+    let mut end = 0;
+    let mut i = 0;
+    while i < count {
+        let PartEnd::At(next) = pair_end(pairs, i, end, all) else {
+            return false;
+        };
+        end = next;
         i += 1;
     }
     true

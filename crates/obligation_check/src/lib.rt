@@ -9,6 +9,7 @@ ghost use Rattle.obligation_spec.specs.Lists.{outcomesOf};
 ghost use Rattle.obligation_spec.specs.Limits.{before, risingOutcomes};
 ghost use Rattle.obligation_spec.specs.Calls.{askedOf};
 ghost use Rattle.obligation_check.specs.Inner.Boundary.{indexes, predicateHolds, Bounds, IsState, ClaimsStates, ClaimsOutcomes, noOutcome, outcomeFits, Checks};
+use lists::PartEnd;
 use model::AigerLatch;
 use model::Counts;
 use model::Verdict;
@@ -37,19 +38,12 @@ fn predicate_holds(pairs: &[u64], words: &[u32], n: u32) -> bool
     let mut end = 0;
     let mut i = 0;
     while i < count {
+        let PartEnd::At(next) = lists::pair_end(pairs, i, end, size) else {
+            return false;
+        };
         let offset = lists::index(pairs[2 * i]);
-        let length = lists::index(pairs[2 * i + 1]);
-        if offset < end {
-            return false;
-        }
-        if size < offset {
-            return false;
-        }
-        if size - offset < length {
-            return false;
-        }
-        end = offset + length;
-        if indexes_hold(&words[offset..end], n) {
+        if indexes_hold(&words[offset..next], n) {
+            end = next;
             i += 1;
         } else {
             return false;

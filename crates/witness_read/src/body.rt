@@ -1,5 +1,5 @@
 // The sections of a text, line by line: a missing or bad line (8), and whether the literals are in range and order (11).
-ghost use mathlib.Core.Bool.{true};
+ghost use mathlib.Core.Bool.{true, _&&_};
 ghost use mathlib.Core.Path.{_≡_};
 ghost use Prim.Native.Nat.{_+_, _≤_};
 ghost use Rattle.lists.specs.Tests.{all, allFrom};

@@ -2,7 +2,7 @@ use Prim.Native.Nat.{_-_, _*_}
 use mathlib.Core.Path.{_≡_}
 use lib.ListN.{drop}
 use Rattle.obligation_check.specs.Inner.Boundary.{predicateHolds}
-use Rattle.obligation_check.proofs.BoundaryLaws.{early-stop, past-stop, long-stop, clause-stop, clause-more, pairs-stop}
+use Rattle.obligation_check.proofs.BoundaryLaws.{pair-stop, clause-stop, clause-more, pairs-stop}
 use borrow.Author.Needs.{needs}
 use Rattle.obligation_check.proofs.predicate_holds.Statement.{statement}
 use Rattle.obligation_check.proofs.predicate_holds.Tie as tie
@@ -14,22 +14,16 @@ abbrev μ-loop : tie.MeasureT-loop
 μ-loop pairs words n size count end₀ i₀ end i = count - i
 
 returns : tie.Need-returns Inv-loop μ-loop
-returns c = search early-stop
-
-returns-2 : tie.Need-returns-2 Inv-loop μ-loop
-returns-2 c = search past-stop
-
-returns-3 : tie.Need-returns-3 Inv-loop μ-loop
-returns-3 c = search long-stop
+returns c = search pair-stop
 
 loop-again : tie.Need-loop-again Inv-loop μ-loop
 loop-again c = search clause-more
 
-returns-4 : tie.Need-returns-4 Inv-loop μ-loop
-returns-4 c = search clause-stop
+returns-2 : tie.Need-returns-2 Inv-loop μ-loop
+returns-2 c = search clause-stop
 
-returns-5 : tie.Need-returns-5 Inv-loop μ-loop
-returns-5 c = search pairs-stop
+returns-3 : tie.Need-returns-3 Inv-loop μ-loop
+returns-3 c = search pairs-stop
 
 pub predicate-holds-spec : {M : Type 1} → statement M
 predicate-holds-spec =
