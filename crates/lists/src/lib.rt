@@ -23,7 +23,7 @@ pub fn index(x: u64) -> usize
     x as usize
 }
 
-// A literal's word as a wider number.
+// A word of 32 bits as a wider one.
 pub fn wide(x: u32) -> u64
     ensures { λ r. ⌜ r ≡ x ⌝ }
 {

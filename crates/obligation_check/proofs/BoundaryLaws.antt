@@ -3,11 +3,15 @@ use Prim.Native.Nat.{ℕ, _+_, _-_, _*_, _/_, _≤_, _<_, _^_}
 use mathlib.Core.Bool.{Bool, true, false, not, _&&_, and-false, and-true}
 use mathlib.Core.List.{List, [], _∷_}
 use mathlib.Core.Path.{_≡_, refl, sym, ap, _∙_}
+use native.Mathlib.Nat.{lt-trans, mul-le-mul-right}
 use native.Mathlib.Omega.{arith}
 use borrow.Author.Tests.{le-leb, lt-leb, not-true, not-false}
-use lib.Dec.{leb, ltb}
+use lib.Dec.{leb, ltb, lit<}
 use lib.ListN.{length, getD, take, drop}
 use lib.Seq.{length-take-le}
+use mir.Facts.{fits-le}
+use mir.Syntax.{w64}
+use mir.Val.{Fits}
 use Rattle.lists.specs.Answer.{got, unless, andThen}
 use Rattle.lists.specs.Parts.{part}
 use Rattle.lists.specs.Sets.{rising}
@@ -55,6 +59,10 @@ module _ (n : ℕ) (words pairs : List ℕ) (end i : ℕ) (r : Bool) (k : r ≡ 
 
       pub clause-within : end' ≤ length words
       clause-within = omega (arith, ends .1, ends .2)
+
+      -- a byte index of the clause's words is a number of 64 bits
+      pub clause-fits : (k : ℕ) → length words * k < 2 ^ 63 → Fits w64 (offset * k)
+      clause-fits k q = fits-le (mul-le-mul-right k (omega (arith, clause-starts, clause-within))) (record { fits = lt-trans q (lit< tt) })
 
       clause : r ≡ (inOrder end' (length words) rest && (indexes n (part words offset end') && all (indexes n) (clausesIn words rest)))
       clause =

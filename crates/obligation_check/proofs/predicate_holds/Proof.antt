@@ -2,7 +2,7 @@ use Prim.Native.Nat.{_-_, _*_}
 use mathlib.Core.Path.{_≡_}
 use lib.ListN.{drop}
 use Rattle.obligation_check.specs.Inner.Boundary.{predicateHolds}
-use Rattle.obligation_check.proofs.BoundaryLaws.{pair-stop, clause-stop, clause-more, pairs-stop}
+use Rattle.obligation_check.proofs.BoundaryLaws.{pair-stop, clause-starts, clause-within, clause-fits, clause-stop, clause-more, pairs-stop}
 use borrow.Author.Needs.{needs}
 use Rattle.obligation_check.proofs.predicate_holds.Statement.{statement}
 use Rattle.obligation_check.proofs.predicate_holds.Tie as tie
@@ -25,6 +25,18 @@ returns-2 c = search clause-stop
 returns-3 : tie.Need-returns-3 Inv-loop μ-loop
 returns-3 c = search pairs-stop
 
+part-indexes-hold-start : tie.Need-part-indexes-hold-start Inv-loop μ-loop
+part-indexes-hold-start c = search (needs, clause-starts)
+
+part-indexes-hold-end : tie.Need-part-indexes-hold-end Inv-loop μ-loop
+part-indexes-hold-end c = search (needs, clause-within)
+
+mul-indexes-hold : tie.Need-mul-indexes-hold Inv-loop μ-loop
+mul-indexes-hold c = search clause-fits
+
+sub-indexes-hold : tie.Need-sub-indexes-hold Inv-loop μ-loop
+sub-indexes-hold c = search (needs, clause-starts)
+
 pub predicate-holds-spec : {M : Type 1} → statement M
 predicate-holds-spec =
     tie.close
@@ -32,26 +44,21 @@ predicate-holds-spec =
     Inv-loop
     μ-loop
     (λ c. search needs)
-    (λ c. search needs)
-    (λ c. search needs)
-    (λ c. search needs)
     (λ c κs. search needs)
     (λ c. search needs)
     (λ c. search needs)
-    (λ c. search needs)
-    (λ c. search needs)
-    (λ c κs. search needs)
     returns
-    returns-2
-    returns-3
     (λ c. search needs)
     (λ c. search needs)
     (λ c. search needs)
-    (λ c. search needs)
-    (λ c. search needs)
+    (λ c κs. search needs)
+    mul-indexes-hold
+    sub-indexes-hold
+    part-indexes-hold-start
+    part-indexes-hold-end
     (λ c κs. search needs)
     (λ c. search needs)
     (λ c. search needs)
     loop-again
-    returns-4
-    returns-5)
+    returns-2
+    returns-3)
