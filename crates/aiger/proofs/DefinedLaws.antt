@@ -88,19 +88,6 @@ pub value-even : (v : Valuation) (l : ℕ) → l % 2 ≡ 0 → value v l ≡ v (
 unfolding value
 value-even v l e = rw e
 
-pub value-odd : (v : Valuation) (l : ℕ) → l % 2 ≡ 1 → value v l ≡ not (v (variable l))
-unfolding value
-value-odd v l e = rw e
-
 pub value-same : (u v : Valuation) (l : ℕ) → u (variable l) ≡ v (variable l) → value u l ≡ value v l
 unfolding value
 value-same u v l e = rw e
-
--- "0 is false, 1 is true"
-pub value-zero : (v : Valuation) → v 0 ≡ false → value v 0 ≡ false
-unfolding value
-value-zero v e = e
-
-pub value-one : (v : Valuation) → v 0 ≡ false → value v 1 ≡ true
-unfolding value
-value-one v e = rw e

@@ -6,7 +6,7 @@ use mathlib.Core.Path.{_≡_, refl, sym, ap, _∙_}
 use native.Mathlib.Omega.{arith}
 use lib.ListN.{length, set, length-append, drop-of-length-le}
 use borrow.Author.Tests.{lt-leb}
-use Rattle.lists.specs.Parts.{Bytes, part, front}
+use Rattle.lists.specs.Parts.{Bytes, part}
 use Rattle.lists.proofs.PartLaws.{front-length, Grown, grown-none, grown-set}
 use Rattle.text.specs.declared.Reader.{Reader}
 use Rattle.text.specs.declared.Number.{Number}

@@ -184,13 +184,6 @@ module _ (cs : List Clause) (pairs words : List ℕ) (at : ClauseCounts) (pairs'
   pub holding-room : 2 * at .clauses ≤ length pairs → at .literals ≤ length words → Room cs pairs words
   holding-room k m = record { pairsFit = omega (arith, h .clauses); wordsFit = omega (arith, h .literals) }
 
-  -- and only then
-  pub room-pairs : Room cs pairs words → 2 * at .clauses ≤ length pairs
-  room-pairs r = omega (arith, h .clauses, r .pairsFit)
-
-  pub room-words : Room cs pairs words → at .literals ≤ length words
-  room-words r = omega (arith, h .literals, r .wordsFit)
-
   module _ (k : 2 * at .clauses ≤ length pairs) (m : at .literals ≤ length words) where
     pub holding-pairs : pairs' ≡ front pairs (pairsFrom 0 cs)
     holding-pairs = h .stored (holding-room k m) .pairsAre

@@ -1,5 +1,5 @@
 -- Simplifying keeps the truth of a clause under every assignment: a dropped clause is always true.
-use Prim.Native.Nat.{ℕ, suc, _+_, _-_, _/_, _%_, _≤_}
+use Prim.Native.Nat.{ℕ, suc, _-_, _/_, _%_, _≤_}
 use mathlib.Core.Path.{_≡_, refl, sym, ap, _∙_}
 use mathlib.Core.Bool.{Bool, true, false, not, _||_, _&&_, cond, and-true}
 use mathlib.Core.List.{List, [], _∷_, _++_, map}

@@ -1,6 +1,6 @@
 -- Laws of what the composer tests before and beside the composition: pairs, room, safety.
 use Prim.Native.Nat.{ℕ, zero, suc, _+_, _-_, _*_, _/_, _≤_, _<_}
-use mathlib.Core.Bool.{Bool, true, false, cond, not, _&&_, and-false}
+use mathlib.Core.Bool.{Bool, true, false, cond, not, _&&_}
 use mathlib.Core.List.{List, [], _∷_}
 use mathlib.Core.Logic.{_⊎_, inl, inr}
 use mathlib.Core.Path.{_≡_, refl, sym, ap, _∙_}
@@ -10,10 +10,8 @@ use lib.Dec.{eqb, leb, ltb}
 use lib.ListN.{length, getD, drop}
 use Rattle.lists.specs.Answer.{got}
 use Rattle.lists.specs.Parts.{Bytes}
-use Rattle.lists.specs.Words.{inOrder}
 use Rattle.lists.proofs.AnswerLaws.{got-same}
 use Rattle.lists.proofs.BoolLaws.{below-or}
-use Rattle.lists.proofs.PairLaws.{pair-rest, no-pair, order-none}
 use Rattle.witness_text.specs.declared.AagCounts.{AagCounts}
 use Rattle.text.specs.Texts.{limited}
 use Rattle.witness_read.specs.Reading.{readAag, countsIn}
@@ -23,70 +21,7 @@ use Rattle.compose_spec.specs.Calling.{readAll, textsIn}
 use Rattle.compose_gather.specs.Inner.Counts.{countsAt, CountsListed}
 use Rattle.compose_gather.specs.Inner.Gathered.{Readable}
 use Rattle.compose_gather.proofs.TextLaws.{FirstRead, first-read, none-read, left-more, left-none}
-use Rattle.compose.specs.declared.PartEnd.{PartEnd}
-use Rattle.compose.specs.declared.PartEnd.the-variants as parts
-use Rattle.compose.specs.Inner.Steps.{partEnd, firstRoom, allSafe, TestsSafety}
-
--- ---- 2
-
-module _ (end start size most : ℕ) where
-  pub end-before : start < end → parts.Outside ≡ partEnd end start size most
-  end-before h = rw (lt-leb end start h) refl
-
-  pub end-past : most < start → parts.Outside ≡ partEnd end start size most
-  end-past h = rw (lt-leb (start + size) most (omega arith), and-false (leb end start)) refl
-
-  pub end-behind : start ≤ most → most - start < size → parts.Outside ≡ partEnd end start size most
-  end-behind h k = rw (lt-leb (start + size) most (omega arith), and-false (leb end start)) refl
-
-  pub end-within : end ≤ start → start ≤ most → size ≤ most - start → parts.At (start + size) ≡ partEnd end start size most
-  end-within h k f = rw (le-leb end start h, le-leb (start + size) most (omega arith)) refl
-
-pub pair-ends : (end start size a n most : ℕ) (x : PartEnd) → start ≡ a → size ≡ n → x ≡ partEnd end start size most → x ≡ partEnd end a n most
-pair-ends end start size a n most x e f g = g ∙ rw (e, f) refl
-
-at-outside : {X : Type 0} (a : ℕ) → parts.At a ≡ parts.Outside → X
-at-outside a e = let z : _≡_ {A = ℕ} 0 1 = cc in absurd (omega arith)
-
-at-same : (a b : ℕ) → parts.At a ≡ parts.At b → a ≡ b
-at-same a b e = cc
-
--- the pairs before number i are in order, and the last of them ends at `end`
-pub record Ordering (pairs : List ℕ) (most end i : ℕ) : Type 0 where
-  pub is : inOrder end most (drop (2 * i) pairs) ≡ inOrder 0 most pairs
-
-pub ordering-none : (pairs : List ℕ) (most : ℕ) → Ordering pairs most 0 0
-ordering-none pairs most = record { is = refl }
-
-module _ (pairs : List ℕ) (most end i count : ℕ) (k : Ordering pairs most end i) (number : count ≡ length pairs / 2) where
-  pub ordering-end : count ≤ i → true ≡ inOrder 0 most pairs
-  ordering-end h = sym (order-none end most (drop (2 * i) pairs) (no-pair pairs i (omega arith))) ∙ k .is
-
-  module _ (less : i < count) (x : PartEnd) (e : x ≡ partEnd end (getD pairs (2 * i) 0) (getD pairs (2 * i + 1) 0) most) where
-    split : (p q : Bool) → leb end (getD pairs (2 * i) 0) ≡ p → leb (getD pairs (2 * i) 0 + getD pairs (2 * i + 1) 0) most ≡ q
-        → (p && (q && inOrder (getD pairs (2 * i) 0 + getD pairs (2 * i + 1) 0) most (drop (2 * (i + 1)) pairs))) ≡ inOrder 0 most pairs
-    split p q f g = rw (← f, ← g) (sym (ap (inOrder end most) (pair-rest pairs i (omega arith))) ∙ k .is)
-
-    answer : (p q : Bool) → leb end (getD pairs (2 * i) 0) ≡ p → leb (getD pairs (2 * i) 0 + getD pairs (2 * i + 1) 0) most ≡ q
-        → x ≡ cond (p && q) (parts.At (getD pairs (2 * i) 0 + getD pairs (2 * i + 1) 0)) parts.Outside
-    answer p q f g = rw (← f, ← g) e
-
-    pub ordering-stop : x ≡ parts.Outside → false ≡ inOrder 0 most pairs
-    ordering-stop o = go (leb end (getD pairs (2 * i) 0)) (leb (getD pairs (2 * i) 0 + getD pairs (2 * i + 1) 0) most) refl refl
-      where
-        go : (p q : Bool) → leb end (getD pairs (2 * i) 0) ≡ p → leb (getD pairs (2 * i) 0 + getD pairs (2 * i + 1) 0) most ≡ q → false ≡ inOrder 0 most pairs
-        go true true f g = at-outside (getD pairs (2 * i) 0 + getD pairs (2 * i + 1) 0) (sym (answer true true f g) ∙ o)
-        go true false f g = split true false f g
-        go false q f g = split false q f g
-
-    pub ordering-more : (end' : ℕ) → x ≡ parts.At end' → Ordering pairs most end' (i + 1)
-    ordering-more end' o = record { is = go (leb end (getD pairs (2 * i) 0)) (leb (getD pairs (2 * i) 0 + getD pairs (2 * i + 1) 0) most) refl refl }
-      where
-        go : (p q : Bool) → leb end (getD pairs (2 * i) 0) ≡ p → leb (getD pairs (2 * i) 0 + getD pairs (2 * i + 1) 0) most ≡ q
-            → inOrder end' most (drop (2 * (i + 1)) pairs) ≡ inOrder 0 most pairs
-        go true true f g = ap (λ (j : ℕ). inOrder j most (drop (2 * (i + 1)) pairs)) (at-same end' (getD pairs (2 * i) 0 + getD pairs (2 * i + 1) 0) (sym o ∙ answer true true f g)) ∙ split true true f g
-        go true false f g = at-outside end' (sym o ∙ answer true false f g)
-        go false q f g = at-outside end' (sym o ∙ answer false q f g)
+use Rattle.compose.specs.Inner.Steps.{firstRoom, allSafe, TestsSafety}
 
 -- ---- 15
 

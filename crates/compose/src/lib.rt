@@ -1,15 +1,14 @@
 // The composer of item 8 of 01.
 ghost use mathlib.Core.Path.{_≡_};
-ghost use lib.ListN.{length, getD};
-ghost use Prim.Native.Nat.{_+_, _*_, _<_};
-ghost use Rattle.lists.specs.Words.{inOrder};
+ghost use lib.ListN.{length};
+ghost use Prim.Native.Nat.{_+_, _<_};
 ghost use Rattle.compose_spec.specs.Calling.{textsIn, composeTexts, composeCall};
 ghost use Rattle.compose_gather.specs.Inner.Checking.{FewInOrder, SmallSums, noneYet};
 ghost use Rattle.compose_gather.specs.Inner.Counts.{CountsListed};
 ghost use Rattle.compose_layout.specs.Inner.Laid.{CanLay};
 ghost use Rattle.compose_print.specs.Inner.Written.{PrintableSome};
 ghost use Rattle.compose.specs.Promise.{Composes};
-ghost use Rattle.compose.specs.Inner.Steps.{partEnd, firstRoom, TestsSafety, roomBeside, Answers, Measures, Writes, LaidSome, ComposesLaid, ComposesFitting, ModelSome, ComposesWitnesses};
+ghost use Rattle.compose.specs.Inner.Steps.{firstRoom, TestsSafety, roomBeside, Answers, Measures, Writes, LaidSome, ComposesLaid, ComposesFitting, ModelSome, ComposesWitnesses};
 use compose_gather::Checked;
 use compose_gather::Totals;
 use compose_layout::Laid;
@@ -23,55 +22,6 @@ use witness_text::AagCounts;
 pub enum Composed {
     Got(usize),
     Refused(u64),
-}
-
-// Where a part ends, or that it starts before the end of the one ahead or runs past the buffer.
-pub enum PartEnd {
-    At(usize),
-    Outside,
-}
-
-// Where a part ends that may not start before a place, and ends within so many bytes.
-fn part_end(end: usize, start: usize, size: usize, all: usize) -> PartEnd
-    ensures { λ r. ⌜ r ≡ partEnd end start size all ⌝ }
-{
-    if start < end {
-        return PartEnd::Outside;
-    }
-    if all < start {
-        return PartEnd::Outside;
-    }
-    if all - start < size {
-        return PartEnd::Outside;
-    }
-    PartEnd::At(start + size)
-}
-
-// The same of the part that pair i says.
-fn pair_end(pairs: &[u64], i: usize, end: usize, all: usize) -> PartEnd
-    requires { ⌜ 2 * i + 1 < length (now pairs) ⌝ }
-    ensures { λ r. ⌜ r ≡ partEnd end (getD (now (pairs .entry)) (2 * i) 0) (getD (now (pairs .entry)) (2 * i + 1) 0) all ⌝ }
-{
-    let start = lists::index(pairs[2 * i]);
-    let size = lists::index(pairs[2 * i + 1]);
-    part_end(end, start, size, all)
-}
-
-// Whether the pairs are in order, within so many bytes (reason 2).
-fn in_order(pairs: &[u64], all: usize) -> bool
-    ensures { λ r. ⌜ r ≡ inOrder 0 all (now (pairs .entry)) ⌝ }
-{
-    let count = pairs.len() / 2;
-    let mut end = 0;
-    let mut i = 0;
-    while i < count {
-        let PartEnd::At(next) = pair_end(pairs, i, end, all) else {
-            return false;
-        };
-        end = next;
-        i += 1;
-    }
-    true
 }
 
 // How much room so many work words give.
@@ -297,7 +247,7 @@ fn compose_in(
     if 64 < count {
         return Composed::Refused(1);
     }
-    if in_order(pairs, witnesses.len()) {
+    if lists::in_order(pairs, witnesses.len()) {
         return compose_texts(model, witnesses, pairs, work, out);
     }
     Composed::Refused(2)

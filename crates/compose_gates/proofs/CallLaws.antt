@@ -1,5 +1,5 @@
 -- For callers: composed variables are small, composed latches are numbered in turn, their definitions are the words of the composition's latches, and only the variables that a latch names count.
-use Prim.Native.Nat.{ℕ, suc, _+_, _-_, _*_, _%_, _≤_, _<_}
+use Prim.Native.Nat.{ℕ, suc, _+_, _-_, _*_, _%_, _<_}
 use mathlib.Core.List.{List, [], _∷_, map}
 use mathlib.Core.Path.{_≡_, refl, sym, ap}
 use native.Mathlib.Omega.{arith}
@@ -7,30 +7,16 @@ use lib.ListN.{length, getD, drop}
 use lib.Seq.{getD-take}
 use Rattle.lists.specs.Firsts.{appearing}
 use Rattle.lists.specs.Parts.{part}
-use Rattle.lists.specs.Tests.{Each}
 use Rattle.lists.specs.Words.{wordsOf}
-use Rattle.lists.proofs.PartLaws.{part-length}
-use Rattle.lists.proofs.WordLaws.{pairs-count}
-use Rattle.aiger.specs.Gates.{variable, gateFrom}
+use Rattle.aiger.specs.Gates.{variable}
 use Rattle.witness_read.specs.Sections.{NamedLatch}
 use Rattle.witness_load.specs.Inner.Loaded.{latchWords}
 use Rattle.compose_spec.specs.Numbering.{Entry, sameEntry, numbered}
 use Rattle.compose_spec.specs.Sharing.{translate}
-use Rattle.compose_spec.specs.Composing.{Defined, definedFrom, composedLatches}
+use Rattle.compose_spec.specs.Composing.{Defined, composedLatches}
 use Rattle.compose_spec.proofs.PlacedLaws.{entry-self}
-use Rattle.compose_gates.specs.Inner.Linked.{gatesAt, Sharable, sharedIn}
 use Rattle.compose_gates.specs.Inner.Latches.{InTurn, metIn, definitionsFrom}
 use Rattle.compose_gates.proofs.FirstLaws.{numbers-in-turn, numbers-met}
-use Rattle.compose_gates.proofs.ShareLaws.{shared-low}
-
--- after the gates are shared, all composed variables are small, as `Definable` asks
-pub variables-small : (operands count vars known table leaves : ℕ) (work : List ℕ) → Sharable operands count vars known table leaves work
-    → Each (λ x. x < 1073741824) (sharedIn operands count vars known leaves work .vars)
-variables-small operands count vars known table leaves work s =
-    let ws : List ℕ = part work operands (operands + 2 * count) in
-    let size : length ws ≡ operands + 2 * count - operands = part-length work operands (operands + 2 * count) (omega (arith, s .first, s .second, s .third)) in
-    shared-low 1073741824 (suc leaves) (gatesAt operands count work) (record { vars = part work vars (vars + known); gates = [] })
-    (omega (arith, pairs-count (gateFrom 0) ws, size, s .few)) (s .small)
 
 -- the composed variables of entries come in turn, and there are as many as entries appear
 module _ (first : ℕ) (es : List Entry) where
@@ -57,9 +43,3 @@ module _ (work : List ℕ) (vars size : ℕ) where
 
   pub translate-part : (l : ℕ) → variable l < size → translate (drop vars work) l ≡ translate (part work vars (vars + size)) l
   translate-part l h = ap (λ (y : ℕ). 2 * y + l % 2) (variable-part (variable l) h)
-
-  pub defined-part : (x : ℕ) (qs : List NamedLatch) → x + length qs ≤ size → Each (Within size) qs
-      → definedFrom (drop vars work) x qs ≡ definedFrom (part work vars (vars + size)) x qs
-  defined-part x [] h w = refl
-  defined-part x (q ∷ qs) h w =
-      rw (variable-part x (omega arith), translate-part (q .next) (w .0 .next), translate-part (q .reset) (w .0 .reset), defined-part (suc x) qs (omega arith) (w .1))

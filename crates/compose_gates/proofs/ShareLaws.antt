@@ -6,14 +6,11 @@ use mathlib.Core.Path.{_≡_, refl, _∙_}
 use native.Mathlib.Omega.{arith}
 use borrow.Author.Tests.{le-leb, lt-leb}
 use lib.Dec.{leb}
-use lib.ListN.{length, length-append}
-use Rattle.lists.specs.Firsts.{place}
-use Rattle.lists.specs.Tests.{Each}
-use Rattle.lists.proofs.TestLaws.{each-append}
+use lib.ListN.{length}
 use Rattle.aiger.specs.declared.Gate.{Gate}
 use Rattle.compose_spec.specs.Sharing.{Operands, sameOperands, translated, Shared, shareGates}
 use Rattle.compose_spec.specs.Composing.{gatesFit}
-use Rattle.compose_gates.proofs.FirstLaws.{place-low, joined-length}
+use Rattle.compose_gates.proofs.FirstLaws.{joined-length}
 
 -- the composed gates and variables after one gate more
 abbrev pub withGate : ℕ → Gate → Shared → Shared
@@ -22,21 +19,6 @@ withGate n g t = shareGates n (g ∷ []) t
 pub gates-grow : (n : ℕ) (gs : List Gate) (t : Shared) → length (t .gates) ≤ length (shareGates n gs t .gates)
 gates-grow n [] t = omega arith
 gates-grow n (g ∷ gs) t = omega (arith, joined-length sameOperands (translated (t .vars) g) (t .gates), gates-grow n gs (withGate n g t))
-
--- composed variables below a bound stay below it, where there is room for a variable of each gate
-pub shared-low : (bound n : ℕ) (gs : List Gate) (t : Shared) → n + length (t .gates) + length gs ≤ bound → Each (λ x. x < bound) (t .vars) → Each (λ x. x < bound) (shareGates n gs t .vars)
-shared-low bound n [] t h low = low
-shared-low bound n (g ∷ gs) t h low =
-    let new : Operands = translated (t .vars) g in
-    let k = place-low sameOperands new (t .gates) in
-    shared-low bound n gs (withGate n g t) (omega (arith, joined-length sameOperands new (t .gates), k))
-    (each-append (λ x. x < bound) (t .vars) ((n + place sameOperands new (t .gates)) ∷ []) low (omega (arith, k), tt))
-
--- there is one for each gate more
-pub shared-length : (n : ℕ) (gs : List Gate) (t : Shared) → length (shareGates n gs t .vars) ≡ length (t .vars) + length gs
-shared-length n [] t = omega arith
-shared-length n (g ∷ gs) t =
-    omega (arith, shared-length n gs (withGate n g t), length-append (t .vars) ((n + place sameOperands (translated (t .vars) g) (t .gates)) ∷ []))
 
 some-fit : (leaves : ℕ) (gs : List Operands) → 0 < length gs → gatesFit leaves gs ≡ leb (leaves + length gs) 2000000
 some-fit leaves [] h = absurd (omega arith)

@@ -141,9 +141,6 @@ module _ (buffer : Bytes) (pairs work : List ℕ) (at w count : ℕ) (k : Loadin
     total : wordTotal (k .before ++ k .rest) ≡ at + wordCount (first .first) + wordTotal (first .others)
     total = omega (arith, total-append wordCount (k .before) (k .rest), k .at-is, ap wordTotal (first .is))
 
-    pub loading-fits : at + wordsFor n ≤ length work
-    loading-fits = rw (counts-first, ← words-for (first .first)) (omega (arith, k .room, total))
-
     room : at + wordsFor n ≤ length work
     room = rw (counts-first, ← words-for (first .first)) (omega (arith, k .room, total))
 

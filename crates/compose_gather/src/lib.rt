@@ -126,7 +126,7 @@ pub fn check_all(witnesses: &[u8], pairs: &[u64], room: usize, counts: &mut [u64
 }
 
 // How many words the sections of a text with these counts need.
-pub fn word_count(counts: AagCounts) -> usize
+fn word_count(counts: AagCounts) -> usize
     requires { ⌜ wordsFor counts < 18446744073709551616 ⌝ }
     ensures { λ r. ⌜ r ≡ wordsFor counts ⌝ }
 {

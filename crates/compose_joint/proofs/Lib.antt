@@ -1,5 +1,4 @@
 -- Laws of the witnesses side by side: the joint circuit gives what the definitions of crate `compose_spec` give witness by witness.
-pub mod RiseLaws
 pub mod OriginLaws
 pub mod FreshLaws
 pub mod NumberLaws

@@ -12,7 +12,7 @@ use Rattle.lists.specs.Bits.{odd}
 use Rattle.lists.specs.Firsts.{place, joined, appearing}
 use Rattle.lists.specs.Parts.{zeros}
 use Rattle.lists.specs.Tests.{any}
-use Rattle.lists.proofs.FirstLaws.{place-outside, place-append, place-same, joined-has, joined-any}
+use Rattle.lists.proofs.FirstLaws.{place-outside, place-append, place-same, place-joined, place-first, joined-has, joined-any}
 use Rattle.lists.proofs.TestLaws.{any-append, any-cong}
 use Rattle.lists.proofs.ZeroLaws.{zeros-length, zeros-at}
 use Rattle.witness_read.specs.Sections.{Sections}
@@ -24,7 +24,6 @@ use Rattle.compose_joint.specs.declared.Leaves.{Leaves}
 use Rattle.compose_joint.specs.declared.Leaves.the-variants as leaf
 use Rattle.compose_joint.specs.Inner.Joint.{modelOf, origins, entriesOf}
 use Rattle.compose_joint.specs.Inner.Numbers.{Numbers, withNumber, slot, numberAll}
-use Rattle.compose_joint.proofs.RiseLaws.{place-joined, place-first}
 use Rattle.compose_joint.proofs.OriginLaws.{OfKind, Says, origins-say}
 use Rattle.compose_joint.proofs.FreshLaws.{New, Fresh, entries-fresh}
 

@@ -1,5 +1,4 @@
 -- Worked examples of the definitions.
-use mathlib.Core.List.{[], _∷_}
 use mathlib.Core.Path.{_≡_, refl}
 use Rattle.lists.specs.Quoted.{bytes}
 use Rattle.text_decimal.specs.Decimal.{decimal}

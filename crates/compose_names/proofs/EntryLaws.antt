@@ -32,7 +32,6 @@ use Rattle.compose_spec.specs.Numbering.{Entry, shared, numbered, entryOf, entr
 use Rattle.compose_spec.proofs.PlacedLaws.{entries-length}
 use Rattle.compose_joint.specs.declared.Before.{Before}
 use Rattle.compose_joint.specs.declared.Leaves.{Leaves}
-use Rattle.compose_joint.specs.declared.Leaves.the-variants as leaf
 use Rattle.compose_joint.proofs.AmountLaws.{origin-words}
 use Rattle.compose_joint.specs.Inner.Joint.{totalOf, beyond, gatheredFrom, namesOf, modelOf, originWord, originsFrom, jointOrigins, unnamedOf, entriesOf}
 use Rattle.compose_joint.proofs.OriginLaws.{entriesIn, entries-none, entries-split}

@@ -10,7 +10,6 @@ use lib.ListN.{length, length-append}
 use Rattle.lists.specs.Firsts.{place, joined, appearing}
 use Rattle.lists.specs.Parts.{Bytes}
 use Rattle.lists.specs.Tests.{any}
-use Rattle.lists.proofs.BoolLaws.{or-left, or-right}
 use Rattle.lists.proofs.FirstLaws.{place-new, Begins, place-begins, place-inside, joined-has, joined-new, joined-any, appearing-begins}
 use Rattle.compose_spec.specs.Numbering.{Entry, sameEntry, numbered}
 use Rattle.compose_spec.specs.Printing.{symbolLine, symbolLines}

@@ -9,7 +9,6 @@ use Rattle.text_print.specs.Inner.Prints.{Prints}
 use Rattle.witness_text.specs.declared.AagCounts.{AagCounts}
 use Rattle.compose_spec.specs.Printing.{symbolLine}
 use Rattle.compose_joint.specs.declared.Leaves.{Leaves}
-use Rattle.compose_joint.specs.declared.Leaves.the-variants as leaf
 use Rattle.compose_gather.specs.Inner.Counts.{leafCounts, namesBefore}
 use Rattle.compose_gather.specs.Inner.Gathered.{wordsFor}
 use Rattle.compose_names.specs.declared.Starts.{Starts}

@@ -124,12 +124,6 @@ module _
   front-kept : take vars work' ≡ take vars tabled
   front-kept = ap (take vars) (post .words) ∙ put-take tabled vars (given .numbers) room vars (omega arith)
 
-  pub assigned-stored : part work' assigned (assigned + size) ≡ given .assigned
-  assigned-stored =
-      part-kept work' tabled vars front-kept assigned (assigned + size) (pre .second)
-      ∙ ap (λ (n : ℕ). part tabled assigned (assigned + n)) (sym (shape .sized))
-      ∙ put-part work assigned (given .assigned) (omega (arith, within))
-
   pub numbered-before : take assigned work' ≡ take assigned work
   numbered-before = take-kept work' tabled vars front-kept assigned (omega (arith, pre .second)) ∙ put-take work assigned (given .assigned) (omega (arith, within)) assigned (omega arith)
 

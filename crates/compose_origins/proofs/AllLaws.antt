@@ -17,7 +17,6 @@ use Rattle.compose_spec.specs.Mapping.{mapsByName}
 use Rattle.compose_spec.specs.Calling.{textsIn}
 use Rattle.compose_joint.specs.declared.Before.{Before}
 use Rattle.compose_joint.specs.declared.Leaves.{Leaves}
-use Rattle.compose_joint.specs.declared.Leaves.the-variants as leaf
 use Rattle.compose_joint.specs.Inner.Joint.{nothingBefore, beyond, namesOf}
 use Rattle.compose_joint.proofs.AmountLaws.{origin-words}
 use Rattle.compose_gather.specs.Inner.Counts.{countsAt, leafCounts, CountsListed}

@@ -2,7 +2,7 @@
 use mathlib.Core.List.{[], _∷_}
 use mathlib.Core.Path.{_≡_, refl}
 use Rattle.lists.specs.Quoted.{bytes}
-use Rattle.lists.specs.Answer.{got, refused}
+use Rattle.lists.specs.Answer.{got}
 use Rattle.lists.specs.Parts.{Bytes}
 use Rattle.lists.specs.Tests.{every}
 use Rattle.text.specs.Numbers.{numberOf}

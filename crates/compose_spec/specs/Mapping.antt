@@ -2,7 +2,6 @@
 -- 16: "A mapped literal is unreadable, 0, odd, or absent or of another kind in the model".
 use Prim.Native.Nat.{ℕ, suc, _+_, _*_}
 use mathlib.Core.Bool.{Bool, true, false, cond, not, _&&_}
-use mathlib.Core.List.{[], _∷_}
 use mathlib.Core.Option.{Option, some, none}
 use lib.Dec.{leb, ltb}
 use lib.ListN.{length, drop}

@@ -4,15 +4,13 @@ use mathlib.Core.Path.{_≡_, refl, sym, ap, ap₂, _∙_}
 use mathlib.Core.Bool.{Bool, true, false, xor, _&&_, _||_}
 use mathlib.Core.List.{List, [], _∷_, _++_}
 use mathlib.Core.Logic.{⊎-elim}
-use native.Mathlib.Nat.{two-pow-succ, pow-suc, pow-succ', div-div-eq-div-mul, div-one, div-eq-of-lt, mod-lt, suc-add, mul-assoc, lt-of-lt-of-le, one-mul, mod-eq-of-lt}
-use native.Mathlib.Numerals.{add-one}
+use native.Mathlib.Nat.{two-pow-succ, pow-succ', div-div-eq-div-mul, div-one, div-eq-of-lt, mod-lt, suc-add, mul-assoc, lt-of-lt-of-le, one-mul, mod-eq-of-lt}
 use native.Mathlib.Omega.{arith}
 use borrow.Author.Tests.{eqb-true, eqb-false, ltb-true, ltb-false, lt-ltb, le-ltb}
 use lib.Bits.{bitOr, or-step}
 use lib.Dec.{eqb, ltb}
 use lib.ListN.{length, getD, take, drop}
 use lib.Pow.{pow-pos, pow-mono, pow-lt, pow-add, split}
-use lib.Seq.{drop-nil}
 use Rattle.lists.specs.Bits.{odd, bits, bit, packed}
 use Rattle.lists.proofs.BoolLaws.{below-or}
 
@@ -90,19 +88,6 @@ bits-halves (suc n) m low high h =
     let q : (low + 2 * p) / 2 ≡ low / 2 + p = omega arith in
     rw (e, suc-add n m, r, q, bits-halves n m (low / 2) high (omega arith))
 
--- a loop upward over n bits, where the code has x >> k: the first one, the bits from bit k on, none left
-pub bits-start : (n x : ℕ) → bits (n - 0) (x / 2 ^ 0) ≡ bits n x
-bits-start n x = let e : n - 0 ≡ n = omega arith in rw (e, div-one x)
-
-pub bits-more : (n x k : ℕ) → k < n → bits (n - k) (x / 2 ^ k) ≡ odd (x / 2 ^ k) ∷ bits (n - (k + 1)) (x / 2 ^ (k + 1))
-bits-more n x k h =
-    let e : n - k ≡ suc (n - (k + 1)) = omega arith in
-    let p : x / 2 ^ (k + 1) ≡ x / 2 ^ k / 2 = rw (add-one k, pow-suc 2 k) (sym (div-div-eq-div-mul x (2 ^ k) 2)) in
-    rw (e, p)
-
-pub bits-end : (n x k : ℕ) → n ≤ k → bits (n - k) x ≡ []
-bits-end n x k h = let e : n - k ≡ 0 = omega arith in rw e
-
 pub packed-lt : (bs : List Bool) → packed bs < 2 ^ length bs
 packed-lt [] = omega arith
 packed-lt (true ∷ bs) = rw (two-pow-succ (length bs)) (omega (arith, packed-lt bs))
@@ -121,13 +106,6 @@ packed-bits (suc n) x h =
     let k : x < 2 ^ n + 2 ^ n = rw (two-pow-succ n) at h in
     rw (odd-bit x, packed-bits n (x / 2) (omega arith)) (omega arith)
 
-pub bits-same : (n x y : ℕ) → x < 2 ^ n → y < 2 ^ n → bits n x ≡ bits n y → x ≡ y
-bits-same n x y h k e = sym (packed-bits n x h) ∙ ap packed e ∙ packed-bits n y k
-
-pub packed-append : (xs ys : List Bool) → packed (xs ++ ys) ≡ packed xs + 2 ^ length xs * packed ys
-packed-append [] ys = omega arith
-packed-append (b ∷ xs) ys = rw (packed-append xs ys, pow-succ' 2 (length xs), mul-assoc 2 (2 ^ length xs) (packed ys)) (omega arith)
-
 -- a number in two parts: the n lowest bits, and the others
 pub packed-halves : (n : ℕ) (bs : List Bool) → packed (take n bs) + 2 ^ n * packed (drop n bs) ≡ packed bs
 packed-halves zero bs = omega arith
@@ -139,15 +117,6 @@ packed-at bs k h = sym (bits-at (length bs) (packed bs) k h) ∙ rw (bits-packed
 
 pub packed-under : (bs : List Bool) (n : ℕ) → length bs ≤ n → packed bs < 2 ^ n
 packed-under bs n h = lt-of-lt-of-le (packed-lt bs) (pow-mono h)
-
--- a loop that packs bits from the highest down: one bit more, at place k, and at the place k - 1
-pub packed-more : (bs : List Bool) (k : ℕ) → packed (drop k bs) ≡ bit (getD bs k false) + 2 * packed (drop (k + 1) bs)
-packed-more [] k = rw (drop-nil k, drop-nil (k + 1))
-packed-more (b ∷ bs) zero = refl
-packed-more (b ∷ bs) (suc k) = rw (suc-add k 1) (packed-more bs k)
-
-pub packed-down : (bs : List Bool) (k : ℕ) → 0 < k → packed (drop (k - 1) bs) ≡ bit (getD bs (k - 1) false) + 2 * packed (drop k bs)
-packed-down bs k h = let e : k - 1 + 1 ≡ k = omega arith in rw e at (packed-more bs (k - 1))
 
 -- x has no bit above the first n (the other way is `div-eq-of-lt` of `native.Mathlib.Nat`)
 module _ (x n : ℕ) where

@@ -15,10 +15,6 @@ pub to-false : (b : Bool) → (b ≡ true → ⊥) → b ≡ false
 to-false true h = absurd (h refl)
 to-false false h = refl
 
-pub true-or-false : (b : Bool) → (b ≡ true) ⊎ (b ≡ false)
-true-or-false true = inl refl
-true-or-false false = inr refl
-
 -- a function's answer r is q: what the code's test of r says of q
 pub told : (q r t : Bool) → r ≡ q → r ≡ t → q ≡ t
 told q r t e h = sym e ∙ h

@@ -141,11 +141,6 @@ module _ {A : Type 0} (same : A → A → Bool) where
   appearing-begins xs (y ∷ ys) =
       begins-then xs (joined same y xs) (appearing same (joined same y xs) ys) (joined-begins y xs) (appearing-begins (joined same y xs) ys)
 
-  -- two lists appear one after the other
-  pub appearing-append : (xs ys zs : List A) → appearing same xs (ys ++ zs) ≡ appearing same (appearing same xs ys) zs
-  appearing-append xs [] zs = refl
-  appearing-append xs (y ∷ ys) zs = appearing-append (joined same y xs) ys zs
-
   -- there are at most as many as appear
   pub appearing-length : (xs ys : List A) → length (appearing same xs ys) ≤ length xs + length ys
   appearing-length xs [] = omega arith
@@ -173,6 +168,19 @@ module _ {A : Type 0} (same : A → A → Bool) where
     pub place-new : (x : A) (ys : List A) → any (same x) ys ≡ false → place same x (ys ++ (x ∷ [])) ≡ length ys
     place-new x [] h = rw (self x) refl
     place-new x (y ∷ ys) h = rw (or-left (same x y) (any (same x) ys) h) (ap suc (place-new x ys (or-right (same x y) (any (same x) ys) h)))
+
+    -- joining x keeps its place
+    pub place-joined : (x : A) (ys : List A) → place same x (joined same x ys) ≡ place same x ys
+    place-joined x ys = go (any (same x) ys) refl
+      where
+        go : (q : Bool) → any (same x) ys ≡ q → place same x (cond q ys (ys ++ (x ∷ []))) ≡ place same x ys
+        go true e = refl
+        go false e = place-new x ys e ∙ sym (place-outside x ys e)
+
+    -- and so does all that appears later
+    pub place-first : (x : A) (ys zs : List A) → place same x (appearing same (joined same x ys) zs) ≡ place same x ys
+    place-first x ys zs =
+        place-begins x (joined same x ys) (appearing same (joined same x ys) zs) (appearing-begins (joined same x ys) zs) (joined-any x ys) ∙ place-joined x ys
 
     -- one that appears has the place k
     abbrev standsAt : List A → ℕ → A → Bool

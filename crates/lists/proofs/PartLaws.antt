@@ -9,19 +9,13 @@ use borrow.Rule.Slice.PartMut.{putMid, postOf}
 use lib.ListN.{length, getD, take, drop, set, length-append, length-set, length-take, length-drop, take-append-drop, drop-of-length-le, List·getD-append}
 use lib.Seq.{take-all, take-at, drop-at, take-add, take-take, drop-drop, take-append-le, drop-append-le, drop-append-add, take-nil, getD-take, getD-drop, length-take-le, set-split, sets-eq}
 use Rattle.lists.specs.Parts.{part, put, front}
-use Rattle.lists.proofs.RestLaws.{rest-head, rest-more, take-next}
+use Rattle.lists.proofs.RestLaws.{take-next}
 
 pub drop-take : {A : Type 0} (a n : ℕ) (l : List A) → drop a (take n l) ≡ take (n - a) (drop a l)
 drop-take zero n l = rw (sub-zero n)
 drop-take (suc a) zero l = let e : 0 - suc a ≡ 0 = omega arith in rw e
 drop-take (suc a) (suc n) [] = sym (take-nil (suc n - suc a))
 drop-take (suc a) (suc n) (x ∷ l) = let e : suc n - suc a ≡ n - a = omega arith in rw e (drop-take a n l)
-
-pub take-min : {A : Type 0} (a n : ℕ) (l : List A) → take a (take n l) ≡ take (min a n) l
-take-min zero n l = let e : min 0 n ≡ 0 = omega arith in rw e
-take-min (suc a) zero l = let e : min (suc a) 0 ≡ 0 = omega arith in rw e
-take-min (suc a) (suc n) [] = let e : min (suc a) (suc n) ≡ suc (min a n) = omega arith in rw e
-take-min (suc a) (suc n) (x ∷ l) = let e : min (suc a) (suc n) ≡ suc (min a n) = omega arith in rw (e, take-min a n l)
 
 pub drop-min : {A : Type 0} (n : ℕ) (l : List A) → drop (min n (length l)) l ≡ drop n l
 drop-min zero l = let e : min 0 (length l) ≡ 0 = omega arith in rw e
@@ -46,16 +40,9 @@ module _ {A : Type 0} (a b c d : List A) (h : length a ≡ length b) (e : a ++ c
   append-tails = sym (drop-at a c (length a) refl) ∙ ap (drop (length a)) e ∙ drop-at b d (length a) (sym h)
 
 module _ {A : Type 0} (s : List A) where
-  -- what `&s[..e]` holds
-  pub part-take : (e : ℕ) → part s 0 e ≡ take e s
-  part-take e = rw (sub-zero e)
-
   -- what `&s[a..]` holds
   pub part-drop : (a : ℕ) → part s a (length s) ≡ drop a s
   part-drop a = take-all (length s - a) (drop a s) (rw (length-drop a s) (omega arith))
-
-  pub part-all : part s 0 (length s) ≡ s
-  part-all = part-drop 0
 
   module _ (a e : ℕ) where
     pub part-length : e ≤ length s → length (part s a e) ≡ e - a
@@ -68,12 +55,6 @@ module _ {A : Type 0} (s : List A) where
     part-of-part b c h =
         let n : a + c - (a + b) ≡ c - b = omega arith in
         rw (drop-take b (e - a) (drop a s), n, drop-drop b a s) (take-take (c - b) (e - a - b) (drop (a + b) s) (omega arith))
-
-    -- one element more in front
-    pub part-more : (d : A) → a < e → e ≤ length s → part s a e ≡ getD s a d ∷ part s (a + 1) e
-    part-more d h k =
-        let n : e - a ≡ suc (e - (a + 1)) = omega arith in
-        rw (rest-more s a d (omega arith), n)
 
     -- one element more at the end
     pub part-next : (d : A) → a ≤ e → e < length s → part s a (e + 1) ≡ part s a e ++ getD s e d ∷ []
@@ -154,9 +135,6 @@ module _ {A : Type 0} (o : List A) (at : ℕ) where
       pub put-inside : (i : ℕ) (d : A) → i < length c → getD (put o at c) (at + i) d ≡ getD c i d
       put-inside i d k = sym (getD-drop at (put o at c) i d) ∙ rw put-drop (List·getD-append c (drop (length c) (drop at o)) d i k)
 
-      pub put-behind : (i : ℕ) (d : A) → at + length c ≤ i → getD (put o at c) i d ≡ getD o i d
-      put-behind i d k = sym (rest-head (put o at c) i d) ∙ rw (put-drop-end i k) (rest-head o i d)
-
       -- c, and then b behind it
       pub put-put : (b : List A) → put (put o at c) (at + length c) b ≡ put o at (c ++ b)
       put-put b = rw (put-take-end, put-drop-end (at + length c + length b) (omega arith)) (simp (append-assoc, length-append, add-assoc))
@@ -192,9 +170,6 @@ module _ {A : Type 0} where
 
     pub grown-set : (x : A) → at < length o → Grown o₀ (done ++ x ∷ []) (set o at x) (at + 1)
     grown-set x h = rw (← put-one o at x h) (grown-more (x ∷ []) (omega arith))
-
-    pub grown-done : (all : List A) → done ≡ all → (at ≡ length all) × (o ≡ front o₀ all)
-    grown-done all e = rw (← e) (g .at-is, g .is)
 
 -- o is o₀ with the first i elements of c copied into it, from place `at` on
 pub record Copied {A : Type 0} (o₀ : List A) (at : ℕ) (c o : List A) (i : ℕ) : Type 0 where

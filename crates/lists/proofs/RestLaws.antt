@@ -1,11 +1,18 @@
 -- The rest of a list at a loop's place, in the code's `i + 1`, and a list copied element by element. (The end of a loop is `drop-of-length-le` of `lib.ListN`.)
-use Prim.Native.Nat.{ℕ, _+_, _≤_, _<_}
-use mathlib.Core.Path.{_≡_, sym, _∙_}
+use Prim.Native.Nat.{ℕ, zero, suc, _+_, _≤_, _<_}
+use mathlib.Core.Path.{_≡_, refl, sym, _∙_}
 use mathlib.Core.List.{List, [], _∷_, _++_, map}
 use native.Mathlib.Nat.{add-zero}
 use native.Mathlib.Numerals.{add-one}
+use native.Mathlib.Omega.{arith}
 use lib.ListN.{length, getD, take, drop, set, length-map, List·getD-map}
 use lib.Seq.{drop-cons, take-suc, take-suc-set, take-all, getD-drop}
+
+-- an element of a list, whatever stands past its end
+pub here-same : {A : Type 0} (l : List A) (i : ℕ) (d e : A) → i < length l → getD l i d ≡ getD l i e
+here-same [] i d e h = absurd (omega arith)
+here-same (a ∷ l) zero d e h = refl
+here-same (a ∷ l) (suc i) d e h = here-same l i d e (omega arith)
 
 pub rest-head : {A : Type 0} (l : List A) (i : ℕ) (d : A) → getD (drop i l) 0 d ≡ getD l i d
 rest-head l i d = rw add-zero at (getD-drop i l 0 d)

@@ -1,11 +1,10 @@
 -- Laws of `all`, `any`, `Each` and `every`, and the loops that compute them.
-use Prim.Native.Nat.{ℕ, zero, suc, _+_, _-_, _≤_, _<_}
+use Prim.Native.Nat.{ℕ, zero, suc, _+_, _≤_, _<_}
 use mathlib.Core.Path.{_≡_, refl, sym, _∙_}
-use mathlib.Core.Bool.{Bool, true, false, not, _&&_, _||_, and-assoc, or-assoc, and-true}
+use mathlib.Core.Bool.{Bool, true, false, _&&_, _||_, and-assoc, or-assoc, and-true}
 use mathlib.Core.List.{List, [], _∷_, _++_, map}
 use native.Mathlib.Omega.{arith}
 use lib.ListN.{length, getD, take, drop, drop-of-length-le}
-use Rattle.lists.specs.Parts.{part}
 use Rattle.lists.specs.Tests.{all, any, allFrom, Each, every}
 use Rattle.lists.proofs.BoolLaws.{true-false, and-left, and-right, and-swap, or-swap}
 use Rattle.lists.proofs.RestLaws.{rest-more}
@@ -32,27 +31,10 @@ module _ {A : Type 0} (p : A → Bool) where
   all-at (x ∷ l) zero d h k = and-left (p x) (all p l) h
   all-at (x ∷ l) (suc i) d h k = all-at l i d (and-right (p x) (all p l) h) (omega arith)
 
-  pub all-take : (n : ℕ) (l : List A) → all p l ≡ true → all p (take n l) ≡ true
-  all-take zero l h = refl
-  all-take (suc n) [] h = refl
-  all-take (suc n) (x ∷ l) h = rw (and-left (p x) (all p l) h, all-take n l (and-right (p x) (all p l) h))
-
   pub all-drop : (n : ℕ) (l : List A) → all p l ≡ true → all p (drop n l) ≡ true
   all-drop zero l h = h
   all-drop (suc n) [] h = refl
   all-drop (suc n) (x ∷ l) h = all-drop n l (and-right (p x) (all p l) h)
-
-  pub all-part : (l : List A) (a e : ℕ) → all p l ≡ true → all p (part l a e) ≡ true
-  all-part l a e h = all-take (e - a) (drop a l) (all-drop a l h)
-
-  -- all fail, exactly where none passes (`not-true` of `borrow.Author.Tests` reads it back)
-  pub not-any : (l : List A) → all (λ x. not (p x)) l ≡ not (any p l)
-  not-any [] = refl
-  not-any (x ∷ l) = rw (not-any l) (go (p x) (any p l))
-    where
-      go : (a b : Bool) → (not a && not b) ≡ not (a || b)
-      go true b = refl
-      go false b = refl
 
   pub each-of-all : (l : List A) → all p l ≡ true → Each (λ x. p x ≡ true) l
   each-of-all [] h = tt
@@ -74,10 +56,6 @@ module _ {A : Type 0} where
       rw (all-from-snoc p (suc n) xs x, e) (sym (and-assoc (p n y) (allFrom p (suc n) xs) (p (n + suc (length xs)) x)))
 
 module _ {A : Type 0} (p q : A → Bool) (same : (x : A) → p x ≡ q x) where
-  pub all-cong : (l : List A) → all p l ≡ all q l
-  all-cong [] = refl
-  all-cong (x ∷ l) = rw (same x, all-cong l)
-
   pub any-cong : (l : List A) → any p l ≡ any q l
   any-cong [] = refl
   any-cong (x ∷ l) = rw (same x, any-cong l)
@@ -119,17 +97,6 @@ module _ {A : Type 0} (p : A → Bool) (l : List A) (i : ℕ) (r : Bool) (k : r 
 
   pub all-end : length l ≤ i → true ≡ r
   all-end h = sym (k ∙ rw (drop-of-length-le l h))
-
--- a loop that asks for one: its answer so far is false
-module _ {A : Type 0} (p : A → Bool) (l : List A) (i : ℕ) (r : Bool) (k : r ≡ any p (drop i l)) where
-  pub any-stop : (d : A) → i < length l → p (getD l i d) ≡ true → true ≡ r
-  any-stop d h e = sym (k ∙ rw (rest-more l i d h, e))
-
-  pub any-more : (d : A) → i < length l → p (getD l i d) ≡ false → r ≡ any p (drop (i + 1) l)
-  any-more d h e = k ∙ rw (rest-more l i d h, e)
-
-  pub any-end : length l ≤ i → false ≡ r
-  any-end h = sym (k ∙ rw (drop-of-length-le l h))
 
 module _ {A : Type 0} (P : A → Type 0) where
   pub each-append : (xs ys : List A) → Each P xs → Each P ys → Each P (xs ++ ys)

@@ -43,10 +43,6 @@ module _ {A B : Type 0} (make : A → A → B) where
   pairs-take (suc k) (x ∷ []) = rw (twice k, take-nil (suc (2 * k)))
   pairs-take (suc k) (x ∷ y ∷ ws) = rw (twice k, pairs-take k ws)
 
-  pub pairs-back : (words : B → List A) → ((x : B) → length (words x) ≡ 2) → ((x : B) → pairsOf make (words x) ≡ x ∷ []) → (l : List B) → pairsOf make (wordsOf words l) ≡ l
-  pairs-back words n e [] = refl
-  pairs-back words n e (x ∷ l) = pairs-append (words x) (wordsOf words l) (rw (n x) refl) ∙ rw (e x, pairs-back words n e l)
-
   -- both words of pair i stored
   pairs-sets : (ws : List A) (i : ℕ) (x y : A) → 2 * i + 1 < length ws → pairsOf make (set (set ws (2 * i) x) (2 * i + 1) y) ≡ set (pairsOf make ws) i (make x y)
   pairs-sets [] i x y h = absurd (omega arith)
@@ -98,14 +94,6 @@ module _ {A B : Type 0} (make : A → A → A → B) where
   triples-drop (suc k) (x ∷ y ∷ []) = rw (thrice k)
   triples-drop (suc k) (x ∷ y ∷ z ∷ ws) = rw (thrice k) (triples-drop k ws)
 
-  -- the first k triples need the first 3 * k words alone
-  pub triples-take : (k : ℕ) (ws : List A) → take k (triplesOf make ws) ≡ triplesOf make (take (3 * k) ws)
-  triples-take zero ws = refl
-  triples-take (suc k) [] = rw (thrice k)
-  triples-take (suc k) (x ∷ []) = rw (thrice k)
-  triples-take (suc k) (x ∷ y ∷ []) = rw (thrice k)
-  triples-take (suc k) (x ∷ y ∷ z ∷ ws) = rw (thrice k, triples-take k ws)
-
   pub triples-back : (words : B → List A) → ((x : B) → length (words x) ≡ 3) → ((x : B) → triplesOf make (words x) ≡ x ∷ []) → (l : List B) → triplesOf make (wordsOf words l) ≡ l
   triples-back words n e [] = refl
   triples-back words n e (x ∷ l) = triples-append (words x) (wordsOf words l) (rw (n x) refl) ∙ rw (e x, triples-back words n e l)
@@ -118,10 +106,6 @@ module _ {A B : Type 0} (make : A → A → A → B) where
         let n : at + 1 + 1 ≡ at + 2 = omega arith in
         let m : at + 2 + 1 ≡ at + 3 = omega arith in
         rw (rest-more ws at d (omega arith), rest-more ws (at + 1) d (omega arith), n, rest-more ws (at + 2) d h, m)
-
-    -- no whole triple is left
-    pub triples-end : (at : ℕ) → length ws ≤ at + 2 → triplesOf make (drop at ws) ≡ []
-    triples-end at h = drop-of-length-le (triplesOf make (drop at ws)) {i = 0} (omega (arith, triples-count (drop at ws), length-drop at ws))
 
     pub triples-more : (i : ℕ) (d : A) → 3 * i + 2 < length ws
         → triplesOf make (drop (3 * i) ws) ≡ make (getD ws (3 * i) d) (getD ws (3 * i + 1) d) (getD ws (3 * i + 2) d) ∷ triplesOf make (drop (3 * (i + 1)) ws)
@@ -154,8 +138,5 @@ module _ {A B : Type 0} (words : B → List A) where
   each-words P (x ∷ l) e = each-append P (words x) (wordsOf words l) (e .0) (each-words P l (e .1))
 
   module _ (l : List B) (i : ℕ) (d : B) (h : i < length l) where
-    pub words-more : wordsOf words (drop i l) ≡ words (getD l i d) ++ wordsOf words (drop (i + 1) l)
-    words-more = rw (rest-more l i d h)
-
     pub words-next : wordsOf words (take (i + 1) l) ≡ wordsOf words (take i l) ++ words (getD l i d)
     words-next = rw (take-next l i d h, words-append (take i l) (getD l i d ∷ []), append-nil (words (getD l i d)))

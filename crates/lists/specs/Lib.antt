@@ -7,3 +7,4 @@ pub mod Bits
 pub mod Sets
 pub mod Firsts
 pub mod Quoted
+pub mod Inner

@@ -1,19 +1,53 @@
 // Small functions on words that every layer uses.
 ghost use mathlib.Core.Path.{_≡_};
 ghost use mathlib.Core.Bool.{not};
-ghost use Prim.Native.Nat.{_≤_, _^_};
+ghost use Prim.Native.Nat.{_+_, _*_, _≤_, _<_, _^_, min, max};
 ghost use lib.Dec.{leb, ltb};
 ghost use lib.ListN.{length, getD, take};
 ghost use Rattle.lists.specs.Parts.{part, zeros};
 ghost use Rattle.lists.specs.Sets.{holds, withBit, rising};
 ghost use Rattle.lists.specs.Tests.{all};
-ghost use Rattle.lists.specs.Words.{lengths};
+ghost use Rattle.lists.specs.Words.{lengths, inOrder};
+ghost use Rattle.lists.specs.Inner.Pairs.{partEnd};
+
+// Where a part ends, or that it starts before the end of the one ahead or runs past the buffer.
+pub enum PartEnd {
+    At(usize),
+    Outside,
+}
 
 // A word as an index.
 pub fn index(x: u64) -> usize
     ensures { λ r. ⌜ r ≡ x ⌝ }
 {
     x as usize
+}
+
+// A word of 32 bits as a wider one.
+pub fn wide(x: u32) -> u64
+    ensures { λ r. ⌜ r ≡ x ⌝ }
+{
+    x as u64
+}
+
+// The smaller of two words. This and the next compile without a branch: in a merge it cannot be predicted.
+pub fn least(a: u64, b: u64) -> u64
+    ensures { λ r. ⌜ r ≡ min a b ⌝ }
+{
+    if b < a {
+        return b;
+    }
+    a
+}
+
+// The larger of two words.
+pub fn most(a: u64, b: u64) -> u64
+    ensures { λ r. ⌜ r ≡ max a b ⌝ }
+{
+    if b < a {
+        return a;
+    }
+    b
 }
 
 // Every word becomes 0.
@@ -24,30 +58,6 @@ pub fn clear(work: &mut [u64])
     while i < work.len() {
         work[i] = 0;
         i += 1;
-    }
-}
-
-// Whether bit k of the words is set.
-pub fn has(words: &[u64], k: usize) -> bool
-    ensures { λ r. ⌜ r ≡ holds (now (words .entry)) k ⌝ }
-{
-    let at = k / 64;
-    if words.len() <= at {
-        return false;
-    }
-    let w = words[at];
-    (w >> (k % 64)) % 2 == 1
-}
-
-// Sets bit k of the words.
-pub fn mark(words: &mut [u64], k: usize)
-    ensures { λ _. ⌜ now (words .exit) ≡ withBit (now (words .entry)) k ⌝ }
-{
-    let at = k / 64;
-    if at < words.len() {
-        let one: u64 = 1;
-        let w = words[at];
-        words[at] = w | (one << (k % 64));
     }
 }
 
@@ -139,6 +149,49 @@ pub fn lengths_within(pairs: &[u64], most: u64) -> bool
             return false;
         }
         left -= n;
+        i += 1;
+    }
+    true
+}
+
+// Where a part ends that may not start before a place, and ends within so many elements.
+fn part_end(end: usize, start: usize, size: usize, all: usize) -> PartEnd
+    ensures { λ r. ⌜ r ≡ partEnd end start size all ⌝ }
+{
+    if start < end {
+        return PartEnd::Outside;
+    }
+    if all < start {
+        return PartEnd::Outside;
+    }
+    if all - start < size {
+        return PartEnd::Outside;
+    }
+    PartEnd::At(start + size)
+}
+
+// The same of the part that pair i says.
+pub fn pair_end(pairs: &[u64], i: usize, end: usize, all: usize) -> PartEnd
+    requires { ⌜ 2 * i + 1 < length (now pairs) ⌝ }
+    ensures { λ r. ⌜ r ≡ partEnd end (getD (now (pairs .entry)) (2 * i) 0) (getD (now (pairs .entry)) (2 * i + 1) 0) all ⌝ }
+{
+    let start = index(pairs[2 * i]);
+    let size = index(pairs[2 * i + 1]);
+    part_end(end, start, size, all)
+}
+
+// Whether the pairs are in order, within so many elements.
+pub fn in_order(pairs: &[u64], all: usize) -> bool
+    ensures { λ r. ⌜ r ≡ inOrder 0 all (now (pairs .entry)) ⌝ }
+{
+    let count = pairs.len() / 2;
+    let mut end = 0;
+    let mut i = 0;
+    while i < count {
+        let PartEnd::At(next) = pair_end(pairs, i, end, all) else {
+            return false;
+        };
+        end = next;
         i += 1;
     }
     true

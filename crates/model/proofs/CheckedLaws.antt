@@ -1,6 +1,6 @@
 -- Laws of `wellDefined` and `checked`, as the code goes through their tests.
 use Prim.Native.Nat.{ℕ, _*_, _/_, _<_, _≤_}
-use mathlib.Core.Bool.{Bool, true, false, not, _&&_, and-true, and-false}
+use mathlib.Core.Bool.{Bool, true, false, not, _&&_, and-true}
 use mathlib.Core.List.{List, [], _++_, map}
 use mathlib.Core.Path.{_≡_, refl, sym, _∙_}
 use native.Mathlib.Omega.{arith}
@@ -23,9 +23,9 @@ use Rattle.model.specs.declared.AigerLatch.{AigerLatch}
 use Rattle.model.specs.declared.Counts.{Counts}
 use Rattle.model.specs.declared.Verdict.{Verdict}
 use Rattle.model.specs.declared.Verdict.the-variants.{Valid, Refused}
-use Rattle.model.specs.Circuit.{Circuit, circuitOf, currentOf, nextOf, leavesOf, nextsOf, recordFrom}
+use Rattle.model.specs.Circuit.{Circuit, circuitOf, currentOf, nextOf, leavesOf, nextsOf}
 use Rattle.model.specs.Limits.{counted, wellDefined}
-use Rattle.model.specs.Checked.{checked, judged, countsOf, Validates}
+use Rattle.model.specs.Checked.{checked, judged, countsOf}
 use Rattle.model.specs.Inner.Marking.{leavesFrom, literalsFrom, AddsLeaves, AddsGates, Checkable, limits, passed}
 use Rattle.model.proofs.MarkingLaws.{marking-none, adds-both, adds-lost}
 
@@ -48,12 +48,6 @@ module _ (c : Circuit) where
 
   pub literals-left : d ≡ true → wellDefined c ≡ l
   literals-left e = well-both ∙ rw e refl
-
-  pub literal-fails : l ≡ false → wellDefined c ≡ false
-  literal-fails e = well-both ∙ rw e (and-false d)
-
-  pub definitions-left : l ≡ true → wellDefined c ≡ d
-  definitions-left e = well-both ∙ rw e (and-true d)
 
 -- ---- a record's parts
 
@@ -193,8 +187,3 @@ checkable m g w n z e =
       room = rw (z, zeros-length n) (f .0);
       clear = zeros-own w n z;
     }
-
--- a whole record, by its parts
-pub validates-whole : (m : AigerTransition) (n : Counts) → n ≡ countsOf m → (g : List ℕ) (w : ℕ) (r : Verdict) (w' : List ℕ)
-    → Validates (recordFrom n (m .inputs) (m .latches) (m .outputs)) g w r w' → Validates m g w r w'
-validates-whole m n e g w r w' k = rw e at k

@@ -1,17 +1,16 @@
 -- A record's words give the record back: what a reader returned may be lent as the words of its memory.
-use Prim.Native.Nat.{ℕ, zero, suc, _+_, _*_, _≤_}
+use Prim.Native.Nat.{ℕ, zero, suc, _+_}
 use mathlib.Core.List.{List, [], _∷_, _++_}
 use mathlib.Core.Path.{_≡_, refl, sym, ap, _∙_}
 use native.Mathlib.Omega.{arith}
 use borrow.Author.Tests.{le-ltb}
-use lib.ListN.{length, getD, take, drop, length-append}
+use lib.ListN.{length, getD, drop, length-append}
 use lib.Seq.{take-at, drop-at, drop-append-add, getD-drop}
 use Rattle.lists.specs.Words.{wordsOf}
 use Rattle.lists.proofs.WordLaws.{words-length}
 use Rattle.model.specs.declared.AigerLatch.{AigerLatch}
 use Rattle.model.specs.declared.AigerTransition.{AigerTransition}
-use Rattle.model.specs.Circuit.{recordFrom}
-use Rattle.model.specs.RecordWords.{latchIn, latchesIn, recordIn, latchWords, wordsIn}
+use Rattle.model.specs.RecordWords.{latchesIn, recordIn, latchWords, wordsIn}
 
 -- latches from a place on are those of the rest of the words
 latches-rest : (ws : List ℕ) (a n at : ℕ) → latchesIn ws n (a + at) ≡ latchesIn (drop a ws) n at

@@ -11,7 +11,7 @@ use lib.Seq.{length-take-le}
 use borrow.Author.Tests.{ltb-true, leb-true}
 use Rattle.lists.specs.Answer.{Answer, got, unless}
 use Rattle.lists.specs.Bits.{bits}
-use Rattle.lists.specs.Tests.{all, every, Each}
+use Rattle.lists.specs.Tests.{all, Each}
 use Rattle.lists.specs.Words.{triplesOf}
 use Rattle.lists.proofs.AnswerLaws.{unless-test, unless-got, got-same}
 use Rattle.lists.proofs.BitLaws.{bits-length}

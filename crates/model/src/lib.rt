@@ -1,15 +1,15 @@
 // The transition model of item 5 of 01 by value, and its validation.
 ghost use mathlib.Core.Path.{_≡_};
 ghost use mathlib.Core.Bool.{true, cond, _&&_, not};
-ghost use mathlib.Core.List.{List, [], _∷_, map, _++_};
-ghost use Prim.Native.Nat.{ℕ, _*_, _<_, _≤_};
+ghost use mathlib.Core.List.{map};
+ghost use Prim.Native.Nat.{_*_, _<_, _≤_};
 ghost use lib.ListN.{length, take};
 ghost use Rattle.lists.specs.Parts.{zeros};
 ghost use Rattle.lists.specs.Sets.{holds, withBit};
 ghost use Rattle.lists.specs.Tests.{all};
 ghost use Rattle.lists.specs.Words.{triplesOf};
 ghost use Rattle.aiger.specs.Gates.{variable, gateFrom};
-ghost use Rattle.aiger.specs.Defined.{literal, defining, ordered, defined};
+ghost use Rattle.aiger.specs.Defined.{literal, defining, defined};
 ghost use Rattle.model.specs.Circuit.{currentOf, nextOf, recordFrom};
 ghost use Rattle.model.specs.Limits.{counted};
 ghost use Rattle.model.specs.Checked.{countsOf, Validates};
@@ -305,14 +305,4 @@ pub fn validate_parts(
         return Verdict::Valid;
     }
     Verdict::Refused(11)
-}
-
-// Whether a record and its gate words are a model: the validation that comes before every step and obligation.
-pub fn validate(model: AigerTransition, gates: &[u64], work: &mut [u64]) -> Verdict
-    ensures { λ r. ⌜ Validates model (now (gates .entry)) (length (now (work .entry))) r (now (work .exit)) ⌝ }
-{
-    let n = counts_of(model);
-    let latches = model.latches;
-    let outputs = model.outputs;
-    validate_parts(n, &model.inputs, latches, &outputs, gates, work)
 }

@@ -14,7 +14,6 @@ use Rattle.text.specs.declared.Reader.the-variants.{Transition}
 use Rattle.text.specs.declared.Cursor.{Cursor}
 use Rattle.aiger.specs.declared.Gate.{Gate}
 use Rattle.aiger.specs.Gates.{gateWords}
-use Rattle.aiger.specs.Defined.{defined}
 use Rattle.aiger.specs.Sections.{section}
 use Rattle.aiger.proofs.SectionLaws.{Taking, taking-none, taking-more, taking-bad, taking-done, same-items, no-section}
 use Rattle.model.specs.Inner.Marking.{AddsGate, AddsGates}

@@ -13,12 +13,10 @@ use Rattle.lists.specs.Parts.{zeros}
 use Rattle.lists.proofs.ZeroLaws.{zeros-length, zeros-take}
 use Rattle.model.specs.declared.AigerTransition.{AigerTransition}
 use Rattle.model.specs.declared.Verdict.{Verdict}
-use Rattle.model.specs.declared.Counts.{Counts}
-use Rattle.model.specs.Circuit.{circuitOf, recordFrom}
-use Rattle.model.specs.Checked.{checked, judged, countsOf}
+use Rattle.model.specs.Circuit.{circuitOf}
+use Rattle.model.specs.Checked.{checked, judged}
 use Rattle.model.proofs.ValueLaws.{checked-got}
 use Rattle.model_step.specs.declared.Outcome.{Outcome}
-use Rattle.model_step.specs.declared.Stepped.{Stepped}
 use Rattle.model_step.specs.declared.Stepped.the-variants.{Done, Refused}
 use Rattle.model_step.specs.Step.{stepOf, answerOf, stepValues, outcomeUnder}
 use Rattle.model_step.specs.Inner.Runnable.{Runnable}
@@ -64,8 +62,3 @@ module _ {m : AigerTransition} {g : List ℕ} {w : ℕ} (p : IsModel m g w) wher
       pub step-done : not d ≡ false → (o : Outcome) → o ≡ outcomeUnder (circuitOf m g) (stepValues (circuitOf m g) s x) → answerOf (Done o) ≡ stepOf m g w s x
       unfolding stepOf
       step-done u o r = rw (p .is, latches-count, ← e, not-false b t, ← inputs-fit, not-false d u, r)
-
--- a whole record, by its parts
-pub step-whole : (m : AigerTransition) (n : Counts) → n ≡ countsOf m → (g : List ℕ) (w s x : ℕ) (r : Stepped)
-    → answerOf r ≡ stepOf (recordFrom n (m .inputs) (m .latches) (m .outputs)) g w s x → answerOf r ≡ stepOf m g w s x
-step-whole m n e g w s x r k = rw e at k

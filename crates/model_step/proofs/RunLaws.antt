@@ -16,7 +16,7 @@ use Rattle.model.specs.Circuit.{circuitOf, currentOf, nextOf}
 use Rattle.model_step.specs.declared.Outcome.{Outcome}
 use Rattle.model_step.specs.Step.{start, assigned, computed, stepValues, outcomeUnder}
 use Rattle.model_step.specs.Inner.Stored.{held, Stored, Becomes, Inside, InsideGate, Readable, readings}
-use Rattle.model_step.specs.Inner.Runnable.{Runnable}
+use Rattle.model_step.specs.Inner.Runnable.{Runnable, loaded}
 use Rattle.model_step.proofs.StepLaws.{values-stored}
 
 -- "All values start false"
@@ -50,18 +50,9 @@ module _ {m : AigerTransition} {g : List ℕ} {n : ℕ} (k : Runnable m g n) (w 
       })
 
 module _ (m : AigerTransition) (g : List ℕ) (s x : ℕ) where
-  abbrev currents : List ℕ
-  currents = take (m .«latch_count») (map currentOf (m .latches))
-
-  abbrev inputs : List ℕ
-  inputs = take (m .«input_count») (m .inputs)
-
-  -- the values when the state and the input word are loaded, and at the end
-  abbrev pub Loaded : Valuation
-  Loaded = assigned (assigned start currents (bits (length currents) s)) inputs (bits (length inputs) x)
-
+  -- the values at the end
   abbrev pub Run : Valuation
-  Run = computed Loaded (take (m .«and_count») (triplesOf gateFrom g))
+  Run = computed (loaded m s x) (take (m .«and_count») (triplesOf gateFrom g))
 
   run-values : Run ≡ stepValues (circuitOf m g) s x
   unfolding stepValues
@@ -75,7 +66,7 @@ module _ (m : AigerTransition) (g : List ℕ) (s x : ℕ) where
   module _ (n : ℕ) where
     pub run-loaded : (w₀ w₁ w₂ from cs is : List ℕ) → w₀ ≡ zeros n → from ≡ map currentOf (m .latches)
         → cs ≡ take (m .«latch_count») from → Becomes w₀ w₁ (λ v. assigned v cs (bits (length cs) s))
-        → is ≡ take (m .«input_count») (m .inputs) → Becomes w₁ w₂ (λ v. assigned v is (bits (length is) x)) → Stored w₂ Loaded
+        → is ≡ take (m .«input_count») (m .inputs) → Becomes w₁ w₂ (λ v. assigned v is (bits (length is) x)) → Stored w₂ (loaded m s x)
     run-loaded w₀ w₁ w₂ from cs is z c p a q b =
         let v₁ : Valuation = assigned start cs (bits (length cs) s) in
         let s₀ : Stored w₀ start = rw z (zeros-start n) in
@@ -96,4 +87,4 @@ module _ (m : AigerTransition) (g : List ℕ) (s x : ℕ) where
       → nexts ≡ take (m .«latch_count») to → outputs ≡ take (m .«output_count») (m .outputs) → r ≡ readings (held w₃) nexts outputs
       → r ≡ outcomeUnder (circuitOf m g) (stepValues (circuitOf m g) s x)
   run-outcome {n} k w₀ w₁ w₂ w₃ from to cs is nexts outputs r z same c d p a q b e t o f =
-      run-read n k w₃ to nexts outputs r same (e .so Loaded (run-loaded n w₀ w₁ w₂ from cs is z c p a q b)) d t o f
+      run-read n k w₃ to nexts outputs r same (e .so (loaded m s x) (run-loaded n w₀ w₁ w₂ from cs is z c p a q b)) d t o f

@@ -1,8 +1,7 @@
 // The step of item 6 of 01. The values stand in the work words, one word a variable.
 ghost use mathlib.Core.Path.{_≡_};
 ghost use mathlib.Core.List.{[], _∷_, map};
-ghost use Prim.Native.Nat.{_+_, _*_, _<_, _≤_, _^_};
-ghost use lib.Dec.{ltb};
+ghost use Prim.Native.Nat.{_+_, _*_, _<_, _≤_};
 ghost use lib.ListN.{length, take, drop};
 ghost use Rattle.lists.specs.Bits.{bit, bits, packed};
 ghost use Rattle.lists.specs.Parts.{zeros};
@@ -15,7 +14,6 @@ ghost use Rattle.model_step.specs.Inner.Runnable.{Runnable};
 ghost use Rattle.model_step.specs.Inner.Stored.{held, Becomes, Inside, InsideGate, Readable, readings};
 use aiger::Gate;
 use model::AigerLatch;
-use model::AigerTransition;
 use model::Counts;
 use model::Verdict;
 
@@ -180,29 +178,4 @@ pub fn evaluate_parts(
     );
     lists::clear(work);
     Stepped::Done(outcome)
-}
-
-// One step of a model, or the number of the reason why there is none. The work words are 0 again afterwards.
-pub fn evaluate(
-    model: AigerTransition,
-    gates: &[u64],
-    work: &mut [u64],
-    state: u64,
-    input: u64,
-) -> Stepped
-    ensures { λ r. ⌜ (answerOf r ≡ stepOf model (now (gates .entry)) (length (now (work .entry))) state input) × (now (work .exit) ≡ zeros (length (now (work .entry)))) ⌝ }
-{
-    let n = model::counts_of(model);
-    let latches = model.latches;
-    let outputs = model.outputs;
-    evaluate_parts(
-        n,
-        &model.inputs,
-        latches,
-        &outputs,
-        gates,
-        work,
-        state,
-        input,
-    )
 }

@@ -1,7 +1,7 @@
 -- Laws of the passes over records: records and their words, a model of records, and what the definitions of the first records say.
-use Prim.Native.Nat.{ℕ, zero, suc, _/_, _*_, _≤_, _<_}
+use Prim.Native.Nat.{ℕ, _/_, _*_, _≤_, _<_}
 use mathlib.Core.Bool.{Bool, true, false}
-use mathlib.Core.List.{List, [], _∷_, _++_}
+use mathlib.Core.List.{List, _++_}
 use mathlib.Core.Path.{_≡_, refl, sym}
 use native.Mathlib.Omega.{arith}
 use lib.ListN.{length, getD, take, drop, take-append-drop}
@@ -28,12 +28,6 @@ use Rattle.model_step.proofs.EvaluateLaws.{step-invalid, step-room}
 use Rattle.model_step.proofs.RunnableLaws.{IsModel, runnable, runnable-more}
 use Rattle.model_step_records.specs.declared.Pass.{Pass}
 use Rattle.model_step_records.specs.Inner.Passing.{refusing, left, Modelled, Stands}
-
--- an element of a list, whatever stands past its end
-pub here-same : {A : Type 0} (l : List A) (i : ℕ) (d e : A) → i < length l → getD l i d ≡ getD l i e
-here-same [] i d e h = absurd (omega arith)
-here-same (a ∷ l) zero d e h = refl
-here-same (a ∷ l) (suc i) d e h = here-same l i d e (omega arith)
 
 -- ---- records and their words
 

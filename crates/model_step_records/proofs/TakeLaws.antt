@@ -23,10 +23,11 @@ use Rattle.model_step.specs.declared.Stepped.{Stepped}
 use Rattle.model_step.specs.declared.Stepped.the-variants as stepped
 use Rattle.model_step.specs.Step.{computed, stepOf, answerOf}
 use Rattle.model_step.specs.Inner.Stored.{held, Stored, Becomes, InsideGate, Readable, readings}
+use Rattle.model_step.specs.Inner.Runnable.{loaded}
 use Rattle.model_step.proofs.StepLaws.{computed-append}
 use Rattle.model_step.proofs.RunLaws.{run-reads, run-read, Run}
 use Rattle.model_step_records.specs.declared.Pass.{Pass}
-use Rattle.model_step_records.specs.Inner.Passing.{refusing, further, left, loaded, Checking, Computing, Stands, Valued, Values, Taking, Ending}
+use Rattle.model_step_records.specs.Inner.Passing.{refusing, further, left, Checking, Computing, Stands, Valued, Values, Taking, Ending}
 use Rattle.model_step_records.proofs.PassLaws.{words, records-back, runs, gate-inside, stands-refusing, refused-check, all-defined, not-defined, lost}
 
 -- ---- take_gate

@@ -17,7 +17,7 @@ use Rattle.circuit_lines.specs.SectionLines.{firstNumbers}
 use Rattle.circuit_lines.specs.Inner.OneLine.{atMost}
 use Rattle.circuit_lines.specs.Inner.Takes.{Headed, TakesHeaderNumbers}
 use Rattle.circuit_lines.proofs.NumbersLaws.{stored-all, stored-length}
-use Rattle.model_text.specs.Header.{countsFrom, fiveCounts, headerOf}
+use Rattle.model_text.specs.Header.{countsFrom, fiveCounts}
 use Rattle.model_text.specs.Inner.Takes.{TakesCounts}
 use Rattle.circuit_lines.specs.declared.HeaderCount.the-variants as numbers
 use Rattle.model_text.specs.declared.ModelHeader.the-variants as header

@@ -135,7 +135,7 @@ fn latch_line(l: &[u8]) -> ReadLatch
 }
 
 // The latch of the line at a cursor.
-pub fn take_latch(s: &[u8], cursor: Cursor) -> TakenLatch
+fn take_latch(s: &[u8], cursor: Cursor) -> TakenLatch
     ensures { λ r. ⌜ TakesLatch (now (s .entry)) cursor r ⌝ }
 {
     let Line::At { start, end, next } = text::next_line(s, cursor) else {

@@ -1,5 +1,5 @@
 -- Laws for the functions that hand an accepted call over to the making of its clauses.
-use Prim.Native.Nat.{ℕ, _+_, _≤_, _<_, _^_}
+use Prim.Native.Nat.{ℕ, _≤_, _<_, _^_}
 use mathlib.Core.Bool.{true, false}
 use mathlib.Core.List.{List, [], _++_, map}
 use mathlib.Core.Path.{_≡_, sym, ap, subst, _∙_}

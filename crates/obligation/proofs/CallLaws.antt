@@ -112,9 +112,3 @@ module _ (m : AigerTransition) (n : Counts) (e : n ≡ countsOf m) (gates releva
 
   pub relation-whole : (source : ℕ) (targets : List ℕ) → MakesRelation parts source targets b r after → MakesRelation whole source targets b r after
   relation-whole source targets k = rw e at k
-
-  pub transducer-whole : (source : ℕ) (observed outcomes : List ℕ) → MakesTransducer parts source observed outcomes b r after → MakesTransducer whole source observed outcomes b r after
-  transducer-whole source observed outcomes k = rw e at k
-
-  pub terminal-whole : (bad : ℕ) (states : List ℕ) → MakesTerminal parts bad states b r after → MakesTerminal whole bad states b r after
-  terminal-whole bad states k = rw e at k

@@ -1,20 +1,20 @@
 -- How many clauses and literals an obligation can have at most, by its parts: where so much room is lent, nothing needs to be measured.
 use Prim.Native.Nat.{ℕ, _+_, _*_, _/_, _≤_}
-use mathlib.Core.Bool.{Bool, true, false, cond}
+use mathlib.Core.Bool.{Bool, true, false}
 use mathlib.Core.List.{List, [], _∷_, _++_, map}
 use mathlib.Core.Path.{_≡_, refl, sym, _∙_}
 use native.Mathlib.Nat.{mul-suc, mul-le-mul}
 use native.Mathlib.Omega.{arith}
 use lib.ListN.{length, take, drop, length-append, length-map, length-take}
 use Rattle.lists.specs.Bits.{bits}
-use Rattle.lists.specs.Words.{pairsOf, triplesOf, wordsOf, lengths}
+use Rattle.lists.specs.Words.{triplesOf, wordsOf, lengths}
 use Rattle.lists.proofs.WordLaws.{triples-count}
 use Rattle.aiger.specs.declared.Gate.{Gate}
 use Rattle.aiger.specs.Gates.{gateFrom}
 use Rattle.cnf.specs.declared.ClauseCounts.{ClauseCounts}
 use Rattle.cnf.specs.Clauses.{clausesIn}
 use Rattle.cnf.specs.Simplified.{simplified}
-use Rattle.cnf.specs.Inner.Appending.{Appends, Holding}
+use Rattle.cnf.specs.Inner.Appending.{Appends}
 use Rattle.cnf.proofs.AppendLaws.{appends-start}
 use Rattle.cnf.proofs.SizeLaws.{total, total-append, total-more, kept-few}
 use Rattle.obligation_spec.specs.Lists.{valued, sourceLists, predicateLiteral, gateLists}

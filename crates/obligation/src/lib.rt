@@ -1,6 +1,6 @@
 // The obligations of item 7 of 01: the clauses of rows and of terminal lists, in lent buffers.
 ghost use Rattle.obligation_spec.specs.Calls.{askedOf};
-ghost use Rattle.obligation.specs.Promise.{buffersOf, MakesRelation, MakesTransducer, MakesTerminal};
+ghost use Rattle.obligation.specs.Promise.{buffersOf, MakesRelation};
 use cnf::ClauseCounts;
 use model::AigerTransition;
 
@@ -44,78 +44,6 @@ pub fn relation_row_completeness_cnf(
         predicate_pairs,
         predicate_literals,
         targets,
-        work,
-        pairs,
-        literals,
-    )
-}
-
-// The same with outputs: to a claimed target with its outputs.
-pub fn transducer_row_completeness_cnf(
-    model: AigerTransition,
-    gates: &[u64],
-    relevant: &[u64],
-    source: u64,
-    predicate_pairs: &[u64],
-    predicate_literals: &[u32],
-    observed: &[u64],
-    outcomes: &[u64],
-    work: &mut [u64],
-    pairs: &mut [u64],
-    literals: &mut [u32],
-) -> Made
-    ensures { λ r. ⌜ MakesTransducer (askedOf model (now (gates .entry)) (now (relevant .entry)) (now («predicate_pairs» .entry)) (now («predicate_literals» .entry))) source (now (observed .entry)) (now (outcomes .entry)) (buffersOf (now (pairs .entry)) (now (literals .entry)) (now (work .entry))) r (buffersOf (now (pairs .exit)) (now (literals .exit)) (now (work .exit))) ⌝ }
-{
-    let n = model::counts_of(model);
-    let latches = model.latches;
-    let outputs = model.outputs;
-    transducer::row_parts(
-        n,
-        &model.inputs,
-        latches,
-        &outputs,
-        gates,
-        relevant,
-        source,
-        predicate_pairs,
-        predicate_literals,
-        observed,
-        outcomes,
-        work,
-        pairs,
-        literals,
-    )
-}
-
-// The clauses of a terminal list: every state in which some input that meets the predicate leaves the bad output 0 is claimed.
-pub fn terminal_completeness_cnf(
-    model: AigerTransition,
-    gates: &[u64],
-    relevant: &[u64],
-    predicate_pairs: &[u64],
-    predicate_literals: &[u32],
-    bad: u64,
-    states: &[u64],
-    work: &mut [u64],
-    pairs: &mut [u64],
-    literals: &mut [u32],
-) -> Made
-    ensures { λ r. ⌜ MakesTerminal (askedOf model (now (gates .entry)) (now (relevant .entry)) (now («predicate_pairs» .entry)) (now («predicate_literals» .entry))) bad (now (states .entry)) (buffersOf (now (pairs .entry)) (now (literals .entry)) (now (work .entry))) r (buffersOf (now (pairs .exit)) (now (literals .exit)) (now (work .exit))) ⌝ }
-{
-    let n = model::counts_of(model);
-    let latches = model.latches;
-    let outputs = model.outputs;
-    terminal::list_parts(
-        n,
-        &model.inputs,
-        latches,
-        &outputs,
-        gates,
-        relevant,
-        predicate_pairs,
-        predicate_literals,
-        bad,
-        states,
         work,
         pairs,
         literals,

@@ -3,17 +3,24 @@ use Prim.Native.Nat.{ℕ, _+_, _-_, _*_, _/_, _≤_, _<_, _^_}
 use mathlib.Core.Bool.{Bool, true, false, not, _&&_, and-false, and-true}
 use mathlib.Core.List.{List, [], _∷_}
 use mathlib.Core.Path.{_≡_, refl, sym, ap, _∙_}
+use native.Mathlib.Nat.{lt-trans, mul-le-mul-right}
 use native.Mathlib.Omega.{arith}
 use borrow.Author.Tests.{le-leb, lt-leb, not-true, not-false}
-use lib.Dec.{leb, ltb}
+use lib.Dec.{leb, ltb, lit<}
 use lib.ListN.{length, getD, take, drop}
 use lib.Seq.{length-take-le}
+use mir.Facts.{fits-le}
+use mir.Syntax.{w64}
+use mir.Val.{Fits}
 use Rattle.lists.specs.Answer.{got, unless, andThen}
 use Rattle.lists.specs.Parts.{part}
 use Rattle.lists.specs.Sets.{rising}
 use Rattle.lists.specs.Tests.{all, every}
+use Rattle.lists.specs.declared.PartEnd.{PartEnd}
+use Rattle.lists.specs.declared.PartEnd.the-variants as parts
 use Rattle.lists.specs.Words.{inOrder, lengths}
-use Rattle.lists.proofs.PairLaws.{pair-rest, no-pair, order-none}
+use Rattle.lists.specs.Inner.Pairs.{partEnd}
+use Rattle.lists.proofs.PairLaws.{pair-rest, no-pair, order-none, order-outside, part-ends, order-at}
 use Rattle.lists.proofs.TestLaws.{every-fails}
 use Rattle.lists.proofs.WordLaws.{pairs-end}
 use Rattle.model.specs.declared.Verdict.{Verdict}
@@ -25,34 +32,50 @@ use Rattle.obligation_spec.specs.Calls.{Asked, circuit, Lent, asked}
 use Rattle.obligation_spec.specs.Limits.{bounded, statesClaimed}
 use Rattle.obligation_check.specs.Inner.Boundary.{indexes, predicateHolds, Bounds, IsState, ClaimsStates, Checks}
 
--- the loop over the pairs: the rest decides, and the pair at i has this offset and this length
+-- the loop over the pairs: the rest decides, and where the part of the pair at i ends
 module _ (n : ℕ) (words pairs : List ℕ) (end i : ℕ) (r : Bool) (k : r ≡ predicateHolds n end words (drop (2 * i) pairs)) where
-  module _ (offset size : ℕ) (first : offset ≡ getD pairs (2 * i) 0) (second : size ≡ getD pairs (2 * i + 1) 0) (h : i < length pairs / 2) where
-    next : drop (2 * i) pairs ≡ offset ∷ size ∷ drop (2 * (i + 1)) pairs
-    next = pair-rest pairs i (omega arith) ∙ rw (first, second) refl
+  module _ (h : i < length pairs / 2) (x : PartEnd) (e : x ≡ partEnd end (getD pairs (2 * i) 0) (getD pairs (2 * i + 1) 0) (length words)) where
+    abbrev start : ℕ
+    start = getD pairs (2 * i) 0
 
-    pub early-stop : offset < end → false ≡ r
-    early-stop e = sym (k ∙ rw (next, lt-leb end offset e) refl)
+    abbrev size : ℕ
+    size = getD pairs (2 * i + 1) 0
 
-    too-far : length words < offset + size → false ≡ r
-    too-far e = sym (k ∙ rw (next, lt-leb (offset + size) (length words) e, and-false (leb end offset)) refl)
+    abbrev rest : List ℕ
+    rest = drop (2 * (i + 1)) pairs
 
-    pub past-stop : length words < offset → false ≡ r
-    past-stop e = too-far (omega arith)
+    next : r ≡ predicateHolds n end words (start ∷ size ∷ rest)
+    next = k ∙ ap (predicateHolds n end words) (pair-rest pairs i (omega arith))
 
-    pub long-stop : offset ≤ length words → length words - offset < size → false ≡ r
-    long-stop a e = too-far (omega arith)
+    pub pair-stop : x ≡ parts.Outside → false ≡ r
+    pair-stop o = sym (next ∙ ap (λ (b : Bool). b && all (indexes n) (clausesIn words (start ∷ size ∷ rest))) (order-outside end start size (length words) x e o rest))
 
-    clause : predicateHolds n end words (offset ∷ size ∷ drop (2 * (i + 1)) pairs) ≡ ((leb end offset && (leb (offset + size) (length words) && inOrder (offset + size) (length words) (drop (2 * (i + 1)) pairs))) && (indexes n (part words offset (offset + size)) && all (indexes n) (clausesIn words (drop (2 * (i + 1)) pairs))))
-    clause = let e : offset + size - offset ≡ size = omega arith in rw e refl
+    module _ (end' : ℕ) (o : x ≡ parts.At end') (offset : ℕ) (first : offset ≡ getD pairs (2 * i) 0) where
+      ends : (end ≤ start) × (end' ≡ start + size) × (start + size ≤ length words)
+      ends = part-ends end start size (length words) x e end' o
 
-    pub clause-stop : (q : Bool) → q ≡ indexes n (part words offset (offset + size)) → q ≡ false → false ≡ r
-    clause-stop q e f = sym (k ∙ ap (predicateHolds n end words) next ∙ clause ∙ rw (← e, f) (and-false (leb end offset && (leb (offset + size) (length words) && inOrder (offset + size) (length words) (drop (2 * (i + 1)) pairs)))))
+      pub clause-starts : offset ≤ end'
+      clause-starts = omega (arith, first, ends .1)
 
-    pub clause-more : end ≤ offset → offset ≤ length words → size ≤ length words - offset → (q : Bool) → q ≡ indexes n (part words offset (offset + size)) → q ≡ true → r ≡ predicateHolds n (offset + size) words (drop (2 * (i + 1)) pairs)
-    clause-more a b d q e f =
-        k ∙ ap (predicateHolds n end words) next ∙ clause
-        ∙ rw (← e, f, le-leb end offset a, le-leb (offset + size) (length words) (omega arith)) refl
+      pub clause-within : end' ≤ length words
+      clause-within = omega (arith, ends .1, ends .2)
+
+      -- a byte index of the clause's words is a number of 64 bits
+      pub clause-fits : (k : ℕ) → length words * k < 2 ^ 63 → Fits w64 (offset * k)
+      clause-fits k q = fits-le (mul-le-mul-right k (omega (arith, clause-starts, clause-within))) (record { fits = lt-trans q (lit< tt) })
+
+      clause : r ≡ (inOrder end' (length words) rest && (indexes n (part words offset end') && all (indexes n) (clausesIn words rest)))
+      clause =
+          let s : end' - offset ≡ size = omega (arith, first, ends .1) in
+          next
+          ∙ ap (λ (b : Bool). b && (indexes n (take size (drop start words)) && all (indexes n) (clausesIn words rest))) (order-at end start size (length words) x e end' o rest)
+          ∙ rw (s, first) refl
+
+      pub clause-stop : (q : Bool) → q ≡ indexes n (part words offset end') → q ≡ false → false ≡ r
+      clause-stop q f g = sym (clause ∙ rw (← f, g) (and-false (inOrder end' (length words) rest)))
+
+      pub clause-more : (q : Bool) → q ≡ indexes n (part words offset end') → q ≡ true → r ≡ predicateHolds n end' words rest
+      clause-more q f g = clause ∙ rw (← f, g) refl
 
   pub pairs-stop : length pairs / 2 ≤ i → true ≡ r
   pairs-stop h =

@@ -1,6 +1,5 @@
 // Whether an obligation's boundary (01, reason 13) and its claims (14) are within the limits.
 ghost use mathlib.Core.Path.{_≡_};
-ghost use mathlib.Core.Bool.{_&&_};
 ghost use Prim.Native.Nat.{_+_, _*_, _/_, _≤_, _<_, _^_};
 ghost use lib.Dec.{ltb};
 ghost use lib.ListN.{length, getD};
@@ -10,6 +9,7 @@ ghost use Rattle.obligation_spec.specs.Lists.{outcomesOf};
 ghost use Rattle.obligation_spec.specs.Limits.{before, risingOutcomes};
 ghost use Rattle.obligation_spec.specs.Calls.{askedOf};
 ghost use Rattle.obligation_check.specs.Inner.Boundary.{indexes, predicateHolds, Bounds, IsState, ClaimsStates, ClaimsOutcomes, noOutcome, outcomeFits, Checks};
+use lists::PartEnd;
 use model::AigerLatch;
 use model::Counts;
 use model::Verdict;
@@ -38,19 +38,12 @@ fn predicate_holds(pairs: &[u64], words: &[u32], n: u32) -> bool
     let mut end = 0;
     let mut i = 0;
     while i < count {
+        let PartEnd::At(next) = lists::pair_end(pairs, i, end, size) else {
+            return false;
+        };
         let offset = lists::index(pairs[2 * i]);
-        let length = lists::index(pairs[2 * i + 1]);
-        if offset < end {
-            return false;
-        }
-        if size < offset {
-            return false;
-        }
-        if size - offset < length {
-            return false;
-        }
-        end = offset + length;
-        if indexes_hold(&words[offset..end], n) {
+        if indexes_hold(&words[offset..next], n) {
+            end = next;
             i += 1;
         } else {
             return false;
@@ -60,7 +53,7 @@ fn predicate_holds(pairs: &[u64], words: &[u32], n: u32) -> bool
 }
 
 // Whether relevant inputs and predicate are right for a model of so many inputs: reason 13.
-pub fn validate_boundary(inputs: u64, relevant: &[u64], pairs: &[u64], words: &[u32]) -> bool
+fn validate_boundary(inputs: u64, relevant: &[u64], pairs: &[u64], words: &[u32]) -> bool
     ensures { λ r. ⌜ Bounds inputs (now (relevant .entry)) (now (pairs .entry)) (now (words .entry)) r ⌝ }
 {
     let count = relevant.len();

@@ -17,7 +17,7 @@ use Rattle.lists.proofs.MapLaws.{map-at}
 use Rattle.lists.proofs.OnceLaws.{member-append}
 use Rattle.lists.proofs.RestLaws.{take-next}
 use Rattle.lists.proofs.TestLaws.{each-map, each-so, each-at}
-use Rattle.cnf.specs.Simplified.{opposite, cnfWord, withoutFalse}
+use Rattle.cnf.specs.Simplified.{cnfWord, withoutFalse}
 use Rattle.cnf.specs.Inner.Appending.{Filled, Narrow}
 use Rattle.cnf.proofs.SignLaws.{opposite-is, without-append}
 use Rattle.obligation_spec.specs.Lists.{valued}

@@ -11,7 +11,7 @@ use Rattle.lists.proofs.MapLaws.{map-at}
 use Rattle.lists.proofs.PartLaws.{Copied, copied-none, copied-more, copied-done, put-put, part-drop}
 use Rattle.lists.proofs.TestLaws.{each-append, each-take}
 use Rattle.word_sort.specs.Inner.Sorted.{sorted}
-use Rattle.word_sort.proofs.SortedLaws.{sorted-length, each-sorted}
+use Rattle.word_sort.proofs.SortedLaws.{sorted-length}
 use Rattle.obligation_claims.specs.Inner.Claims.{keysFrom, observedKeys, outcomeKeys, LowKeys, LowLiterals}
 use Rattle.obligation_claims.specs.Inner.Filling.{InOrder}
 
@@ -135,15 +135,6 @@ outcome-low nexts observed h k e f =
     each-append (λ key. key < 2 ^ 39) (keysFrom 0 nexts) (observedKeys observed)
     (keys-low 0 nexts (omega arith) e)
     (observed-low observed k f)
-
--- .. and in order
-pub state-keys-low : (keys ls : List ℕ) → keys ≡ sorted (keysFrom 0 ls) → length ls ≤ 64 → LowLiterals ls → LowKeys keys
-state-keys-low keys ls e h f = rw e (each-sorted (λ key. key < 2 ^ 39) (keysFrom 0 ls) (keys-low 0 ls (omega arith) f))
-
-pub outcome-keys-low : (keys nexts observed : List ℕ) → keys ≡ sorted (outcomeKeys nexts observed) → length nexts ≤ 64 → length observed ≤ 128 → LowLiterals nexts → LowLiterals observed
-    → LowKeys keys
-outcome-keys-low keys nexts observed e h k f g =
-    rw e (each-sorted (λ key. key < 2 ^ 39) (outcomeKeys nexts observed) (outcome-low nexts observed h k f g))
 
 -- the part `&mut keys[..n]`, sorted and given back
 pub sorted-front : (o part : List ℕ) (n : ℕ) → n ≤ length o → part ≡ sorted (take n o) → take n (part ++ drop n o) ≡ sorted (take n o)

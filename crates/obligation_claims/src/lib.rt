@@ -4,9 +4,9 @@
 // which bit belongs to which literal, and each clause is filled nearly sorted.
 ghost use mathlib.Core.Path.{_≡_};
 ghost use mathlib.Core.Bool.{not};
-ghost use mathlib.Core.List.{[], _∷_, _++_, map};
+ghost use mathlib.Core.List.{[], _∷_, map};
 ghost use Prim.Native.Nat.{_+_, _/_, _%_, _≤_, _<_, _^_};
-ghost use lib.ListN.{length, getD, take, drop};
+ghost use lib.ListN.{length, getD, take};
 ghost use Rattle.lists.specs.Bits.{bit};
 ghost use Rattle.lists.specs.Parts.{put};
 ghost use Rattle.lists.specs.Sets.{holds};
@@ -24,7 +24,7 @@ pub enum Fill {
 }
 
 // Writes the keys of the literals, whose bits begin at `place`.
-pub fn add_keys(literals: &[u64], place: u64, keys: &mut [u64], at: usize)
+fn add_keys(literals: &[u64], place: u64, keys: &mut [u64], at: usize)
     requires { ⌜ (at + length (now literals) ≤ length (now keys)) × (place + length (now literals) ≤ 256) × LowLiterals (now literals) ⌝ }
     ensures { λ _. ⌜ now (keys .exit) ≡ put (now (keys .entry)) at (keysFrom place (now (literals .entry))) ⌝ }
 {

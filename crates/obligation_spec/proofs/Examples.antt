@@ -18,7 +18,7 @@ use Rattle.obligation_spec.specs.Lists.{relationClauses, transducerClaus
 use Rattle.obligation_spec.specs.Limits.{bounded, statesClaimed, outcomesClaimed}
 use Rattle.obligation_spec.specs.Calls.{Asked, Lent, relationRow, transducerRow, terminalList}
 use Rattle.obligation_spec.specs.Meaning.{InputWord, Meets}
-use Rattle.obligation_spec.proofs.RefuteLaws.{none, refuted}
+use Rattle.obligation_spec.proofs.RefuteLaws.{refuted}
 use Rattle.obligation_spec.proofs.Table.{plain, enough, modelW, modelZ}
 
 -- K with a predicate over its input: word 1 is the input, word 0 its negation

@@ -24,17 +24,12 @@ pub fn words(out: &mut [u8], at: usize, list: &[u64]) -> usize {
     to
 }
 
-// A literal as a wider number.
-fn wide(x: u32) -> u64 {
-    x as u64
-}
-
 // Prints literals, each with a space in front.
-pub fn literals(out: &mut [u8], at: usize, list: &[u32]) -> usize {
+fn literals(out: &mut [u8], at: usize, list: &[u32]) -> usize {
     let mut to = at;
     let mut i = 0;
     while i < list.len() {
-        to = number(out, to, wide(list[i]));
+        to = number(out, to, lists::wide(list[i]));
         i += 1;
     }
     to

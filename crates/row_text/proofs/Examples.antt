@@ -1,7 +1,6 @@
 -- Worked examples of the row program's definitions : the first line, and 01's example.
 use mathlib.Core.Path.{_≡_, refl}
 use mathlib.Core.List.{[], _∷_}
-use lib.ListN.{length}
 use Rattle.lists.specs.Quoted.{bytes}
 use Rattle.lists.specs.Answer.{got, refused}
 use Rattle.text.specs.Numbers.{numberOf}

@@ -3,9 +3,9 @@ use Prim.Native.Nat.{ℕ, _+_, _≤_, _<_, _^_}
 use mathlib.Core.Path.{_≡_, refl, sym, ap, _∙_}
 use mathlib.Core.List.{[], _∷_, _++_}
 use native.Mathlib.Omega.{arith}
-use lib.ListN.{length, take, length-append}
+use lib.ListN.{length, length-append}
 use Rattle.lists.specs.Parts.{Bytes, put}
-use Rattle.lists.proofs.PartLaws.{put-none, put-put, put-length, put-take-end}
+use Rattle.lists.proofs.PartLaws.{put-none, put-put, put-length}
 use Rattle.text_decimal.specs.declared.Written.{Written}
 use Rattle.text_decimal.specs.declared.Written.the-variants.{Next, NoRoom}
 use Rattle.text_decimal.specs.Decimal.{decimal}
@@ -26,10 +26,6 @@ wrote-both o at a o₁ n₁ b o₂ n₂ w v =
 
 pub wrote-length : (o : Bytes) (at : ℕ) (bytes o′ : Bytes) (n : ℕ) → Wrote o at bytes o′ n → length o′ ≡ length o
 wrote-length o at bytes o′ n w = ap length (w .is) ∙ put-length o at bytes (omega (arith, w .after, w .fits))
-
--- the bytes in front of a buffer
-pub wrote-front : (o bytes o′ : Bytes) (n : ℕ) → Wrote o 0 bytes o′ n → take n o′ ≡ bytes
-wrote-front o bytes o′ n w = ap (λ (k : ℕ). take k o′) (w .after) ∙ ap (take (0 + length bytes)) (w .is) ∙ put-take-end o 0 bytes (omega arith)
 
 -- bytes and then the digits of a word, where there is room
 module _ (o : Bytes) (at : ℕ) (bytes : Bytes) (n : ℕ) (room : at + (length bytes + 20) ≤ length o) (word : n < 2 ^ 64) (o₁ : Bytes) (r₁ : Written) (e₁ : r₁ ≡ writtenAt (length o) at bytes) (k₁ : o₁ ≡ written o at bytes) where

@@ -89,12 +89,6 @@ store s count v h (refused n) = refl
 
 module _ (l : Bytes) (s₀ s : List ℕ) (count at : ℕ) (k : Taking l s₀ s count at) where
   module _ (h : at ≤ length l) (e : ℕ) (q : e ≡ at + span inPiece (drop at l)) where
-    pub taking-room : count < length s
-    taking-room = omega (arith, k .few, k .room, k .same)
-
-    pub piece-before : at ≤ e
-    piece-before = omega arith
-
     pub piece-within : e ≤ length l
     piece-within = omega (arith, span-within inPiece l at h)
 

@@ -58,13 +58,6 @@ fn read_numbers(line: &[u8], numbers: &mut [u64]) -> Numbers
     Numbers::Count(count)
 }
 
-// A literal's word as a wider number.
-fn wide(x: u32) -> u64
-    ensures { λ r. ⌜ r ≡ x ⌝ }
-{
-    x as u64
-}
-
 // Writes some bytes and then the digits of a number, which has at most 20.
 fn write_number(out: &mut [u8], at: usize, before: &[u8], n: u64) -> usize
     requires { ⌜ at + (length (now before) + 20) ≤ length (now out) ⌝ }
@@ -87,7 +80,7 @@ fn write_words(out: &mut [u8], at: usize, words: &[u32]) -> usize
     let mut to = at;
     let mut i = 0;
     while i < words.len() {
-        to = write_number(out, to, b" ", wide(words[i]));
+        to = write_number(out, to, b" ", lists::wide(words[i]));
         i += 1;
     }
     to

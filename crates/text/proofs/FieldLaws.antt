@@ -136,9 +136,6 @@ module _ (l : List ℕ) (at : ℕ) (r : Field) (q : r ≡ fieldAt l at) where
     pub field-ordered : a ≤ e
     field-ordered = omega (arith, found .some-byte)
 
-    pub field-after : at ≤ a
-    field-after = found .after
-
     pub field-within : e ≤ length l
     field-within = found .within
 

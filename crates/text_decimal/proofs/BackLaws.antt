@@ -6,7 +6,7 @@ use mathlib.Core.List.{List, [], _∷_, _++_, map}
 use mathlib.Core.Option.{some}
 use Rattle.lists.specs.Parts.{Bytes}
 use Rattle.lists.specs.Tests.{all, Each}
-use Rattle.lists.proofs.TestLaws.{all-append, each-map}
+use Rattle.lists.proofs.TestLaws.{all-append}
 use Rattle.scan.specs.Spans.{inLine}
 use Rattle.scan.specs.Allowed.{endsIn10}
 use Rattle.text.specs.declared.Reader.{Reader}
@@ -18,7 +18,7 @@ use Rattle.text.proofs.LineLaws.{line-in-front}
 use Rattle.text_decimal.specs.Decimal.{decimal}
 use Rattle.text_decimal.specs.Printed.{spaced, numberLine, textOf}
 use Rattle.text_decimal.proofs.DecimalLaws.{decimal-not-empty}
-use Rattle.text_decimal.proofs.ReadLaws.{decimal-in-field, decimal-in-line, decimal-read}
+use Rattle.text_decimal.proofs.ReadLaws.{decimal-in-field, decimal-read}
 
 -- ---- fields
 
@@ -60,13 +60,6 @@ module _ (p : ℕ → Bool) where
   pub text-all : p 10 ≡ true → (ls : List Bytes) → Each (λ l. all p l ≡ true) ls → all p (textOf ls) ≡ true
   text-all s [] e = refl
   text-all s (l ∷ ls) e = all-append p l (10 ∷ textOf ls) ∙ rw (e .0, s, text-all s ls (e .1))
-
-pub number-line-plain : (ns : List ℕ) → all inLine (numberLine ns) ≡ true
-number-line-plain ns = spaced-all inLine refl (map decimal ns) (each-map decimal (λ f. all inLine f ≡ true) ns (all-numbers ns))
-  where
-    all-numbers : (ms : List ℕ) → Each (λ m. all inLine (decimal m) ≡ true) ms
-    all-numbers [] = tt
-    all-numbers (m ∷ ms) = (decimal-in-line m, all-numbers ms)
 
 -- ---- the end: a printed text of at least one line ends in byte 10
 

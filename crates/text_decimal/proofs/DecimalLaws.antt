@@ -121,11 +121,3 @@ decimal-lead =
 
 pub decimal-zero : decimal 0 ≡ 48 ∷ []
 decimal-zero = decimal-one 0 (omega arith)
-
--- a number whose digits begin with 0 is 0
-pub decimal-begins : (n : ℕ) (bs : Bytes) → decimal n ≡ 48 ∷ bs → n ≡ 0
-decimal-begins zero bs e = refl
-decimal-begins (suc n) bs e =
-    let r = decimal-lead (suc n) (omega arith) in
-    let same : r .first ≡ 48 = cc (r .split, e) in
-    absurd (omega (arith, r .above))

@@ -127,7 +127,7 @@ pub fn print_number(out: &mut [u8], at: usize, n: u64) -> usize
 }
 
 // Prints a line of one number.
-pub fn print_literal_line(out: &mut [u8], at: usize, x: u64) -> usize
+fn print_literal_line(out: &mut [u8], at: usize, x: u64) -> usize
     ensures { λ r. ⌜ Prints (now (out .entry)) at (numberLine (x ∷ []) ++ 10 ∷ []) (now (out .exit)) r ⌝ }
 {
     let size = digit_count(x);
@@ -208,9 +208,7 @@ pub fn print_pairs(out: &mut [u8], at: usize, first: u64, words: &[u64]) -> usiz
     requires { ⌜ 2 * (first + length (now words)) < 2 ^ 63 ⌝ }
     ensures { λ r. ⌜ Prints (now (out .entry)) at (textOf (gateLines first (now (words .entry)))) (now (out .exit)) r ⌝ }
 {
-    let pairs =
-        b"00010203040506070809101112131415161718192021222324252627282930313233343536373839404142434445464748495051525354555657585960616263646566676869707172737475767778798081828384858687888990919293949596979899";
-    print_gates_with(out, at, first, words, pairs)
+    print_gates_with(out, at, first, words, &PAIRS)
 }
 
 // Prints a line for each bit that is set in word j; the numbers of its bits begin at 64 * j. Zeros are passed over eight at a time where they can be.

@@ -68,16 +68,18 @@ module _ (n : AagCounts) (k : ℕ) (x y : ℕ) (o : List ℕ) (g : length o ≡ 
 
 module _ (s : Bytes) (a e : ℕ) (n : AagCounts) (h : 0 < a) (g : a ≤ e) (f : e ≤ length s) where
   -- the words of a name that begins at a place of the line
-  said : (name m : ℕ) → m ≡ min name (e - a) → nameFrom s (a + m) (e - (a + m)) ≡ some (some (drop name (part s a e)))
-  said name m q =
+  said : (name b : ℕ) → b ≡ min (a + name) e → nameFrom s b (e - b) ≡ some (some (drop name (part s a e)))
+  said name b q =
       let size : length (part s a e) ≡ e - a = part-length s a e f in
-      let end : a + m + (e - (a + m)) ≡ e = omega arith in
+      let end : b + (e - b) ≡ e = omega arith in
+      let back : b ≡ a + (b - a) = omega arith in
       let whole : a + length (part s a e) ≡ e = omega (arith, size) in
-      let least : m ≡ min name (length (part s a e)) = q ∙ ap (min name) (sym size) in
-      rw (ne-eqb (a + m) 0 (λ z. omega arith), end, le-leb e (length s) f)
-      (ap (λ (b : Bytes). some (some b))
-      (sym (part-of-part s a e m (length (part s a e)) (omega arith) ∙ ap (part s (a + m)) whole)
-      ∙ part-drop (part s a e) m
+      let least : b - a ≡ min name (length (part s a e)) = omega (arith, size) in
+      rw (ne-eqb b 0 (λ z. omega arith), end, le-leb e (length s) f)
+      (ap (λ (t : Bytes). some (some t))
+      (ap (λ (j : ℕ). part s j e) back
+      ∙ sym (part-of-part s a e (b - a) (length (part s a e)) (omega arith) ∙ ap (part s (a + (b - a))) whole)
+      ∙ part-drop (part s a e) (b - a)
       ∙ ap (λ (j : ℕ). drop j (part s a e)) least
       ∙ drop-min name (part s a e)))
 
@@ -92,14 +94,14 @@ module _ (s : Bytes) (a e : ℕ) (n : AagCounts) (o : List ℕ) (x : SymbolLine)
     pub line-below : k < countOf n z
     line-below = symbol-below n (part s a e) (record { kind = z; index = k; name = drop name (part s a e) }) named
 
-    pub line-named : 0 < a → a ≤ e → e ≤ length s → length o ≡ leafWords n → (m : ℕ) → m ≡ min name (e - a)
-        → (o' : List ℕ) → o' ≡ withWords n z k ((a + m) ∷ (e - (a + m)) ∷ []) o → NamesLine s (part s a e) n o o' true
-    line-named h g f w m j o' v =
+    pub line-named : 0 < a → a ≤ e → e ≤ length s → length o ≡ leafWords n → (b : ℕ) → b ≡ min (a + name) e
+        → (o' : List ℕ) → o' ≡ withWords n z k (b ∷ (e - b) ∷ []) o → NamesLine s (part s a e) n o o' true
+    line-named h g f w b j o' v =
         record {
           symbol = record { kind = z; index = k; name = drop name (part s a e) };
           is = named;
-          same = ap length v ∙ same-length n k (a + m) (e - (a + m)) o w z line-below;
+          same = ap length v ∙ same-length n k b (e - b) o w z line-below;
           names =
               ap (pairsOf (nameFrom s)) v
-              ∙ pairs-stored n k (a + m) (e - (a + m)) o w (nameFrom s) z line-below (some (some (drop name (part s a e)))) (said s a e n h g f name m j);
+              ∙ pairs-stored n k b (e - b) o w (nameFrom s) z line-below (some (some (drop name (part s a e)))) (said s a e n h g f name b j);
         }

@@ -2,7 +2,7 @@
 ghost use mathlib.Core.Bool.{true};
 ghost use mathlib.Core.List.{[], _∷_};
 ghost use mathlib.Core.Path.{_≡_};
-ghost use Prim.Native.Nat.{_+_, _*_, _≤_, _<_, min};
+ghost use Prim.Native.Nat.{_+_, _*_, _≤_, _<_};
 ghost use lib.Dec.{leb};
 ghost use lib.ListN.{length, drop};
 ghost use Rattle.lists.specs.Parts.{part, put, zeros};
@@ -124,15 +124,6 @@ fn load_body(s: &[u8], cursor: Cursor, counts: AagCounts, out: &mut [u64], at: u
     load_rest(s, rest, counts, out, at + 2 * counts.latches)
 }
 
-fn least(a: usize, b: usize) -> usize
-    ensures { λ r. ⌜ r ≡ min a b ⌝ }
-{
-    if a < b {
-        return a;
-    }
-    b
-}
-
 // Two words of an input or a latch; the other kinds have none.
 fn store_leaf(counts: AagCounts, kind: Kind, index: usize, x: u64, y: u64, out: &mut [u64])
     requires { ⌜ (index < countOf counts kind) × (length (now out) ≡ leafWords counts) ⌝ }
@@ -156,7 +147,7 @@ fn name_line(s: &[u8], start: usize, end: usize, counts: AagCounts, out: &mut [u
     let SymbolLine::Named { kind, index, name } = witness_text::symbol_line(l, counts) else {
         return false;
     };
-    let at = start + least(name, end - start);
+    let at = scan::block_end(end, start, name);
     store_leaf(counts, kind, index, at as u64, (end - at) as u64, out);
     true
 }

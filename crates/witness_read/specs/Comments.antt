@@ -1,6 +1,6 @@
 -- 10 of 01: "A witness comment's first field is `MAPPING` or `INTERVENTION`".
 use mathlib.Core.Bool.{Bool, true, false, not, _||_}
-use mathlib.Core.List.{List, [], _∷_}
+use mathlib.Core.List.{List}
 use Rattle.lists.specs.Quoted.{bytes}
 use Rattle.lists.specs.Parts.{Bytes}
 use Rattle.lists.specs.Tests.{all}

@@ -1,5 +1,5 @@
 // The lines after the gates: symbols (9) and comments (10).
-ghost use mathlib.Core.Bool.{true, not};
+ghost use mathlib.Core.Bool.{true};
 ghost use mathlib.Core.Path.{_≡_};
 ghost use Prim.Native.Nat.{_+_, _≤_, _<_};
 ghost use Rattle.text.specs.Texts.{limited};

@@ -19,7 +19,7 @@ use Rattle.circuit_lines.specs.SectionLines.{firstNumbers}
 use Rattle.circuit_lines.specs.Inner.OneLine.{atMost}
 use Rattle.circuit_lines.specs.Inner.Takes.{Headed, TakesHeaderNumbers}
 use Rattle.witness_text.specs.declared.AagCounts.{AagCounts}
-use Rattle.witness_text.specs.Header.{countsFrom, fiveToNine, headerOf}
+use Rattle.witness_text.specs.Header.{countsFrom, fiveToNine}
 use Rattle.witness_text.specs.Inner.Takes.{TakesCounts}
 use Rattle.circuit_lines.specs.declared.HeaderCount.the-variants as numbers
 use Rattle.witness_text.specs.declared.WitnessHeader.the-variants as header

@@ -175,7 +175,7 @@ pub fn ends_symbols(l: &[u8]) -> bool
 }
 
 // How many of a kind there are.
-pub fn count_of(counts: AagCounts, kind: Kind) -> usize
+fn count_of(counts: AagCounts, kind: Kind) -> usize
     ensures { λ r. ⌜ r ≡ countOf counts kind ⌝ }
 {
     match kind {

@@ -1,9 +1,9 @@
 -- For the contracts of the composer's inner functions: what each of them answers.
 use Prim.Native.Nat.{ℕ, _+_, _-_, _/_, _≤_}
-use mathlib.Core.Bool.{Bool, true, cond, _&&_}
+use mathlib.Core.Bool.{Bool, true, cond}
 use mathlib.Core.List.{List}
 use mathlib.Core.Path.{_≡_}
-use lib.Dec.{leb, ltb}
+use lib.Dec.{ltb}
 use lib.ListN.{length}
 use Rattle.lists.specs.Answer.{Answer, andThen}
 use Rattle.lists.specs.Parts.{Bytes}
@@ -23,13 +23,7 @@ use Rattle.text_print.specs.Inner.Prints.{capped}
 use Rattle.compose_merge.specs.declared.Merged.{Merged}
 use Rattle.compose_print.specs.Inner.Written.{Printable}
 use Rattle.compose.specs.declared.Composed.{Composed}
-use Rattle.compose.specs.declared.PartEnd.{PartEnd}
-use Rattle.compose.specs.declared.PartEnd.the-variants as part
 use Rattle.compose.specs.Promise.{composedAnswer, resultBytes}
-
--- where a part ends: 2 asks that it starts at the end of the one ahead or later and ends within the buffer
-abbrev pub partEnd : ℕ → ℕ → ℕ → ℕ → PartEnd
-partEnd end start size most = cond (leb end start && leb (start + size) most) (part.At (start + size)) part.Outside
 
 -- how many units of 16 words there are behind the first 1,024, and one more; 0 where there are fewer words
 abbrev pub firstRoom : ℕ → ℕ

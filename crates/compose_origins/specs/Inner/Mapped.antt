@@ -18,7 +18,6 @@ use Rattle.compose_spec.specs.Mapping.{isMapped, mapsByName, mappingOf}
 use Rattle.compose_spec.specs.Composing.{leavesRight}
 use Rattle.compose_joint.specs.declared.Before.{Before}
 use Rattle.compose_joint.specs.declared.Leaves.{Leaves}
-use Rattle.compose_joint.specs.declared.Leaves.the-variants as leaf
 use Rattle.compose_joint.specs.Inner.Joint.{totalOf, gathered, namesOf, originsFrom}
 use Rattle.compose_gather.specs.Inner.Counts.{leafCounts}
 use Rattle.compose_gather.specs.Inner.Gathered.{wordsFor, Block, Readable, CanGather, leafCountOf}

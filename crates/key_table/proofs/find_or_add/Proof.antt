@@ -6,9 +6,6 @@ use Rattle.key_table.proofs.AddLaws.{finds-known, finds-new}
 use borrow.Author.Needs.{needs}
 use Rattle.key_table.proofs.find_or_add.Statement.{statement}
 use Rattle.key_table.proofs.find_or_add.Tie as tie
-use Rattle.lists.proofs.index.Reads as index-reads
-use Rattle.key_table.proofs.add.Reads as add-reads
-use Rattle.key_table.proofs.walk.Reads as walk-reads
 
 -- the search ends within the table
 within : (c : tie.After-walk) → c .walk .result < length (c .before .before .before .args .table .now)

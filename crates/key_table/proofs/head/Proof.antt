@@ -6,7 +6,6 @@ use Rattle.key_table.proofs.HashLaws.{product-fits}
 use borrow.Author.Needs.{needs}
 use Rattle.key_table.proofs.head.Statement.{statement}
 use Rattle.key_table.proofs.head.Tie as tie
-use Rattle.lists.proofs.index.Reads as index-reads
 
 mul-result : tie.Need-mul-result
 mul-result c = record { fits = product-fits (c .index .result) (c .before .args .heads) (omega (arith, c .index .ensures)) (c .before .pre) }

@@ -6,10 +6,6 @@ use Rattle.key_table.proofs.HeldLaws.{Ahead, comes-none, comes-within, 
 use borrow.Author.Needs.{needs}
 use Rattle.key_table.proofs.walk.Statement.{statement}
 use Rattle.key_table.proofs.walk.Tie as tie
-use Rattle.lists.proofs.index.Reads as index-reads
-use Rattle.key_table.proofs.head.Reads as head-reads
-use Rattle.key_table.proofs.mix.Reads as mix-reads
-use Rattle.key_table.proofs.turn.Reads as turn-reads
 
 abbrev Inv-loop : tie.InvT-loop
 Inv-loop table heads key mixed at₀ code₀ at code = Comes heads key table at code

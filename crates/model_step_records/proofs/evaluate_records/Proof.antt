@@ -64,7 +64,7 @@ use Rattle.model_step.proofs.Stepped.Laws as S′
 use Rattle.model_step_records.specs.declared.Pass.{Pass}
 use Rattle.model_step_records.specs.Inner.Passing.{left, Stands, Begins, Taking, Takes, Ending, Finishes}
 use Rattle.model_step_records.proofs.Again.{LentAgain, lends-again, comes-back}
-use Rattle.model_step_records.proofs.PassLaws.{here-same}
+use Rattle.lists.proofs.RestLaws.{here-same}
 use Rattle.model_step_records.proofs.Pass as P
 use Rattle.model_step_records.proofs.Pass.Laws as P′
 use Rattle.model_step_records.proofs.begin as begin

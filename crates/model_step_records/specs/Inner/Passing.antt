@@ -1,22 +1,22 @@
 -- For the contracts of inner functions: how far the records are gone through, and what holds of the work words then.
 use Prim.Native.Nat.{ℕ, _+_, _-_, _≤_, _<_}
 use mathlib.Core.Bool.{true, false, cond}
-use mathlib.Core.List.{List, map}
+use mathlib.Core.List.{List}
 use mathlib.Core.Path.{_≡_}
 use lib.ListN.{length, getD, take}
 use Rattle.lists.specs.Answer.{got, refused}
-use Rattle.lists.specs.Bits.{bits}
 use Rattle.lists.specs.Parts.{zeros}
 use Rattle.lists.specs.Words.{wordsOf}
 use Rattle.aiger.specs.declared.Gate.{Gate}
-use Rattle.aiger.specs.Gates.{Valuation, gateWords}
+use Rattle.aiger.specs.Gates.{gateWords}
 use Rattle.model.specs.declared.AigerTransition.{AigerTransition}
-use Rattle.model.specs.Circuit.{circuitOf, currentOf}
+use Rattle.model.specs.Circuit.{circuitOf}
 use Rattle.model.specs.Checked.{checked, countsOf}
 use Rattle.model.specs.Inner.Marking.{Marking, leavesFrom, limits}
 use Rattle.model_step.specs.declared.Stepped.{Stepped}
-use Rattle.model_step.specs.Step.{start, assigned, computed, stepValues, outcomeUnder, stepOf, answerOf}
+use Rattle.model_step.specs.Step.{computed, stepValues, outcomeUnder, stepOf, answerOf}
 use Rattle.model_step.specs.Inner.Stored.{Stored}
+use Rattle.model_step.specs.Inner.Runnable.{loaded}
 use Rattle.model_step_records.specs.declared.Pass.{Pass}
 
 -- no record is left, for this reason
@@ -30,14 +30,6 @@ further p = record { count = p .count; at = p .at + 1; most = p .most; values = 
 -- how many records are still to be taken, at most
 abbrev pub left : Pass → ℕ
 left p = cond (p .values) 0 (p .count) + (p .count - p .at)
-
--- the values when the state and the input word are loaded
-abbrev pub loaded : AigerTransition → ℕ → ℕ → Valuation
-loaded m s x =
-    assigned
-    (assigned start (take (m .«latch_count») (map currentOf (m .latches))) (bits (length (take (m .«latch_count») (map currentOf (m .latches)))) s))
-    (take (m .«input_count») (m .inputs))
-    (bits (length (take (m .«input_count») (m .inputs))) x)
 
 module _ (m : AigerTransition) (gs : List Gate) (w : ℕ) where
   -- the record and these gates are a model, for w work words

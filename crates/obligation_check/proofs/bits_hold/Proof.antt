@@ -5,7 +5,6 @@ use Rattle.lists.proofs.BitLaws.{high-fits, high-beyond}
 use borrow.Author.Needs.{needs}
 use Rattle.obligation_check.proofs.bits_hold.Statement.{statement}
 use Rattle.obligation_check.proofs.bits_hold.Tie as tie
-use Rattle.lists.proofs.fits.Reads as fits-reads
 
 returns : tie.Need-returns
 returns c = let a = c .before .before .args in

@@ -4,8 +4,6 @@ use Rattle.model.specs.Circuit.{recordFrom}
 use borrow.Author.Needs.{needs}
 use Rattle.obligation_check.proofs.check.Statement.{statement}
 use Rattle.obligation_check.proofs.check.Tie as tie
-use Rattle.obligation_check.proofs.validate_boundary.Reads as validate-boundary-reads
-use Rattle.model.proofs.validate_parts.Reads as validate-parts-reads
 
 -- what is asked
 abbrev question : tie.Start → Asked

@@ -2,7 +2,6 @@ use native.Mathlib.Omega.{arith}
 use Rattle.obligation_check.proofs.BoundaryLaws.{state-is}
 use Rattle.obligation_check.proofs.is_state.Statement.{statement}
 use Rattle.obligation_check.proofs.is_state.Tie as tie
-use Rattle.lists.proofs.fits.Reads as fits-reads
 
 fits-requires : tie.Need-fits-requires
 fits-requires c κs = omega arith

@@ -3,10 +3,6 @@ use Rattle.obligation_check.proofs.OutcomeLaws.{not-rising, not-outputs
 use borrow.Author.Needs.{needs}
 use Rattle.obligation_check.proofs.outcomes_claimed.Statement.{statement}
 use Rattle.obligation_check.proofs.outcomes_claimed.Tie as tie
-use Rattle.obligation_check.proofs.outcomes_fit.Reads as outcomes-fit-reads
-use Rattle.obligation_check.proofs.outcomes_rise.Reads as outcomes-rise-reads
-use Rattle.lists.proofs.below.Reads as below-reads
-use Rattle.lists.proofs.rises.Reads as rises-reads
 
 returns : tie.Need-returns
 returns c = let s = c .before .before .before .before in

@@ -8,9 +8,6 @@ use Rattle.obligation_check.proofs.OutcomeLaws.{target-stop, bits-stop,
 use borrow.Author.Needs.{needs}
 use Rattle.obligation_check.proofs.outcomes_fit.Statement.{statement}
 use Rattle.obligation_check.proofs.outcomes_fit.Tie as tie
-use Rattle.obligation_check.proofs.bits_hold.Reads as bits-hold-reads
-use Rattle.obligation_check.proofs.outcome_at.Reads as outcome-at-reads
-use Rattle.obligation_check.proofs.states.Reads as states-reads
 
 abbrev Inv-loop : tie.InvT-loop
 Inv-loop words latches n count top i₀ i = all (outcomeFits latches n) (outcomesOf words) ≡ all (outcomeFits latches n) (drop i (outcomesOf words))

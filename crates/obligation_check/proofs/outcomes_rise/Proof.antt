@@ -8,8 +8,6 @@ use Rattle.obligation_check.proofs.OutcomeLaws.{outcomes-fall, outcomes
 use borrow.Author.Needs.{needs}
 use Rattle.obligation_check.proofs.outcomes_rise.Statement.{statement}
 use Rattle.obligation_check.proofs.outcomes_rise.Tie as tie
-use Rattle.obligation_check.proofs.comes_before.Reads as comes-before-reads
-use Rattle.obligation_check.proofs.outcome_at.Reads as outcome-at-reads
 
 abbrev Inv-loop : tie.InvT-loop
 Inv-loop words count i₀ i = (risingOutcomes (outcomesOf words) ≡ risingOutcomes (drop (i - 1) (outcomesOf words))) × (0 < i)

@@ -2,9 +2,6 @@ use Rattle.obligation_check.proofs.BoundaryLaws.{states-fall, states-ri
 use borrow.Author.Needs.{needs}
 use Rattle.obligation_check.proofs.states_claimed.Statement.{statement}
 use Rattle.obligation_check.proofs.states_claimed.Tie as tie
-use Rattle.obligation_check.proofs.states.Reads as states-reads
-use Rattle.lists.proofs.below.Reads as below-reads
-use Rattle.lists.proofs.rises.Reads as rises-reads
 
 returns : tie.Need-returns
 returns c = search states-rise

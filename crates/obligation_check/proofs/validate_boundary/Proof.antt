@@ -3,10 +3,6 @@ use Rattle.obligation_check.proofs.BoundaryLaws.{too-many-relevant, not
 use borrow.Author.Needs.{needs}
 use Rattle.obligation_check.proofs.validate_boundary.Statement.{statement}
 use Rattle.obligation_check.proofs.validate_boundary.Tie as tie
-use Rattle.obligation_check.proofs.predicate_holds.Reads as predicate-holds-reads
-use Rattle.lists.proofs.below.Reads as below-reads
-use Rattle.lists.proofs.lengths_within.Reads as lengths-within-reads
-use Rattle.lists.proofs.rises.Reads as rises-reads
 
 returns : tie.Need-returns
 returns c = search too-many-relevant

@@ -8,7 +8,6 @@ use lib.ListN.{length}
 use Rattle.lists.specs.Parts.{zeros}
 use Rattle.lists.specs.Tests.{all}
 use Rattle.lists.specs.Words.{inOrder}
-use Rattle.model.specs.declared.AigerTransition.{AigerTransition}
 use Rattle.model.specs.declared.Verdict.{Verdict}
 use Rattle.model.specs.Circuit.{Circuit}
 use Rattle.model.specs.Checked.{judged}

@@ -2,8 +2,6 @@ use Rattle.obligation_claims.proofs.KeyLaws.{outcome-put}
 use borrow.Author.Needs.{needs}
 use Rattle.obligation_claims.proofs.add_outcome_keys.Statement.{statement}
 use Rattle.obligation_claims.proofs.add_outcome_keys.Tie as tie
-use Rattle.obligation_claims.proofs.add_keys.Reads as add-keys-reads
-use Rattle.obligation_claims.proofs.observed_keys.Reads as observed-keys-reads
 
 returns : tie.Need-returns
 returns c =

@@ -2,7 +2,6 @@ use Rattle.obligation_claims.proofs.PushLaws.{fits-few}
 use borrow.Author.Needs.{needs}
 use Rattle.obligation_claims.proofs.append_outcomes.Statement.{statement}
 use Rattle.obligation_claims.proofs.append_outcomes.Tie as tie
-use Rattle.obligation_claims.proofs.push_outcomes.Reads as push-outcomes-reads
 
 push-outcomes-requires : tie.Need-push-outcomes-requires
 push-outcomes-requires c κs =

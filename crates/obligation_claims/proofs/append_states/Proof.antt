@@ -2,7 +2,6 @@ use Rattle.obligation_claims.proofs.PushLaws.{fits-few}
 use borrow.Author.Needs.{needs}
 use Rattle.obligation_claims.proofs.append_states.Statement.{statement}
 use Rattle.obligation_claims.proofs.append_states.Tie as tie
-use Rattle.obligation_claims.proofs.push_states.Reads as push-states-reads
 
 push-states-requires : tie.Need-push-states-requires
 push-states-requires c κs =

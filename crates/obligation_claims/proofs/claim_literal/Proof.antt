@@ -3,8 +3,6 @@ use Rattle.obligation_claims.proofs.FillLaws.{bit-low, literal-turned}
 use borrow.Author.Needs.{needs}
 use Rattle.obligation_claims.proofs.claim_literal.Statement.{statement}
 use Rattle.obligation_claims.proofs.claim_literal.Tie as tie
-use Rattle.obligation_claims.proofs.claim_bit.Reads as claim-bit-reads
-use Rattle.lists.proofs.index.Reads as index-reads
 
 add-result : tie.Need-add-result
 add-result c = let s = c .before .before .before in

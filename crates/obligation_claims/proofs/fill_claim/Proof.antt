@@ -5,8 +5,6 @@ use Rattle.obligation_claims.proofs.FillLaws.{Filling, filling-none, cl
 use borrow.Author.Needs.{needs}
 use Rattle.obligation_claims.proofs.fill_claim.Statement.{statement}
 use Rattle.obligation_claims.proofs.fill_claim.Tie as tie
-use Rattle.obligation_claims.proofs.claim_literal.Reads as claim-literal-reads
-use Rattle.cnf.proofs.word.Reads as word-reads
 
 abbrev Inv-loop : tie.InvT-loop
 Inv-loop keys claim list₀ n₀ i₀ list n i = Filling (claimList keys claim) list₀ list i n

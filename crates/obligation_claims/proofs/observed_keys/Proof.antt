@@ -3,9 +3,6 @@ use Rattle.obligation_claims.proofs.KeyLaws.{halves-few, halves-length,
 use borrow.Author.Needs.{needs}
 use Rattle.obligation_claims.proofs.observed_keys.Statement.{statement}
 use Rattle.obligation_claims.proofs.observed_keys.Tie as tie
-use Rattle.obligation_claims.proofs.add_keys.Reads as add-keys-reads
-use Rattle.lists.proofs.cut.Reads as cut-reads
-use Rattle.lists.proofs.first.Reads as first-reads
 
 add-keys-requires : tie.Need-add-keys-requires
 add-keys-requires c κs =

@@ -5,8 +5,6 @@ use Rattle.obligation_claims.proofs.KeyLaws.{picked, picking-none, pick
 use borrow.Author.Needs.{needs}
 use Rattle.obligation_claims.proofs.observed_literals.Statement.{statement}
 use Rattle.obligation_claims.proofs.observed_literals.Tie as tie
-use Rattle.lists.proofs.index.Reads as index-reads
-use Rattle.lists.proofs.word.Reads as word-reads
 
 abbrev Inv-loop : tie.InvT-loop
 Inv-loop outputs observed out₀ i₀ out i = Copied out₀ 0 (picked outputs observed) out i

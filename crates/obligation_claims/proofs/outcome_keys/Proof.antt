@@ -3,10 +3,6 @@ use Rattle.obligation_claims.proofs.KeyLaws.{picked, picked-back, picke
 use borrow.Author.Needs.{needs}
 use Rattle.obligation_claims.proofs.outcome_keys.Statement.{statement}
 use Rattle.obligation_claims.proofs.outcome_keys.Tie as tie
-use Rattle.obligation_claims.proofs.add_outcome_keys.Reads as add-outcome-keys-reads
-use Rattle.obligation_claims.proofs.observed_literals.Reads as observed-literals-reads
-use Rattle.obligation_claims.proofs.sort_first.Reads as sort-first-reads
-use Rattle.lists.proofs.first.Reads as first-reads
 
 add-outcome-keys-requires : tie.Need-add-outcome-keys-requires
 add-outcome-keys-requires c κs =

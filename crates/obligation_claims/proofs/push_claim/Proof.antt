@@ -5,9 +5,6 @@ use Rattle.obligation_claims.proofs.PushLaws.{claim-dropped, claim-word
 use borrow.Author.Needs.{needs}
 use Rattle.obligation_claims.proofs.push_claim.Statement.{statement}
 use Rattle.obligation_claims.proofs.push_claim.Tie as tie
-use Rattle.obligation_claims.proofs.fill_claim.Reads as fill-claim-reads
-use Rattle.obligation_claims.proofs.push_few.Reads as push-few-reads
-use Rattle.cnf.proofs.push_simplified.Reads as push-simplified-reads
 
 push-few-requires : tie.Need-push-few-requires
 push-few-requires c κs =

@@ -7,8 +7,6 @@ use Rattle.obligation_claims.proofs.PushLaws.{three, few-none, few-more
 use borrow.Author.Needs.{needs}
 use Rattle.obligation_claims.proofs.push_few.Statement.{statement}
 use Rattle.obligation_claims.proofs.push_few.Tie as tie
-use Rattle.obligation_claims.proofs.claim_literal.Reads as claim-literal-reads
-use Rattle.cnf.proofs.push_short.Reads as push-short-reads
 
 abbrev Inv-loop : tie.InvT-loop
 Inv-loop keys claim pairs literals at clause₀ i₀ clause i = Copied three 0 (claimList keys claim) clause i

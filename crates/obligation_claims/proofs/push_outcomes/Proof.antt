@@ -4,7 +4,6 @@ use Rattle.obligation_claims.proofs.PushLaws.{Pushing, pushing-none, pu
 use borrow.Author.Needs.{needs}
 use Rattle.obligation_claims.proofs.push_outcomes.Statement.{statement}
 use Rattle.obligation_claims.proofs.push_outcomes.Tie as tie
-use Rattle.obligation_claims.proofs.push_claim.Reads as push-claim-reads
 
 abbrev Inv-loop : tie.InvT-loop
 Inv-loop keys words list₀ work₀ pairs₀ literals₀ count appended₀ i₀ list work pairs literals appended i = Pushing (outcomeClaims keys words) keys appended₀ list₀ work₀ pairs₀ literals₀ appended list work pairs literals i

@@ -5,7 +5,6 @@ use Rattle.obligation_claims.proofs.PushLaws.{Pushing, pushing-none, pu
 use borrow.Author.Needs.{needs}
 use Rattle.obligation_claims.proofs.push_states.Statement.{statement}
 use Rattle.obligation_claims.proofs.push_states.Tie as tie
-use Rattle.obligation_claims.proofs.push_claim.Reads as push-claim-reads
 
 abbrev Inv-loop : tie.InvT-loop
 Inv-loop keys states list₀ work₀ pairs₀ literals₀ appended₀ i₀ list work pairs literals appended i = Pushing (stateClaims keys states) keys appended₀ list₀ work₀ pairs₀ literals₀ appended list work pairs literals i

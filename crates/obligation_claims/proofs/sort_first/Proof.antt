@@ -4,7 +4,6 @@ use Rattle.obligation_claims.proofs.KeyLaws.{sorted-front, few-in-order
 use borrow.Author.Needs.{needs}
 use Rattle.obligation_claims.proofs.sort_first.Statement.{statement}
 use Rattle.obligation_claims.proofs.sort_first.Tie as tie
-use Rattle.word_sort.proofs.sort.Reads as sort-reads
 
 returns : tie.Need-returns
 returns c = few-in-order _ _ (c .if1 .taken)

@@ -4,8 +4,6 @@ use Rattle.obligation_claims.proofs.KeyLaws.{keys-length, in-order}
 use borrow.Author.Needs.{needs}
 use Rattle.obligation_claims.proofs.state_keys.Statement.{statement}
 use Rattle.obligation_claims.proofs.state_keys.Tie as tie
-use Rattle.obligation_claims.proofs.add_keys.Reads as add-keys-reads
-use Rattle.obligation_claims.proofs.sort_first.Reads as sort-first-reads
 
 returns : tie.Need-returns
 returns c =

@@ -1,8 +1,8 @@
 -- For the contracts of the functions that append the clauses of claims (01, item 7). A claim is one or three words; a key says which literal differs from which of its bits.
-use Prim.Native.Nat.{ℕ, _+_, _*_, _/_, _%_, _≤_, _<_, _^_}
+use Prim.Native.Nat.{ℕ, _+_, _*_, _/_, _%_, _<_, _^_}
 use mathlib.Core.Bool.{not}
 use mathlib.Core.List.{List, [], _∷_, _++_, map}
-use lib.ListN.{length, getD, take, drop}
+use lib.ListN.{take, drop}
 use Rattle.lists.specs.Sets.{holds}
 use Rattle.lists.specs.Tests.{Each}
 use Rattle.lists.specs.Words.{triplesOf}

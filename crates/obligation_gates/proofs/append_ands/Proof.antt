@@ -11,7 +11,6 @@ use Rattle.obligation_gates.proofs.GateLaws.{gate-low, gate-space, gate
 use borrow.Author.Needs.{needs}
 use Rattle.obligation_gates.proofs.append_ands.Statement.{statement}
 use Rattle.obligation_gates.proofs.append_ands.Tie as tie
-use Rattle.obligation_gates.proofs.push_gate.Reads as push-gate-reads
 
 abbrev Inv-loop : tie.InvT-loop
 Inv-loop gates count pairs₀ literals₀ appended₀ i₀ pairs literals appended i = (i ≤ count) × (length pairs ≡ length pairs₀) × (length literals ≡ length literals₀) × Appends (wordsOf gateLists (take i (triplesOf gateFrom gates))) appended₀ pairs₀ literals₀ appended pairs literals

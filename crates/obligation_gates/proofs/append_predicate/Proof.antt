@@ -2,7 +2,6 @@ use Rattle.obligation_gates.proofs.ClauseLaws.{clauses-none}
 use borrow.Author.Needs.{needs}
 use Rattle.obligation_gates.proofs.append_predicate.Statement.{statement}
 use Rattle.obligation_gates.proofs.append_predicate.Tie as tie
-use Rattle.obligation_gates.proofs.push_clauses.Reads as push-clauses-reads
 
 returns : tie.Need-returns
 returns c = let s = c .before .before .before .before .before .before .before in

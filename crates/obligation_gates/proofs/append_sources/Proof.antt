@@ -9,8 +9,6 @@ use Rattle.obligation_gates.proofs.SourceLaws.{sources, source-narrow, 
 use borrow.Author.Needs.{needs}
 use Rattle.obligation_gates.proofs.append_sources.Statement.{statement}
 use Rattle.obligation_gates.proofs.append_sources.Tie as tie
-use Rattle.obligation_gates.proofs.push_literal.Reads as push-literal-reads
-use Rattle.obligation_gates.proofs.source_literal.Reads as source-literal-reads
 
 abbrev Inv-loop : tie.InvT-loop
 Inv-loop currents source pairs₀ literals₀ appended₀ i₀ pairs literals appended i = (length pairs ≡ length pairs₀) × (length literals ≡ length literals₀) × Appends (take i (sources currents source)) appended₀ pairs₀ literals₀ appended pairs literals

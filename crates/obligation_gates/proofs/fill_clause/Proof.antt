@@ -6,9 +6,6 @@ use Rattle.obligation_gates.proofs.RepeatLaws.{Keeping, keeping-none, w
 use borrow.Author.Needs.{needs}
 use Rattle.obligation_gates.proofs.fill_clause.Statement.{statement}
 use Rattle.obligation_gates.proofs.fill_clause.Tie as tie
-use Rattle.cnf.proofs.word.Reads as word-reads
-use Rattle.obligation_gates.proofs.predicate_literal.Reads as predicate-literal-reads
-use Rattle.lists.proofs.add.Reads as add-reads
 
 abbrev Inv-loop : tie.InvT-loop
 Inv-loop inputs relevant clause list₀ seen₀ n₀ i₀ list seen n i = Keeping inputs relevant clause seen list n i × (i ≤ length clause) × (length list ≡ length list₀)

@@ -2,9 +2,6 @@ use Rattle.obligation_gates.proofs.PredicateLaws.{low-literal, indexed,
 use borrow.Author.Needs.{needs}
 use Rattle.obligation_gates.proofs.predicate_literal.Statement.{statement}
 use Rattle.obligation_gates.proofs.predicate_literal.Tie as tie
-use Rattle.cnf.proofs.opposite_of.Reads as opposite-of-reads
-use Rattle.lists.proofs.index.Reads as index-reads
-use Rattle.lists.proofs.word.Reads as word-reads
 
 returns : tie.Need-returns
 returns c = let l = c .before in

@@ -2,8 +2,6 @@ use Rattle.obligation_gates.proofs.RepeatLaws.{kept-appends, kept-narro
 use borrow.Author.Needs.{needs}
 use Rattle.obligation_gates.proofs.push_clause.Statement.{statement}
 use Rattle.obligation_gates.proofs.push_clause.Tie as tie
-use Rattle.cnf.proofs.push_simplified.Reads as push-simplified-reads
-use Rattle.obligation_gates.proofs.fill_clause.Reads as fill-clause-reads
 
 push-simplified-requires : tie.Need-push-simplified-requires
 push-simplified-requires c κs = let s = c .before .before .before .before .before .before .before .before .before .before .before .before .before .before .before in

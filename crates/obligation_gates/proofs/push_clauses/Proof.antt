@@ -8,8 +8,6 @@ use Rattle.obligation_gates.proofs.ClauseLaws.{clauseLists, clause-insi
 use borrow.Author.Needs.{needs}
 use Rattle.obligation_gates.proofs.push_clauses.Statement.{statement}
 use Rattle.obligation_gates.proofs.push_clauses.Tie as tie
-use Rattle.obligation_gates.proofs.push_clause.Reads as push-clause-reads
-use Rattle.lists.proofs.index.Reads as index-reads
 
 abbrev Inv-loop : tie.InvT-loop
 Inv-loop inputs relevant predicate-pairs predicate-literals list₀ work₀ pairs₀ literals₀ count appended₀ i₀ list work pairs literals appended i = (length list ≡ length list₀) × (length work ≡ length work₀) × (length pairs ≡ length pairs₀) × (length literals ≡ length literals₀)

@@ -4,8 +4,6 @@ use native.Mathlib.Omega.{arith}
 use borrow.Author.Needs.{needs}
 use Rattle.obligation_gates.proofs.push_gate.Statement.{statement}
 use Rattle.obligation_gates.proofs.push_gate.Tie as tie
-use Rattle.cnf.proofs.push_short.Reads as push-short-reads
-use Rattle.obligation_gates.proofs.gate_clauses.Reads as gate-clauses-reads
 
 push-short-requires : tie.Need-push-short-requires
 push-short-requires c κs = let s = c .before .before .before .before .before .before in

@@ -1,7 +1,6 @@
 use borrow.Author.Needs.{needs}
 use Rattle.obligation_gates.proofs.push_literal.Statement.{statement}
 use Rattle.obligation_gates.proofs.push_literal.Tie as tie
-use Rattle.cnf.proofs.push_single.Reads as push-single-reads
 
 returns : tie.Need-returns
 returns c = c .before .before .before .before .push-single .ensures

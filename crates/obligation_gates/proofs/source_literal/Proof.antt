@@ -2,7 +2,6 @@ use Rattle.obligation_gates.proofs.SourceLaws.{source-set, source-clear
 use borrow.Author.Needs.{needs}
 use Rattle.obligation_gates.proofs.source_literal.Statement.{statement}
 use Rattle.obligation_gates.proofs.source_literal.Tie as tie
-use Rattle.cnf.proofs.opposite_of.Reads as opposite-of-reads
 
 returns : tie.Need-returns
 returns c = source-set _ _ _ (c .if1 .taken)

@@ -3,9 +3,6 @@ use native.Mathlib.Omega.{arith}
 use borrow.Author.Needs.{needs}
 use Rattle.replay.proofs.answers.Statement.{statement}
 use Rattle.replay.proofs.answers.Tie as tie
-use Rattle.io.proofs.read_full.Reads as read-full-reads
-use Rattle.io.proofs.write_all.Reads as write-all-reads
-use Rattle.replay.proofs.replay.Reads as replay-reads
 
 -- src/main.rt:81:9
 -- src/main.rt:83:38

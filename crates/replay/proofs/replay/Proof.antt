@@ -1,11 +1,9 @@
-use Prim.Native.Nat.{_≤_, _-_}
+use Prim.Native.Nat.{_-_}
 use lib.ListN.{length}
 use mathlib.Core.Path.{_≡_}
 use borrow.Author.Needs.{needs}
 use Rattle.replay.proofs.replay.Statement.{statement}
 use Rattle.replay.proofs.replay.Tie as tie
-use Rattle.replay.proofs.replay_case.Reads as replay-case-reads
-use Rattle.replay_text.proofs.show.malformed.Reads as malformed-reads
 
 abbrev Inv-loop : tie.InvT-loop
 Inv-loop input out₀ at₀ to₀ out at to = length out ≡ length out₀

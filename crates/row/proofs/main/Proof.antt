@@ -3,7 +3,6 @@ use Rattle.lists.proofs.ZeroLaws.{zeros-length}
 use borrow.Author.Needs.{needs}
 use Rattle.row.proofs.main.Statement.{statement}
 use Rattle.row.proofs.main.Tie as tie
-use Rattle.row.proofs.answer.Reads as answer-reads
 
 slice-aggregate-answer : tie.Need-slice-aggregate-answer
 slice-aggregate-answer c = sym (zeros-length 700000)

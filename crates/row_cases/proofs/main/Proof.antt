@@ -3,7 +3,6 @@ use Rattle.lists.proofs.ZeroLaws.{zeros-length}
 use borrow.Author.Needs.{needs}
 use Rattle.row_cases.proofs.main.Statement.{statement}
 use Rattle.row_cases.proofs.main.Tie as tie
-use Rattle.row_cases.proofs.all.Reads as all-reads
 
 slice-aggregate-all : tie.Need-slice-aggregate-all
 slice-aggregate-all c = sym (zeros-length 700000)

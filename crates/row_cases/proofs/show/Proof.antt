@@ -3,8 +3,6 @@ use lib.Seq.{length-take-le}
 use borrow.Author.Needs.{needs}
 use Rattle.row_cases.proofs.show.Statement.{statement}
 use Rattle.row_cases.proofs.show.Tie as tie
-use Rattle.io.proofs.write_all.Reads as write-all-reads
-use Rattle.row_text.proofs.row.Reads as row-reads
 
 slice-aggregate-write-all : tie.Need-slice-aggregate-write-all
 slice-aggregate-write-all c = sym (length-take-le (c .before .before .before .row .result) _ (search needs))

@@ -3,9 +3,6 @@ use Rattle.row_text.proofs.RowLaws.{for-none, for-valid, for-refused}
 use borrow.Author.Needs.{needs}
 use Rattle.row_text.proofs.print_for.Statement.{statement}
 use Rattle.row_text.proofs.print_for.Tie as tie
-use Rattle.row_text.proofs.print_row.Reads as print-row-reads
-use Rattle.row_text.proofs.write_refused.Reads as write-refused-reads
-use Rattle.model_read.proofs.parse_ascii_aiger_transition.Reads as parse-ascii-aiger-transition-reads
 
 returns : tie.Need-returns
 returns c = search for-none

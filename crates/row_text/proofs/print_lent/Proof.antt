@@ -2,7 +2,6 @@ use Rattle.row_text.proofs.RowLaws.{lent-printed}
 use borrow.Author.Needs.{needs}
 use Rattle.row_text.proofs.print_lent.Statement.{statement}
 use Rattle.row_text.proofs.print_lent.Tie as tie
-use Rattle.row_text.proofs.print_for.Reads as print-for-reads
 
 returns : tie.Need-returns
 returns c = lent-printed _ _ _ _ _ (c .before .before .before .before .before .before .print-for .ensures)

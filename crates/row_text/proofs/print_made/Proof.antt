@@ -2,8 +2,6 @@ use Rattle.row_text.proofs.MadeLaws.{rows-front, rows-room, rows-text, 
 use borrow.Author.Needs.{needs}
 use Rattle.row_text.proofs.print_made.Statement.{statement}
 use Rattle.row_text.proofs.print_made.Tie as tie
-use Rattle.row_text.proofs.write_refused.Reads as write-refused-reads
-use Rattle.row_text.proofs.write_rows.Reads as write-rows-reads
 
 write-rows-requires : tie.Need-write-rows-requires
 write-rows-requires c κs = (search rows-front, search rows-room)

@@ -2,8 +2,6 @@ use Rattle.row_text.proofs.MadeLaws.{made-printable, made-printed}
 use borrow.Author.Needs.{needs}
 use Rattle.row_text.proofs.print_row.Statement.{statement}
 use Rattle.row_text.proofs.print_row.Tie as tie
-use Rattle.row_text.proofs.print_made.Reads as print-made-reads
-use Rattle.obligation.proofs.relation_row_completeness_cnf.Reads as relation-row-completeness-cnf-reads
 
 slice-aggregate-relation-row-completeness-cnf :
     tie.Need-slice-aggregate-relation-row-completeness-cnf

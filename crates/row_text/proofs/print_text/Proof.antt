@@ -2,12 +2,6 @@ use Rattle.row_text.proofs.RowLaws.{line-length, line-short, too-long, 
 use borrow.Author.Needs.{needs}
 use Rattle.row_text.proofs.print_text.Statement.{statement}
 use Rattle.row_text.proofs.print_text.Tie as tie
-use Rattle.lists.proofs.first.Reads as first-reads
-use Rattle.row_text.proofs.after_line.Reads as after-line-reads
-use Rattle.row_text.proofs.print_lent.Reads as print-lent-reads
-use Rattle.row_text.proofs.read_numbers.Reads as read-numbers-reads
-use Rattle.row_text.proofs.write_refused.Reads as write-refused-reads
-use Rattle.scan.proofs.line_end.Reads as line-end-reads
 
 returns : tie.Need-returns
 returns c = search too-long

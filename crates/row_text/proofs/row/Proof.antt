@@ -2,7 +2,6 @@ use Rattle.row_text.proofs.RowLaws.{row-none, row-some}
 use borrow.Author.Needs.{needs}
 use Rattle.row_text.proofs.row.Statement.{statement}
 use Rattle.row_text.proofs.row.Tie as tie
-use Rattle.row_text.proofs.print_text.Reads as print-text-reads
 
 returns : tie.Need-returns
 returns c = search row-none

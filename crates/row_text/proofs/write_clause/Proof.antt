@@ -2,9 +2,6 @@ use Rattle.row_text.proofs.PrintLaws.{clause-room, clause-written}
 use borrow.Author.Needs.{needs}
 use Rattle.row_text.proofs.write_clause.Statement.{statement}
 use Rattle.row_text.proofs.write_clause.Tie as tie
-use Rattle.lists.proofs.index.Reads as index-reads
-use Rattle.row_text.proofs.write_number.Reads as write-number-reads
-use Rattle.row_text.proofs.write_words.Reads as write-words-reads
 
 write-words-requires : tie.Need-write-words-requires
 write-words-requires c κs = search (needs, clause-room)

@@ -6,7 +6,6 @@ use Rattle.row_text.proofs.PrintLaws.{Listing, listing-none, listing-wi
 use borrow.Author.Needs.{needs}
 use Rattle.row_text.proofs.write_clauses.Statement.{statement}
 use Rattle.row_text.proofs.write_clauses.Tie as tie
-use Rattle.row_text.proofs.write_clause.Reads as write-clause-reads
 
 abbrev Inv-loop : tie.InvT-loop
 Inv-loop out₀ at pairs literals count to₀ i₀ out to i = Listing (returned count pairs literals) count pairs literals out₀ at out to i

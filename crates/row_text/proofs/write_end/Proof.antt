@@ -2,7 +2,6 @@ use Rattle.row_text.proofs.OnwardLaws.{byte-no-room, byte-written}
 use borrow.Author.Needs.{needs}
 use Rattle.row_text.proofs.write_end.Statement.{statement}
 use Rattle.row_text.proofs.write_end.Tie as tie
-use Rattle.text_decimal.proofs.write_byte.Reads as write-byte-reads
 
 returns : tie.Need-returns
 returns c = search byte-no-room

@@ -2,8 +2,6 @@ use Rattle.row_text.proofs.OnwardLaws.{number-no-bytes, number-no-digit
 use borrow.Author.Needs.{needs}
 use Rattle.row_text.proofs.write_number.Statement.{statement}
 use Rattle.row_text.proofs.write_number.Tie as tie
-use Rattle.text_decimal.proofs.write_bytes.Reads as write-bytes-reads
-use Rattle.text_decimal.proofs.write_decimal.Reads as write-decimal-reads
 
 returns : tie.Need-returns
 returns c = search number-no-bytes

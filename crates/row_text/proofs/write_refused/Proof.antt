@@ -2,8 +2,6 @@ use Rattle.row_text.proofs.PrintLaws.{refused-printed}
 use borrow.Author.Needs.{needs}
 use Rattle.row_text.proofs.write_refused.Statement.{statement}
 use Rattle.row_text.proofs.write_refused.Tie as tie
-use Rattle.row_text.proofs.write_end.Reads as write-end-reads
-use Rattle.row_text.proofs.write_number.Reads as write-number-reads
 
 returns : tie.Need-returns
 returns c = search refused-printed

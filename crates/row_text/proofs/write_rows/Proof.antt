@@ -2,9 +2,6 @@ use Rattle.row_text.proofs.PrintLaws.{rows-printed}
 use borrow.Author.Needs.{needs}
 use Rattle.row_text.proofs.write_rows.Statement.{statement}
 use Rattle.row_text.proofs.write_rows.Tie as tie
-use Rattle.row_text.proofs.write_clauses.Reads as write-clauses-reads
-use Rattle.row_text.proofs.write_end.Reads as write-end-reads
-use Rattle.row_text.proofs.write_number.Reads as write-number-reads
 
 returns : tie.Need-returns
 returns c = search rows-printed

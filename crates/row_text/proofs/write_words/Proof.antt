@@ -4,8 +4,6 @@ use Rattle.row_text.proofs.PrintLaws.{Spacing, spacing-none, spacing-ro
 use borrow.Author.Needs.{needs}
 use Rattle.row_text.proofs.write_words.Statement.{statement}
 use Rattle.row_text.proofs.write_words.Tie as tie
-use Rattle.row_text.proofs.wide.Reads as wide-reads
-use Rattle.row_text.proofs.write_number.Reads as write-number-reads
 
 abbrev Inv-loop : tie.InvT-loop
 Inv-loop out₀ at words to₀ i₀ t6 out to i = Spacing out₀ at words out to i

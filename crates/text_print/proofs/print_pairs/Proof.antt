@@ -10,4 +10,4 @@ unfolding digitPairs
 print-gates-with-requires c κs = (search needs, refl)
 
 pub print-pairs-spec : {M : Type 1} → statement M
-print-pairs-spec = tie.close (tie.spec print-gates-with-requires (λ c. search needs) (λ c. search needs))
+print-pairs-spec = tie.close (tie.spec (λ c. search needs) print-gates-with-requires (λ c. search needs) (λ c. search needs))

@@ -23,9 +23,7 @@ name-line-spec =
     (λ c. search needs)
     (λ c. search needs)
     returns
-    (λ c. search needs)
     (λ c κs. search needs)
-    (λ c. search needs)
     (λ c. search needs)
     store-leaf-requires
     (λ c. search needs)

@@ -3,9 +3,6 @@ use Rattle.obligation.proofs.MakingLaws.{claims-space, last-space, clai
 use borrow.Author.Needs.{needs}
 use Rattle.obligation.proofs.making.append_all.Statement.{statement}
 use Rattle.obligation.proofs.making.append_all.Tie as tie
-use Rattle.obligation_gates.proofs.push_literal.Reads as push-literal-reads
-use Rattle.obligation.proofs.making.append_claims.Reads as append-claims-reads
-use Rattle.obligation.proofs.making.append_front.Reads as append-front-reads
 
 append-front-requires : tie.Need-append-front-requires
 append-front-requires c κs = c .before .before .before .before .before .before .before .before .before .before .before .before .pre .front

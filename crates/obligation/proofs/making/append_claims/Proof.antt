@@ -3,8 +3,6 @@ use Rattle.obligation.proofs.MakingLaws.{states-space, outcomes-space, 
 use borrow.Author.Needs.{needs}
 use Rattle.obligation.proofs.making.append_claims.Statement.{statement}
 use Rattle.obligation.proofs.making.append_claims.Tie as tie
-use Rattle.obligation_claims.proofs.append_outcomes.Reads as append-outcomes-reads
-use Rattle.obligation_claims.proofs.append_states.Reads as append-states-reads
 
 append-outcomes-requires : tie.Need-append-outcomes-requires
 append-outcomes-requires c κs = let s = c .before .before .before .before .before .before .before in

@@ -3,9 +3,6 @@ use Rattle.obligation.proofs.MakingLaws.{sources-space, clauses-space, 
 use borrow.Author.Needs.{needs}
 use Rattle.obligation.proofs.making.append_front.Statement.{statement}
 use Rattle.obligation.proofs.making.append_front.Tie as tie
-use Rattle.obligation_gates.proofs.append_ands.Reads as append-ands-reads
-use Rattle.obligation_gates.proofs.append_predicate.Reads as append-predicate-reads
-use Rattle.obligation_gates.proofs.append_sources.Reads as append-sources-reads
 
 append-sources-requires : tie.Need-append-sources-requires
 append-sources-requires c κs = let s = c .before .before .before .before .before .before .before .before .before .before in

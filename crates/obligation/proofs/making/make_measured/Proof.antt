@@ -3,7 +3,6 @@ use Rattle.obligation.proofs.PromiseLaws.{no-pairs, no-words, made-all}
 use borrow.Author.Needs.{needs}
 use Rattle.obligation.proofs.making.make_measured.Statement.{statement}
 use Rattle.obligation.proofs.making.make_measured.Tie as tie
-use Rattle.obligation.proofs.making.append_all.Reads as append-all-reads
 
 append-all-requires : tie.Need-append-all-requires
 append-all-requires c κs = c .before .before .before .before .before .before .before .before .before .before .before .before .pre

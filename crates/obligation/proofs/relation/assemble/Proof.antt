@@ -6,11 +6,6 @@ use Rattle.obligation.proofs.AssembleLaws.{in-order, currents-list, nex
 use borrow.Author.Needs.{needs}
 use Rattle.obligation.proofs.relation.assemble.Statement.{statement}
 use Rattle.obligation.proofs.relation.assemble.Tie as tie
-use Rattle.obligation_claims.proofs.state_keys.Reads as state-keys-reads
-use Rattle.lists.proofs.first.Reads as first-reads
-use Rattle.model.proofs.currents.Reads as currents-reads
-use Rattle.model.proofs.nexts.Reads as nexts-reads
-use Rattle.obligation.proofs.making.make.Reads as make-reads
 
 -- what is asked
 abbrev question : tie.Start → Asked

@@ -6,12 +6,6 @@ use Rattle.obligation.proofs.AssembleLaws.{in-order, currents-list, low
 use borrow.Author.Needs.{needs}
 use Rattle.obligation.proofs.terminal.assemble.Statement.{statement}
 use Rattle.obligation.proofs.terminal.assemble.Tie as tie
-use Rattle.obligation_claims.proofs.state_keys.Reads as state-keys-reads
-use Rattle.cnf.proofs.opposite_of.Reads as opposite-of-reads
-use Rattle.lists.proofs.first.Reads as first-reads
-use Rattle.lists.proofs.word.Reads as word-reads
-use Rattle.model.proofs.currents.Reads as currents-reads
-use Rattle.obligation.proofs.making.make.Reads as make-reads
 
 -- what is asked
 abbrev question : tie.Start → Asked

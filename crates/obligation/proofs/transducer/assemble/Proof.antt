@@ -7,11 +7,6 @@ use Rattle.obligation.proofs.ReadyLaws.{few-observed}
 use borrow.Author.Needs.{needs}
 use Rattle.obligation.proofs.transducer.assemble.Statement.{statement}
 use Rattle.obligation.proofs.transducer.assemble.Tie as tie
-use Rattle.obligation_claims.proofs.outcome_keys.Reads as outcome-keys-reads
-use Rattle.lists.proofs.first.Reads as first-reads
-use Rattle.model.proofs.currents.Reads as currents-reads
-use Rattle.model.proofs.nexts.Reads as nexts-reads
-use Rattle.obligation.proofs.making.make.Reads as make-reads
 
 -- what is asked
 abbrev question : tie.Start → Asked

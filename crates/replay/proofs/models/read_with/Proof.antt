@@ -3,9 +3,6 @@ use native.Mathlib.Omega.{arith}
 use borrow.Author.Needs.{needs}
 use Rattle.replay.proofs.models.read_with.Statement.{statement}
 use Rattle.replay.proofs.models.read_with.Tie as tie
-use Rattle.replay_text.proofs.form.size.Reads as size-reads
-use Rattle.replay.proofs.models.read_lent.Reads as read-lent-reads
-use Rattle.replay_text.proofs.show.malformed.Reads as malformed-reads
 
 -- src/models.rt:81:9
 -- src/models.rt:81:9

@@ -3,10 +3,6 @@ use native.Mathlib.Omega.{arith}
 use borrow.Author.Needs.{needs}
 use Rattle.replay.proofs.models.step_with.Statement.{statement}
 use Rattle.replay.proofs.models.step_with.Tie as tie
-use Rattle.replay_text.proofs.form.list_start.Reads as list-start-reads
-use Rattle.replay_text.proofs.form.size.Reads as size-reads
-use Rattle.replay.proofs.models.step_lent.Reads as step-lent-reads
-use Rattle.replay_text.proofs.show.malformed.Reads as malformed-reads
 
 -- src/models.rt:121:8
 -- src/models.rt:122:9

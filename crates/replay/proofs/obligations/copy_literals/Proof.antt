@@ -4,7 +4,6 @@ use mathlib.Core.Path.{_≡_}
 use borrow.Author.Needs.{needs}
 use Rattle.replay.proofs.obligations.copy_literals.Statement.{statement}
 use Rattle.replay.proofs.obligations.copy_literals.Tie as tie
-use Rattle.replay.proofs.obligations.narrow.Reads as narrow-reads
 
 abbrev Inv-loop : tie.InvT-loop
 Inv-loop words to₀ i₀ to i = (length to ≡ length to₀) × (i ≤ length to₀)

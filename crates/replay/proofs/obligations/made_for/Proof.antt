@@ -3,12 +3,6 @@ use native.Mathlib.Omega.{arith}
 use borrow.Author.Needs.{needs}
 use Rattle.replay.proofs.obligations.made_for.Statement.{statement}
 use Rattle.replay.proofs.obligations.made_for.Tie as tie
-use Rattle.replay_text.proofs.form.list_start.Reads as list-start-reads
-use Rattle.replay_text.proofs.form.size.Reads as size-reads
-use Rattle.replay.proofs.obligations.copy_literals.Reads as copy-literals-reads
-use Rattle.replay.proofs.obligations.made_with.Reads as made-with-reads
-use Rattle.replay.proofs.obligations.part.Reads as part-reads
-use Rattle.replay_text.proofs.show.malformed.Reads as malformed-reads
 
 -- src/obligations.rt:193:8
 -- src/obligations.rt:194:9

@@ -3,9 +3,6 @@ use native.Mathlib.Omega.{arith}
 use borrow.Author.Needs.{needs}
 use Rattle.replay.proofs.obligations.made_with.Statement.{statement}
 use Rattle.replay.proofs.obligations.made_with.Tie as tie
-use Rattle.replay_text.proofs.form.size.Reads as size-reads
-use Rattle.replay.proofs.obligations.made_lent.Reads as made-lent-reads
-use Rattle.replay_text.proofs.show.malformed.Reads as malformed-reads
 
 -- src/obligations.rt:160:9
 -- src/obligations.rt:161:9

@@ -3,9 +3,6 @@ use native.Mathlib.Omega.{arith}
 use borrow.Author.Needs.{needs}
 use Rattle.replay.proofs.texts.compose_with.Statement.{statement}
 use Rattle.replay.proofs.texts.compose_with.Tie as tie
-use Rattle.replay_text.proofs.form.size.Reads as size-reads
-use Rattle.replay_text.proofs.show.malformed.Reads as malformed-reads
-use Rattle.replay.proofs.texts.compose_lent.Reads as compose-lent-reads
 
 -- src/texts.rt:68:9
 -- src/texts.rt:68:9

@@ -1,11 +1,7 @@
 use Prim.Native.Nat.{_≤_, _-_}
-use lib.ListN.{length}
-use mathlib.Core.Path.{_≡_}
 use borrow.Author.Needs.{needs}
 use Rattle.replay_text.proofs.form.list_start.Statement.{statement}
 use Rattle.replay_text.proofs.form.list_start.Tie as tie
-use Rattle.text_print.proofs.advance.Reads as advance-reads
-use Rattle.replay_text.proofs.form.size.Reads as size-reads
 
 abbrev Inv-loop : tie.InvT-loop
 Inv-loop numbers lengths start k at₀ i₀ at i = i ≤ k

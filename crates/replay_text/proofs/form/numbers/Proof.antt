@@ -4,7 +4,6 @@ use mathlib.Core.Path.{_≡_}
 use borrow.Author.Needs.{needs}
 use Rattle.replay_text.proofs.form.numbers.Statement.{statement}
 use Rattle.replay_text.proofs.form.numbers.Tie as tie
-use Rattle.text.proofs.next_number.Reads as next-number-reads
 
 abbrev Inv-loop : tie.InvT-loop
 Inv-loop line to₀ count₀ at₀ to count at = (length to ≡ length to₀) × (count ≤ length to₀)

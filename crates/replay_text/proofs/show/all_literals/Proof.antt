@@ -1,6 +1,5 @@
 use Prim.Native.Nat.{_≤_, _-_}
 use lib.ListN.{length}
-use mathlib.Core.Path.{_≡_}
 use borrow.Author.Needs.{needs}
 use Rattle.replay_text.proofs.show.all_literals.Statement.{statement}
 use Rattle.replay_text.proofs.show.all_literals.Tie as tie

@@ -3,9 +3,6 @@ use native.Mathlib.Omega.{arith}
 use borrow.Author.Needs.{needs}
 use Rattle.replay_text.proofs.show.kept_bytes.Statement.{statement}
 use Rattle.replay_text.proofs.show.kept_bytes.Tie as tie
-use Rattle.text_print.proofs.print_bytes.Reads as print-bytes-reads
-use Rattle.replay_text.proofs.show.all_bytes.Reads as all-bytes-reads
-use Rattle.replay_text.proofs.show.either.Reads as either-reads
 
 -- src/show.rt:111:47
 -- src/show.rt:111:9

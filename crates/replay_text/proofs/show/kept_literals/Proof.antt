@@ -3,10 +3,6 @@ use native.Mathlib.Omega.{arith}
 use borrow.Author.Needs.{needs}
 use Rattle.replay_text.proofs.show.kept_literals.Statement.{statement}
 use Rattle.replay_text.proofs.show.kept_literals.Tie as tie
-use Rattle.text_print.proofs.print_bytes.Reads as print-bytes-reads
-use Rattle.replay_text.proofs.show.all_literals.Reads as all-literals-reads
-use Rattle.replay_text.proofs.show.either.Reads as either-reads
-use Rattle.replay_text.proofs.show.literals.Reads as literals-reads
 
 -- src/show.rt:102:47
 -- src/show.rt:102:9

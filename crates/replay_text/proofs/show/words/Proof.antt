@@ -4,7 +4,6 @@ use mathlib.Core.Path.{_≡_}
 use borrow.Author.Needs.{needs}
 use Rattle.replay_text.proofs.show.words.Statement.{statement}
 use Rattle.replay_text.proofs.show.words.Tie as tie
-use Rattle.replay_text.proofs.show.number.Reads as number-reads
 
 abbrev Inv-loop : tie.InvT-loop
 Inv-loop out₀ at list to₀ i₀ out to i = (length out ≡ length out₀) × (i ≤ length list)

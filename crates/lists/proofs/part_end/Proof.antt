@@ -1,7 +1,7 @@
 use borrow.Author.Needs.{needs}
-use Rattle.compose.proofs.part_end.Statement.{statement}
-use Rattle.compose.proofs.part_end.Tie as tie
-use Rattle.compose.proofs.CallLaws.{end-before, end-past, end-behind, end-within}
+use Rattle.lists.proofs.part_end.Statement.{statement}
+use Rattle.lists.proofs.part_end.Tie as tie
+use Rattle.lists.proofs.PairLaws.{end-before, end-past, end-behind, end-within}
 
 returns : tie.Need-returns
 returns c = search end-before

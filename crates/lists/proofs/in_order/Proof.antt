@@ -1,7 +1,7 @@
 use borrow.Author.Needs.{needs}
-use Rattle.compose.proofs.in_order.Statement.{statement}
-use Rattle.compose.proofs.in_order.Tie as tie
-use Rattle.compose.proofs.CallLaws.{Ordering, ordering-none, ordering-stop, ordering-more, ordering-end}
+use Rattle.lists.proofs.in_order.Statement.{statement}
+use Rattle.lists.proofs.in_order.Tie as tie
+use Rattle.lists.proofs.PairLaws.{Ordering, ordering-none, ordering-stop, ordering-more, ordering-end}
 use lib.ListN.{length}
 use Prim.Native.Nat.{_-_, _/_}
 use mathlib.Core.Path.{_≡_}

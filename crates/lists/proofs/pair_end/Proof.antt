@@ -1,7 +1,7 @@
 use borrow.Author.Needs.{needs}
-use Rattle.compose.proofs.pair_end.Statement.{statement}
-use Rattle.compose.proofs.pair_end.Tie as tie
-use Rattle.compose.proofs.CallLaws.{pair-ends}
+use Rattle.lists.proofs.pair_end.Statement.{statement}
+use Rattle.lists.proofs.pair_end.Tie as tie
+use Rattle.lists.proofs.PairLaws.{pair-ends}
 
 returns : tie.Need-returns
 returns c = search pair-ends
