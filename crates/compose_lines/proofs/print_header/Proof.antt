@@ -10,7 +10,7 @@ returns c =
     let first = c .before .before .before .before .before .before .before .before .before .before .before .print-start in
     let second = c .before .before .before .before .before .before .before .print-four in
     let last = c .before .before .print-bytes in
-    header-printed _ _ _ _ _ _ (omega arith) (omega (arith, first .kept .0)) (args .n) _ _ (omega (arith, first .kept .0, second .kept .0)) (first .ensures) (second .ensures) (last .ensures)
+    header-printed _ _ _ _ _ _ (omega arith) (omega (arith, first .kept .0)) (args .counts) _ _ (omega (arith, first .kept .0, second .kept .0)) (first .ensures) (second .ensures) (last .ensures)
 
 pub print-header-spec : {M : Type 1} → statement M
 print-header-spec =
