@@ -13,12 +13,13 @@ use Rattle.compose_joint.specs.Inner.Joint.{totalOf, inputCount, latchCount, ga
 use Rattle.compose_joint.proofs.AmountLaws.{input-origins-length, latch-origins-length}
 use Rattle.compose_gather.specs.declared.Totals.{Totals}
 use Rattle.compose_layout.specs.declared.Lists.{Lists}
-use Rattle.compose_layout.specs.Inner.Laid.{Has, Regions, Listed, Ready, Stage, withInputs, PlacesFit, placesOf}
+use Rattle.compose_layout.specs.Inner.Laid.{Has, Regions, Listed, Ready, Stage, PlacesFit, placesOf}
 use Rattle.compose_layout.proofs.RoomLaws.{amounts}
 use Rattle.compose_layout.proofs.StageLaws.{literals-long}
+use Rattle.compose_layout.proofs.OriginLaws.{originsAt, withInputs}
 
 module _ (l : Lists) (mc : AagCounts) (t : Totals) (buffer : Bytes) (pairs work : List ℕ) (b assigned : ℕ) (m : Sections) (ws : List Sections)
-    (k : Stage mc t buffer pairs work (withInputs l (l .end) m ws ++ record { place = b; words = origins leaf.Latches m ws } ∷ []) assigned m ws) where
+    (k : Stage mc t buffer pairs work (withInputs l m ws ++ originsAt leaf.Latches b m ws ∷ []) assigned m ws) where
   has : (a place : ℕ) (xs : List ℕ) → (place ≡ a) × Has work a xs → Has work place xs
   has a place xs h = subst (λ (j : ℕ). Has work j xs) (sym (h .0)) (h .1)
 
@@ -68,5 +69,5 @@ module _ (l : Lists) (mc : AagCounts) (t : Totals) (buffer : Bytes) (pairs work 
       sum : (i q a : ℕ) → i ≡ totalOf inputCount ws → q ≡ totalOf latchCount ws → a ≡ totalOf gateCount ws → i + q + a ≡ totalOf inputCount ws + totalOf latchCount ws + totalOf gateCount ws
       sum i q a e f g = omega arith
 
-  pub stage-ready : PlacesFit l assigned mc t (length work) → Ready buffer pairs m ws (placesOf l b assigned mc t) work
+  pub stage-ready : PlacesFit assigned mc t (length work) → Ready buffer pairs m ws (placesOf l b assigned mc t) work
   stage-ready p = record { regions = regions; listed = listed; fits = omega (arith, p .fits) }

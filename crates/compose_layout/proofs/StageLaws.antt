@@ -15,10 +15,9 @@ use Rattle.compose_joint.specs.declared.Literals.the-variants as literals
 use Rattle.compose_joint.specs.Inner.Joint.{totalOf, inputCount, latchCount, jointLiterals, gathered, joint, listOf}
 use Rattle.compose_joint.proofs.AmountLaws.{joint-length}
 use Rattle.compose_gather.specs.declared.Totals.{Totals}
-use Rattle.compose_gather.specs.Inner.Gathered.{wordTotal, Readable, CanGather, Gathers, literalCount}
+use Rattle.compose_gather.specs.Inner.Gathered.{wordTotal, CanLoad, LoadsAll, CanGather, Gathers, literalCount, RightTotals}
 use Rattle.compose_gather.proofs.BlockLaws.{blocks-same}
-use Rattle.compose_layout.specs.declared.Laid.{Laid}
-use Rattle.compose_layout.specs.Inner.Laid.{Has, Known, knownLength, Stage, Staged, Goes, literalsAt, nothing, withLatches, withOperands, withSafety, Fitting}
+use Rattle.compose_layout.specs.Inner.Laid.{Has, Known, knownLength, Stage, Reaches, CanList, literalsAt, Fitting}
 use Rattle.compose_layout.proofs.HasLaws.{has-put, standing-more, known-more}
 use Rattle.compose_layout.proofs.RoomLaws.{amounts}
 
@@ -68,52 +67,89 @@ module _ (mc : AagCounts) (t : Totals) (buffer : Bytes) (pairs work : List ℕ) 
         let long : length (joint (listOf kind) ws) ≡ totalOf (literalCount kind) ws = literals-long kind ws in
         stage-more work' (joint (listOf kind) ws) (made .0 ∙ ap (put work to) words) (omega (arith, long, room)) r (made .1 ∙ ap (λ (j : ℕ). to + j) (sym long))
 
--- the totals are those of the witnesses
-pub stage-totals : (mc : AagCounts) (t : Totals) (buffer : Bytes) (pairs work : List ℕ) (ks : Sections → List Sections → List Known) (to : ℕ) → Staged mc t buffer pairs work ks to
-    → (vs : List Sections) → Readable buffer pairs vs → (t .inputs ≡ totalOf inputCount vs) × (t .latches ≡ totalOf latchCount vs)
-stage-totals mc t buffer pairs work ks to s vs r =
-    let f = s .holds .fitting in
-    let e : s .ws ≡ vs = got-same (s .ws) vs (sym (f .readable .reads) ∙ r .reads) in
-    (f .totals .inputs ∙ ap (totalOf inputCount) e, f .totals .latches ∙ ap (totalOf latchCount) e)
-
 -- ---- a list in its turn
 
 -- the lists so far and the next one have room
 pub record Roomy (ks : Sections → List Sections → List Known) (kind : Literals) : Type 0 where
   pub most : (m : Sections) (ws : List Sections) → knownLength (ks m ws) + totalOf (literalCount kind) ws ≤ 3 * sizes ws
 
-module _ (ks : Sections → List Sections → List Known) (kind : Literals) (roomy : Roomy ks kind) (mc : AagCounts) (t : Totals) (buffer : Bytes) (pairs work : List ℕ) (to : ℕ) where
-  room : (m : Sections) (ws : List Sections) → Stage mc t buffer pairs work (ks m ws) to m ws → to + totalOf (literalCount kind) ws ≤ length work
+-- the totals are those of the witnesses
+pub list-totals : {t : Totals} {buffer : Bytes} {pairs work : List ℕ} → CanList t buffer pairs work → RightTotals buffer pairs (t .inputs) (t .latches)
+list-totals k vs r =
+    let s = k .can in
+    let f = s .holds in
+    let e : s .ws ≡ vs = got-same (s .ws) vs (sym (f .readable .reads) ∙ r .reads) in
+    (f .totals .inputs ∙ ap (totalOf inputCount) e, f .totals .latches ∙ ap (totalOf latchCount) e)
+
+-- the witnesses can be loaded
+pub list-load : {t : Totals} {buffer : Bytes} {pairs work : List ℕ} → CanList t buffer pairs work → CanLoad buffer pairs work
+list-load k =
+    let s = k .can in
+    let n = amounts (s .ws) in
+    record { ws = s .ws; readable = s .holds .readable; room = omega (arith, n .words, n .all, s .holds .room) }
+
+-- and then no list stands yet
+pub loaded : {mc : AagCounts} {t : Totals} {buffer : Bytes} {pairs work work' : List ℕ} {a : ℕ} → length work' ≡ length work → LoadsAll buffer pairs work' a
+    → Reaches mc t buffer pairs work work' (λ m ws. []) a
+loaded {mc} {t} {buffer} {pairs} {work} {work'} {a} same g =
+    record {
+      stage = λ m ws f.
+          let x = g ws (f .readable) in
+          record { fitting = fitting-same mc t buffer pairs work work' m ws same f; blocks = x .0; standing = tt; to-is = omega (arith, x .1) };
+    }
+
+module _ {ks : Sections → List Sections → List Known} {kind : Literals} (roomy : Roomy ks kind) {t : Totals} {buffer : Bytes} {pairs work' : List ℕ} {to : ℕ} where
+  room : {mc : AagCounts} (m : Sections) (ws : List Sections) → Stage mc t buffer pairs work' (ks m ws) to m ws → to + totalOf (literalCount kind) ws ≤ length work'
   room m ws k = let n = amounts ws in omega (arith, roomy .most m ws, k .to-is, k .fitting .room, n .words, n .all)
 
-  pub turn-can : Staged mc t buffer pairs work ks to → CanGather (literalCount kind) buffer pairs work to
-  turn-can s = can-gather mc t buffer pairs work (ks (s .m) (s .ws)) to (s .m) (s .ws) (s .holds) kind (room (s .m) (s .ws) (s .holds))
+  pub turn-can : {work : List ℕ} → ((mc : AagCounts) → Reaches mc t buffer pairs work work' ks to) → CanList t buffer pairs work → CanGather (literalCount kind) buffer pairs work' to
+  turn-can p c =
+      let s = c .can in
+      let k = p (c .counts) .stage (s .m) (s .ws) (s .holds) in
+      can-gather (c .counts) t buffer pairs work' (ks (s .m) (s .ws)) to (s .m) (s .ws) k kind (room (s .m) (s .ws) k)
 
-  module _ (work' : List ℕ) (b : ℕ) (g : Gathers (jointLiterals (listOf kind) (t .inputs) (t .latches)) (literalCount kind) buffer pairs work to work' b) where
-    step : (m : Sections) (ws : List Sections) → Stage mc t buffer pairs work (ks m ws) to m ws → Stage mc t buffer pairs work' (ks m ws ++ literalsAt kind to ws ∷ []) b m ws
-    step m ws k = stage-gathered mc t buffer pairs work (ks m ws) to m ws k kind (room m ws k) work' b g
-
-    pub turn-next : Staged mc t buffer pairs work ks to → (ks' : Sections → List Sections → List Known) → ks' ≡ (λ m ws. ks m ws ++ literalsAt kind to ws ∷ []) → Staged mc t buffer pairs work' ks' b
-    turn-next s ks' e = rw e (record { m = s .m; ws = s .ws; holds = step (s .m) (s .ws) (s .holds) })
-
-    pub turn-goes : (work'' : List ℕ) (r : Laid) → Goes mc t buffer pairs work' (λ m ws. ks m ws ++ literalsAt kind to ws ∷ []) b work'' r → Goes mc t buffer pairs work ks to work'' r
-    turn-goes work'' r h = record { goes = λ m ws k. h .goes m ws (step m ws k) }
+  pub turn-next : {mc : AagCounts} {work work'' : List ℕ} {b : ℕ} → Reaches mc t buffer pairs work work' ks to
+      → Gathers (jointLiterals (listOf kind) (t .inputs) (t .latches)) (literalCount kind) buffer pairs work' to work'' b
+      → Reaches mc t buffer pairs work work'' (λ m ws. ks m ws ++ literalsAt kind to ws ∷ []) b
+  turn-next {mc} {work} {work''} {b} p g =
+      record {
+        stage = λ m ws f.
+            let k = p .stage m ws f in
+            stage-gathered mc t buffer pairs work' (ks m ws) to m ws k kind (room m ws k) work'' b g;
+      }
 
 -- ---- the lists have room
 
-pub roomy-latches : Roomy nothing literals.Latches
+pub roomy-latches : Roomy (λ m ws. []) literals.Latches
 roomy-latches = record { most = λ m ws. let n = amounts ws in omega (arith, n .latches, n .all) }
 
-pub roomy-operands : (a : ℕ) → Roomy (withLatches a) literals.Operands
-roomy-operands a = record { most = λ m ws. let n = amounts ws in omega (arith, n .latches, n .operands, n .all, literals-long literals.Latches ws) }
+pub roomy-operands : {a : ℕ} → Roomy (λ m ws. literalsAt literals.Latches a ws ∷ []) literals.Operands
+roomy-operands =
+    record { most = λ m ws. let n = amounts ws in omega (arith, n .latches, n .operands, n .all, literals-long literals.Latches ws) }
 
-pub roomy-safety : (a b : ℕ) → Roomy (withOperands a b) literals.Safety
-roomy-safety a b = record { most = λ m ws. let n = amounts ws in omega (arith, n .latches, n .operands, n .safety, n .all, literals-long literals.Latches ws, literals-long literals.Operands ws) }
-
-pub roomy-constraints : (a b c : ℕ) → Roomy (withSafety a b c) literals.Constraints
-roomy-constraints a b c =
+pub roomy-safety : {a b : ℕ} → Roomy (λ m ws. literalsAt literals.Latches a ws ∷ literalsAt literals.Operands b ws ∷ []) literals.Safety
+roomy-safety =
     record {
       most = λ m ws.
           let n = amounts ws in
-          omega (arith, n .latches, n .operands, n .safety, n .constraints, n .all, literals-long literals.Latches ws, literals-long literals.Operands ws, literals-long literals.Safety ws);
+          omega (arith, n .latches, n .operands, n .safety, n .all, literals-long literals.Latches ws, literals-long literals.Operands ws);
+    }
+
+pub roomy-constraints : {a b c : ℕ}
+    → Roomy (λ m ws. literalsAt literals.Latches a ws ∷ literalsAt literals.Operands b ws ∷ literalsAt literals.Safety c ws ∷ []) literals.Constraints
+roomy-constraints =
+    record {
+      most = λ m ws.
+          let n = amounts ws in
+          omega (
+            arith,
+            n .latches,
+            n .operands,
+            n .safety,
+            n .constraints,
+            n .all,
+            literals-long literals.Latches ws,
+            literals-long literals.Operands ws,
+            literals-long literals.Safety ws,
+          );
     }

@@ -1,8 +1,7 @@
 // All that the composer reads of the witnesses, laid out in the work words.
 ghost use mathlib.Core.Path.{_≡_};
-ghost use Rattle.compose_joint.specs.declared.Leaves.the-variants as leaf;
 ghost use Rattle.compose_gather.specs.Inner.Counts.{CountsListed};
-ghost use Rattle.compose_layout.specs.Inner.Laid.{CanLay, Lays, Staged, Goes, GoesRight, nothing, withLatches, withOperands, withSafety, withConstraints, withInputs, PlacesFit, placesOf};
+ghost use Rattle.compose_layout.specs.Inner.Laid.{CanLay, Lays, CanList, ListsLaid, PlacesFit, placesOf};
 use compose_gather::Totals;
 use compose_joint::Leaves;
 use compose_joint::Literals;
@@ -52,7 +51,7 @@ fn place_regions(
     totals: Totals,
     size: usize,
 ) -> Layout
-    requires { ⌜ PlacesFit listed assigned «model_counts» totals size ⌝ }
+    requires { ⌜ PlacesFit assigned «model_counts» totals size ⌝ }
     ensures { λ r. ⌜ r ≡ placesOf listed «latch_origins» assigned «model_counts» totals ⌝ }
 {
     let all = totals.inputs + totals.latches + totals.gates;
@@ -80,97 +79,49 @@ fn place_regions(
     }
 }
 
-// The origins of the latches, then the places.
-fn lay_leaves(
+// Loads the witnesses, and lists their literals behind the words of the texts: of the latches, the operands of the gates, the safety literals, the constraints.
+fn lay_lists(
     witnesses: &[u8],
     pairs: &[u64],
     counts: &[u64],
     work: &mut [u64],
-    model_counts: AagCounts,
     totals: Totals,
-    listed: Lists,
-    b: usize,
-) -> Laid
-    requires { ⌜ Staged «model_counts» totals (now witnesses) (now pairs) (now work) (withInputs listed (listed .end)) b ⌝ }
+) -> Lists
+    requires { ⌜ CanList totals (now witnesses) (now pairs) (now work) ⌝ }
     requires { ⌜ CountsListed (now witnesses) (now pairs) (now counts) ⌝ }
-    ensures { λ r. ⌜ GoesRight leaf.Latches «model_counts» totals (now (witnesses .entry)) (now (pairs .entry)) (now (work .entry)) (withInputs listed (listed .end)) b (now (work .exit)) r ⌝ }
+    ensures { λ r. ⌜ ListsLaid totals (now (witnesses .entry)) (now (pairs .entry)) (now (work .entry)) (now (work .exit)) r ⌝ }
 {
-    let p = ModelLeaves {
-        before: model_counts.inputs,
-        count: model_counts.latches,
-    };
-    let Origins::Next(assigned) = compose_origins::gather_origins(
+    let latches = compose_gather::load_all(witnesses, pairs, counts, work);
+    let operands = compose_gather::literals::gather(
         witnesses,
         pairs,
         counts,
         work,
-        Leaves::Latches,
-        p,
-        b,
-    ) else {
-        return Laid::Wrong;
-    };
-    Laid::At(place_regions(listed, b, assigned, model_counts, totals, work.len()))
-}
-
-// The origins of the inputs, then the latches'.
-fn lay_inputs(
-    witnesses: &[u8],
-    pairs: &[u64],
-    counts: &[u64],
-    work: &mut [u64],
-    model_counts: AagCounts,
-    totals: Totals,
-    listed: Lists,
-) -> Laid
-    requires { ⌜ Staged «model_counts» totals (now witnesses) (now pairs) (now work) (withConstraints listed) (listed .end) ⌝ }
-    requires { ⌜ CountsListed (now witnesses) (now pairs) (now counts) ⌝ }
-    ensures { λ r. ⌜ Goes «model_counts» totals (now (witnesses .entry)) (now (pairs .entry)) (now (work .entry)) (withConstraints listed) (listed .end) (now (work .exit)) r ⌝ }
-{
-    let p = ModelLeaves {
-        before: 0,
-        count: model_counts.inputs,
-    };
-    let Origins::Next(b) = compose_origins::gather_origins(
+        Literals::Latches,
+        totals.inputs,
+        totals.latches,
+        latches,
+    );
+    let safety = compose_gather::literals::gather(
         witnesses,
         pairs,
         counts,
         work,
-        Leaves::Inputs,
-        p,
-        listed.end,
-    ) else {
-        return Laid::Wrong;
-    };
-    lay_leaves(
+        Literals::Operands,
+        totals.inputs,
+        totals.latches,
+        operands,
+    );
+    let constraints = compose_gather::literals::gather(
         witnesses,
         pairs,
         counts,
         work,
-        model_counts,
-        totals,
-        listed,
-        b,
-    )
-}
-
-// The constraints, then the origins.
-fn lay_constraints(
-    witnesses: &[u8],
-    pairs: &[u64],
-    counts: &[u64],
-    work: &mut [u64],
-    model_counts: AagCounts,
-    totals: Totals,
-    a: usize,
-    b: usize,
-    c: usize,
-    d: usize,
-) -> Laid
-    requires { ⌜ Staged «model_counts» totals (now witnesses) (now pairs) (now work) (withSafety a b c) d ⌝ }
-    requires { ⌜ CountsListed (now witnesses) (now pairs) (now counts) ⌝ }
-    ensures { λ r. ⌜ Goes «model_counts» totals (now (witnesses .entry)) (now (pairs .entry)) (now (work .entry)) (withSafety a b c) d (now (work .exit)) r ⌝ }
-{
+        Literals::Safety,
+        totals.inputs,
+        totals.latches,
+        safety,
+    );
     let end = compose_gather::literals::gather(
         witnesses,
         pairs,
@@ -179,124 +130,18 @@ fn lay_constraints(
         Literals::Constraints,
         totals.inputs,
         totals.latches,
-        d,
+        constraints,
     );
-    let lists = Lists {
-        latches: a,
-        operands: b,
-        safety: c,
-        constraints: d,
+    Lists {
+        latches: latches,
+        operands: operands,
+        safety: safety,
+        constraints: constraints,
         end: end,
-    };
-    lay_inputs(witnesses, pairs, counts, work, model_counts, totals, lists)
+    }
 }
 
-// The safety literals, then the others.
-fn lay_safety(
-    witnesses: &[u8],
-    pairs: &[u64],
-    counts: &[u64],
-    work: &mut [u64],
-    model_counts: AagCounts,
-    totals: Totals,
-    a: usize,
-    b: usize,
-    c: usize,
-) -> Laid
-    requires { ⌜ Staged «model_counts» totals (now witnesses) (now pairs) (now work) (withOperands a b) c ⌝ }
-    requires { ⌜ CountsListed (now witnesses) (now pairs) (now counts) ⌝ }
-    ensures { λ r. ⌜ Goes «model_counts» totals (now (witnesses .entry)) (now (pairs .entry)) (now (work .entry)) (withOperands a b) c (now (work .exit)) r ⌝ }
-{
-    let d = compose_gather::literals::gather(
-        witnesses,
-        pairs,
-        counts,
-        work,
-        Literals::Safety,
-        totals.inputs,
-        totals.latches,
-        c,
-    );
-    lay_constraints(
-        witnesses,
-        pairs,
-        counts,
-        work,
-        model_counts,
-        totals,
-        a,
-        b,
-        c,
-        d,
-    )
-}
-
-// The operands of the gates, then the others.
-fn lay_operands(
-    witnesses: &[u8],
-    pairs: &[u64],
-    counts: &[u64],
-    work: &mut [u64],
-    model_counts: AagCounts,
-    totals: Totals,
-    a: usize,
-    b: usize,
-) -> Laid
-    requires { ⌜ Staged «model_counts» totals (now witnesses) (now pairs) (now work) (withLatches a) b ⌝ }
-    requires { ⌜ CountsListed (now witnesses) (now pairs) (now counts) ⌝ }
-    ensures { λ r. ⌜ Goes «model_counts» totals (now (witnesses .entry)) (now (pairs .entry)) (now (work .entry)) (withLatches a) b (now (work .exit)) r ⌝ }
-{
-    let c = compose_gather::literals::gather(
-        witnesses,
-        pairs,
-        counts,
-        work,
-        Literals::Operands,
-        totals.inputs,
-        totals.latches,
-        b,
-    );
-    lay_safety(
-        witnesses,
-        pairs,
-        counts,
-        work,
-        model_counts,
-        totals,
-        a,
-        b,
-        c,
-    )
-}
-
-// The latches' literals, then the others; the words of the texts end at a place.
-fn lay_latches(
-    witnesses: &[u8],
-    pairs: &[u64],
-    counts: &[u64],
-    work: &mut [u64],
-    model_counts: AagCounts,
-    totals: Totals,
-    a: usize,
-) -> Laid
-    requires { ⌜ Staged «model_counts» totals (now witnesses) (now pairs) (now work) nothing a ⌝ }
-    requires { ⌜ CountsListed (now witnesses) (now pairs) (now counts) ⌝ }
-    ensures { λ r. ⌜ Goes «model_counts» totals (now (witnesses .entry)) (now (pairs .entry)) (now (work .entry)) nothing a (now (work .exit)) r ⌝ }
-{
-    let b = compose_gather::literals::gather(
-        witnesses,
-        pairs,
-        counts,
-        work,
-        Literals::Latches,
-        totals.inputs,
-        totals.latches,
-        a,
-    );
-    lay_operands(witnesses, pairs, counts, work, model_counts, totals, a, b)
-}
-
-// Loads the witnesses and lays out what is read of them.
+// Loads the witnesses and lays out what is read of them: the lists, then the origins of the inputs and of the latches.
 pub fn lay(
     witnesses: &[u8],
     pairs: &[u64],
@@ -309,6 +154,43 @@ pub fn lay(
     requires { ⌜ CountsListed (now witnesses) (now pairs) (now counts) ⌝ }
     ensures { λ r. ⌜ Lays «model_counts» totals (now (witnesses .entry)) (now (pairs .entry)) (now (work .entry)) (now (work .exit)) r ⌝ }
 {
-    let a = compose_gather::load_all(witnesses, pairs, counts, work);
-    lay_latches(witnesses, pairs, counts, work, model_counts, totals, a)
+    let lists = lay_lists(witnesses, pairs, counts, work, totals);
+    let model_inputs = ModelLeaves {
+        before: 0,
+        count: model_counts.inputs,
+    };
+    let Origins::Next(latch_origins) = compose_origins::gather_origins(
+        witnesses,
+        pairs,
+        counts,
+        work,
+        Leaves::Inputs,
+        model_inputs,
+        lists.end,
+    ) else {
+        return Laid::Wrong;
+    };
+    let model_latches = ModelLeaves {
+        before: model_counts.inputs,
+        count: model_counts.latches,
+    };
+    let Origins::Next(assigned) = compose_origins::gather_origins(
+        witnesses,
+        pairs,
+        counts,
+        work,
+        Leaves::Latches,
+        model_latches,
+        latch_origins,
+    ) else {
+        return Laid::Wrong;
+    };
+    Laid::At(place_regions(
+        lists,
+        latch_origins,
+        assigned,
+        model_counts,
+        totals,
+        work.len(),
+    ))
 }

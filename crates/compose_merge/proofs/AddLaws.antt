@@ -32,10 +32,10 @@ use Rattle.compose_layout.proofs.HasLaws.{has-same}
 use Rattle.compose_layout.proofs.StageLaws.{literals-long}
 use Rattle.compose_merge.specs.declared.Merging.the-variants as merging
 use Rattle.compose_merge.specs.Inner.Merged.{Base, Goes, Result, Counted, SmallOperands, definitionWords}
-use Rattle.compose_merge.specs.Inner.Stages.{Clean, Shared, LatchesDefined}
+use Rattle.compose_merge.specs.Inner.Stages.{Clean, Shared}
 use Rattle.compose_merge.proofs.WordLaws.{clean-part, clean-behind}
 use Rattle.compose_merge.proofs.BaseLaws.{base-kept}
-use Rattle.compose_merge.proofs.DefineLaws.{definitions-long}
+use Rattle.compose_merge.proofs.DefineLaws.{definitions-long, LatchesDefined}
 use Rattle.compose_merge.proofs.JointLaws.{Joint, var-low, literals-in, literals-translated, shared-kept}
 
 -- ---- literals in general
@@ -118,7 +118,7 @@ module _ (at : Layout) (first next g : ℕ) (work : List ℕ) where
   pub bads-can : Some (LatchesDefined at first next g work) → CanBads
   bads-can s = bads-room (s .m) (s .ws) (s .holds)
 
-  module _ (work' : List ℕ) (bads : ℕ) (same : length work' ≡ length work) (added : Added (at .safety) (at .constraints - at .safety) (at .vars) (at .«bad_bits») (at .bits) work work' bads) where
+  module _ {work' : List ℕ} {bads : ℕ} (same : length work' ≡ length work) (added : Added (at .safety) (at .constraints - at .safety) (at .vars) (at .«bad_bits») (at .bits) work work' bads) where
     -- what is asked for the constraints
     abbrev CanConstraints : Type 0
     CanConstraints = CanAdd (at .constraints) (at .«input_origins» - at .constraints) (at .vars) (at .«constraint_bits») (at .bits) work'
@@ -173,7 +173,7 @@ module _ (at : Layout) (first next g : ℕ) (work : List ℕ) where
     pub constraints-can : Some (LatchesDefined at first next g work) → CanConstraints
     constraints-can s = constraints-room (s .m) (s .ws) (s .holds)
 
-    module _ (work'' : List ℕ) (limits : ℕ) (same' : length work'' ≡ length work') (added' : Added (at .constraints) (at .«input_origins» - at .constraints) (at .vars) (at .«constraint_bits») (at .bits) work' work'' limits) where
+    module _ {work'' : List ℕ} {limits : ℕ} (same' : length work'' ≡ length work') (added' : Added (at .constraints) (at .«input_origins» - at .constraints) (at .vars) (at .«constraint_bits») (at .bits) work' work'' limits) where
       module _ (m : Sections) (ws : List Sections) (k : LatchesDefined at first next g work m ws) where
         -- the constraints stand behind the bads
         bads-ahead : at .«bad_bits» ≤ at .«constraint_bits»

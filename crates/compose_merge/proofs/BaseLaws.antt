@@ -56,11 +56,16 @@ pub record Step (Stage Next : Sections → List Sections → Type 0) (at : Layou
   pub next : (m : Sections) (ws : List Sections) → Stage m ws → Next m ws
   pub kept : (m : Sections) (ws : List Sections) → Stage m ws → take (at .assigned) work' ≡ take (at .assigned) work
 
-module _ (Stage Next : Sections → List Sections → Type 0) (at : Layout) (work work' : List ℕ) (p : Step Stage Next at work work') where
-  -- the next stage holds of some model and witnesses
-  pub step-some : Some Stage → Some Next
-  step-some s = record { m = s .m; ws = s .ws; holds = p .next (s .m) (s .ws) (s .holds) }
+-- one pass after another
+pub steps : {A B C : Sections → List Sections → Type 0} {at : Layout} {work work' work'' : List ℕ} → Step A B at work work' → Step B C at work' work'' → Step A C at work work''
+steps p q = record { next = λ m ws k. q .next m ws (p .next m ws k); kept = λ m ws k. q .kept m ws (p .next m ws k) ∙ p .kept m ws k }
 
-  -- what comes out of the next stage comes out of this one
-  pub step-goes : (work'' : List ℕ) (r : Merging) → Goes Next at work' work'' r → Goes Stage at work work'' r
-  step-goes work'' r g = record { goes = λ m ws k. outcome-back m ws at work work' work'' r (p .kept m ws k) (g .goes m ws (p .next m ws k)) }
+-- the next stage holds of some model and witnesses
+pub step-some : {A B : Sections → List Sections → Type 0} {at : Layout} {work work' : List ℕ} → Step A B at work work' → Some A → Some B
+step-some p s = record { m = s .m; ws = s .ws; holds = p .next (s .m) (s .ws) (s .holds) }
+
+-- what comes out of the next stage comes out of this one
+pub step-goes : {A B : Sections → List Sections → Type 0} {at : Layout} {work work' work'' : List ℕ} {r : Merging}
+    → Step A B at work work' → Goes B at work' work'' r → Goes A at work work'' r
+step-goes {A} {B} {at} {work} {work'} {work''} {r} p g =
+    record { goes = λ m ws k. outcome-back m ws at work work' work'' r (p .kept m ws k) (g .goes m ws (p .next m ws k)) }

@@ -13,12 +13,12 @@ use Rattle.witness_read.specs.Sections.{Sections}
 use Rattle.compose_numbers.proofs.CallLaws.{cleared-part}
 use Rattle.compose_gather.specs.declared.Totals.{Totals}
 use Rattle.compose_layout.specs.declared.Layout.{Layout}
-use Rattle.compose_layout.specs.Inner.Laid.{Regions, Some}
-use Rattle.compose_merge.specs.declared.Merging.{Merging}
-use Rattle.compose_merge.specs.Inner.Merged.{Mergeable, Goes}
-use Rattle.compose_merge.specs.Inner.Stages.{Clean, Clearable, Clears, Cleared}
+use Rattle.compose_joint.specs.Inner.Joint.{totalOf, gateCount}
+use Rattle.compose_layout.specs.Inner.Laid.{Regions, Some, Summed}
+use Rattle.compose_merge.specs.Inner.Merged.{Base, Model, Mergeable}
+use Rattle.compose_merge.specs.Inner.Stages.{Clean, Clearable, Clears}
 use Rattle.compose_merge.proofs.WordLaws.{clean-before}
-use Rattle.compose_merge.proofs.BaseLaws.{base-kept, Step, step-some, step-goes}
+use Rattle.compose_merge.proofs.BaseLaws.{base-kept, Step}
 
 -- ---- the three regions
 
@@ -66,7 +66,16 @@ regions-cleared at gates work leaves heads bits c a b d =
 
 -- ---- the pass
 
-module _ (mc : AagCounts) (t : Totals) (at : Layout) (work : List ℕ) where
+-- the words that are read before they are written are 0
+pub record Cleared (mc : AagCounts) (t : Totals) (at : Layout) (work : List ℕ) (m : Sections) (ws : List Sections) : Type 0 where
+  pub model : Model mc m
+  pub totals : Summed t ws
+  pub base : Base at work m ws
+  pub leaves : Clean work (at .assigned) (at .vars + 1)
+  pub heads : Clean work (at .gates) (at .gates + (totalOf gateCount ws + 1))
+  pub bits : Clean work (at .«bad_bits») (at .end)
+
+module _ {mc : AagCounts} {t : Totals} {at : Layout} {work : List ℕ} where
   -- the regions have their order
   clearable : (m : Sections) (ws : List Sections) → Mergeable mc t at work m ws → Clearable at (t .gates) work
   clearable m ws k =
@@ -79,11 +88,20 @@ module _ (mc : AagCounts) (t : Totals) (at : Layout) (work : List ℕ) where
         fits = k .base .fits;
       }
 
+  -- the sums of the code are small
+  pub sums-small : Some (Mergeable mc t at work)
+      → (at .vars + 1 + t .inputs ≤ length work) × ((at .assigned + mc .inputs ≤ length work) × (1 + t .inputs + t .latches ≤ 128000001))
+  sums-small s =
+      let k = s .holds in
+      let r = k .base .plan .regions in
+      let e : at .gates ≤ length work = omega (arith, r .definitions, r .badBits, r .constraintBits, r .end, k .base .fits) in
+      (omega (arith, r .gates, k .totals .inputs, e), (omega (arith, r .vars, r .gates, k .model .inputs, e), omega (arith, k .totals .inputs, k .totals .latches, k .base .plan .few)))
+
   -- as the code asks for it
   pub clear-can : Some (Mergeable mc t at work) → Clearable at (t .gates) work
   clear-can s = clearable (s .m) (s .ws) (s .holds)
 
-  module _ (work' : List ℕ) (same : length work' ≡ length work) (post : Clears at (t .gates) work work') where
+  module _ {work' : List ℕ} (same : length work' ≡ length work) (post : Clears at (t .gates) work work') where
     -- the next stage
     cleared : (m : Sections) (ws : List Sections) → Mergeable mc t at work m ws → Cleared mc t at work' m ws
     cleared m ws k =
@@ -97,13 +115,5 @@ module _ (mc : AagCounts) (t : Totals) (at : Layout) (work : List ℕ) where
         }
 
     -- the pass as a step
-    step : Step (Mergeable mc t at work) (Cleared mc t at work') at work work'
-    step = record { next = cleared; kept = λ m ws k. post .before }
-
-    -- the next stage holds
-    pub clear-next : Some (Mergeable mc t at work) → Some (Cleared mc t at work')
-    clear-next = step-some (Mergeable mc t at work) (Cleared mc t at work') at work work' step
-
-    -- what comes out of it
-    pub clear-goes : (work'' : List ℕ) (r : Merging) → Goes (Cleared mc t at work') at work' work'' r → Goes (Mergeable mc t at work) at work work'' r
-    clear-goes = step-goes (Mergeable mc t at work) (Cleared mc t at work') at work work' step
+    pub clear-step : Step (Mergeable mc t at work) (Cleared mc t at work') at work work'
+    clear-step = record { next = cleared; kept = λ m ws k. post .before }

@@ -16,9 +16,9 @@ use Rattle.lists.proofs.TestLaws.{each-so}
 use Rattle.lists.proofs.WordLaws.{words-length}
 use Rattle.witness_read.specs.Sections.{Sections}
 use Rattle.witness_load.specs.Inner.Loaded.{latchWords}
-use Rattle.compose_spec.specs.Numbering.{sameEntry, latchEntries, inputFirsts, latchFirsts}
+use Rattle.compose_spec.specs.Numbering.{sameEntry, latchEntries, inputFirsts, latchFirsts, leafCount}
 use Rattle.compose_spec.specs.Sharing.{translate}
-use Rattle.compose_spec.specs.Composing.{Defined, definedFrom, allDefined, agree, whole, composedLatches}
+use Rattle.compose_spec.specs.Composing.{Defined, definedFrom, allDefined, agree, whole, composedLatches, composedGates, gatesFit}
 use Rattle.compose_spec.proofs.KeepLaws.{composed-latches-length}
 use Rattle.compose_joint.specs.declared.Literals.the-variants as literals
 use Rattle.compose_joint.specs.Inner.Joint.{totalOf, latchCount, joint, listOf}
@@ -34,12 +34,11 @@ use Rattle.compose_gather.specs.declared.Totals.{Totals}
 use Rattle.compose_layout.specs.declared.Layout.{Layout}
 use Rattle.compose_layout.specs.Inner.Laid.{Has, variableTotal, Regions, Some}
 use Rattle.compose_layout.proofs.HasLaws.{has-put}
-use Rattle.compose_merge.specs.declared.Merging.{Merging}
 use Rattle.compose_merge.specs.declared.Merging.the-variants as merging
-use Rattle.compose_merge.specs.Inner.Merged.{Plan, Goes, latchNumbers, definitionWords}
-use Rattle.compose_merge.specs.Inner.Stages.{GatesShared, LatchesDefined}
+use Rattle.compose_merge.specs.Inner.Merged.{Plan, Base, Goes, latchNumbers, definitionWords}
+use Rattle.compose_merge.specs.Inner.Stages.{Clean, Shared, GatesShared}
 use Rattle.compose_merge.proofs.WordLaws.{part-has, has-at, clean-behind}
-use Rattle.compose_merge.proofs.BaseLaws.{base-kept, Step, step-some, step-goes}
+use Rattle.compose_merge.proofs.BaseLaws.{base-kept, Step}
 use Rattle.compose_merge.proofs.LeafLaws.{latches-long}
 use Rattle.compose_merge.proofs.JointLaws.{Joint, vars-low, vars-are, literals-in, literals-translated, shared-kept}
 
@@ -80,6 +79,18 @@ definitions-long m ws =
       appearing-length sameEntry [] (latchEntries m 0 ws),
       latch-entries-length m 0 ws,
     )
+
+-- the latches are defined, and 18 does not apply
+pub record LatchesDefined (at : Layout) (n k g : ℕ) (work : List ℕ) (m : Sections) (ws : List Sections) : Type 0 where
+  pub base : Base at work m ws
+  pub first : n ≡ suc (length (inputFirsts m ws))
+  pub next : k ≡ suc (leafCount m ws)
+  pub count : g ≡ length (composedGates m ws)
+  pub fits : gatesFit (leafCount m ws) (composedGates m ws) ≡ true
+  pub agrees : agree (allDefined (whole m ws)) ≡ true
+  pub shared : Shared at work m ws
+  pub definitions : Has work (at .definitions) (definitionWords m ws)
+  pub bits : Clean work (at .«bad_bits») (at .end)
 
 module _ (t : Totals) (at : Layout) (first next g : ℕ) (work : List ℕ) where
   -- where the composed variables of the latches stand
@@ -185,7 +196,7 @@ module _ (t : Totals) (at : Layout) (first next g : ℕ) (work : List ℕ) where
   pub definitions-can : Some (GatesShared t at first next g work) → Can
   definitions-can s = can (s .m) (s .ws) (s .holds)
 
-  module _ (work' : List ℕ) (r : DefinedLatches) (post : Defines (at .latches) (t .latches) (at .vars) own (at .definitions) first work work' r) where
+  module _ {work' : List ℕ} {r : DefinedLatches} (post : Defines (at .latches) (t .latches) (at .vars) own (at .definitions) first work work' r) where
     -- 18
     pub definitions-differ : r ≡ answer.Differs → (work'' : List ℕ) → Goes (GatesShared t at first next g work) at work work'' (merging.Refused 18)
     definitions-differ e work'' =
@@ -195,7 +206,7 @@ module _ (t : Totals) (at : Layout) (first next g : ℕ) (work : List ℕ) where
               rw (k .fits, f) refl;
         }
 
-    module _ (same : length work' ≡ length work) (q : ℕ) (e : r ≡ answer.Agreed q) where
+    module _ (same : length work' ≡ length work) {q : ℕ} (e : r ≡ answer.Agreed q) where
       -- 18 does not apply
       agreed : agree ds ≡ true
       agreed = agreed-true (agree ds) (metIn first 0 (latchVariables own (t .latches) work)) q (sym e ∙ post .returns)
@@ -237,13 +248,5 @@ module _ (t : Totals) (at : Layout) (first next g : ℕ) (work : List ℕ) where
             }
 
       -- the pass as a step
-      step : Step (GatesShared t at first next g work) (LatchesDefined at first next g work') at work work'
-      step = record { next = defined; kept = front }
-
-      -- the next stage holds
-      pub definitions-next : Some (GatesShared t at first next g work) → Some (LatchesDefined at first next g work')
-      definitions-next = step-some (GatesShared t at first next g work) (LatchesDefined at first next g work') at work work' step
-
-      -- what comes out of it
-      pub definitions-goes : (work'' : List ℕ) (o : Merging) → Goes (LatchesDefined at first next g work') at work' work'' o → Goes (GatesShared t at first next g work) at work work'' o
-      definitions-goes = step-goes (GatesShared t at first next g work) (LatchesDefined at first next g work') at work work' step
+      pub definitions-step : Step (GatesShared t at first next g work) (LatchesDefined at first next g work') at work work'
+      definitions-step = record { next = defined; kept = front }

@@ -29,13 +29,13 @@ use Rattle.compose_gather.specs.declared.Totals.{Totals}
 use Rattle.compose_layout.specs.declared.Layout.{Layout}
 use Rattle.compose_layout.specs.Inner.Laid.{Regions, Some}
 use Rattle.compose_layout.proofs.HasLaws.{has-same}
-use Rattle.compose_merge.specs.declared.Merging.{Merging}
 use Rattle.compose_merge.specs.declared.Merging.the-variants as merging
 use Rattle.compose_merge.specs.Inner.Merged.{Plan, Goes, inputNumbers, latchNumbers}
 use Rattle.compose_merge.specs.Inner.Stages as stage
-use Rattle.compose_merge.specs.Inner.Stages.{LeavesNumbered, GatesShared}
+use Rattle.compose_merge.specs.Inner.Stages.{GatesShared}
 use Rattle.compose_merge.proofs.WordLaws.{has-part, part-has, has-at, clean-part, clean-behind}
-use Rattle.compose_merge.proofs.BaseLaws.{base-kept, Step, step-some, step-goes}
+use Rattle.compose_merge.proofs.LatchLaws.{LeavesNumbered}
+use Rattle.compose_merge.proofs.BaseLaws.{base-kept, Step}
 use Rattle.compose_merge.proofs.LeafLaws.{inputs-long, latches-long}
 
 -- what the answer says of the test
@@ -130,11 +130,7 @@ module _ (t : Totals) (at : Layout) (first next : ℕ) (work : List ℕ) where
   pub gates-can : Some (LeavesNumbered t at first next work) → Can
   gates-can s = can (s .m) (s .ws) (s .holds)
 
-  -- the number of joint variables is small
-  pub gates-known : Some (LeavesNumbered t at first next work) → known ≤ 128000001
-  gates-known s = omega (arith, s .holds .totals .inputs, s .holds .totals .latches, s .holds .base .plan .few)
-
-  module _ (work' : List ℕ) (r : SharedGates) (post : Shares (at .operands) (t .gates) (at .vars) known (at .gates) (next - 1) work work' r) where
+  module _ {work' : List ℕ} {r : SharedGates} (post : Shares (at .operands) (t .gates) (at .vars) known (at .gates) (next - 1) work work' r) where
     -- 17
     pub gates-many : r ≡ answer.TooMany → (work'' : List ℕ) → Goes (LeavesNumbered t at first next work) at work work'' (merging.Refused 17)
     gates-many e work'' =
@@ -145,7 +141,7 @@ module _ (t : Totals) (at : Layout) (first next : ℕ) (work : List ℕ) where
               rw f refl;
         }
 
-    module _ (same : length work' ≡ length work) (g : ℕ) (e : r ≡ answer.All g) where
+    module _ (same : length work' ≡ length work) {g : ℕ} (e : r ≡ answer.All g) where
       -- 17 does not apply, and so many gates there are
       answered : (gatesFit (next - 1) (sharedIn (at .operands) (t .gates) (at .vars) known (next - 1) work .gates) ≡ true)
           × (g ≡ length (sharedIn (at .operands) (t .gates) (at .vars) known (next - 1) work .gates))
@@ -209,13 +205,5 @@ module _ (t : Totals) (at : Layout) (first next : ℕ) (work : List ℕ) where
             }
 
       -- the pass as a step
-      step : Step (LeavesNumbered t at first next work) (GatesShared t at first next g work') at work work'
-      step = record { next = gates-shared; kept = front }
-
-      -- the next stage holds
-      pub gates-next : Some (LeavesNumbered t at first next work) → Some (GatesShared t at first next g work')
-      gates-next = step-some (LeavesNumbered t at first next work) (GatesShared t at first next g work') at work work' step
-
-      -- what comes out of it
-      pub gates-goes : (work'' : List ℕ) (o : Merging) → Goes (GatesShared t at first next g work') at work' work'' o → Goes (LeavesNumbered t at first next work) at work work'' o
-      gates-goes = step-goes (LeavesNumbered t at first next work) (GatesShared t at first next g work') at work work' step
+      pub gates-step : Step (LeavesNumbered t at first next work) (GatesShared t at first next g work') at work work'
+      gates-step = record { next = gates-shared; kept = front }

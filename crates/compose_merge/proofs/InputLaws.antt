@@ -1,5 +1,5 @@
 -- Laws of the second pass: the inputs are numbered.
-use Prim.Native.Nat.{ℕ, _+_, _≤_}
+use Prim.Native.Nat.{ℕ, suc, _+_, _≤_}
 use mathlib.Core.List.{List}
 use mathlib.Core.Path.{_≡_, refl, sym, ap, _∙_}
 use native.Mathlib.Omega.{arith}
@@ -7,6 +7,7 @@ use lib.ListN.{length, take, drop}
 use Rattle.lists.specs.Parts.{part, zeros}
 use Rattle.witness_text.specs.declared.AagCounts.{AagCounts}
 use Rattle.witness_read.specs.Sections.{Sections}
+use Rattle.compose_spec.specs.Numbering.{inputFirsts}
 use Rattle.compose_joint.specs.declared.Leaves.the-variants as leaf
 use Rattle.compose_joint.specs.Inner.Joint.{totalOf, inputCount, gateCount, origins}
 use Rattle.compose_joint.specs.Inner.Numbers.{Numbers, numberAll}
@@ -16,13 +17,24 @@ use Rattle.compose_numbers.specs.Inner.Marked.{CanNumber, Numbered, numbersIn}
 use Rattle.compose_numbers.proofs.CallLaws.{numbers-stored, numbered-before, numbered-between, numbered-behind}
 use Rattle.compose_gather.specs.declared.Totals.{Totals}
 use Rattle.compose_layout.specs.declared.Layout.{Layout}
-use Rattle.compose_layout.specs.Inner.Laid.{Regions, Some}
-use Rattle.compose_merge.specs.declared.Merging.{Merging}
-use Rattle.compose_merge.specs.Inner.Merged.{Plan, Goes, inputNumbers}
-use Rattle.compose_merge.specs.Inner.Stages.{Cleared, InputsNumbered}
+use Rattle.compose_layout.specs.Inner.Laid.{Has, Regions, Some, Summed}
+use Rattle.compose_merge.specs.Inner.Merged.{Plan, Base, Model, inputNumbers}
+use Rattle.compose_merge.specs.Inner.Stages.{Clean}
 use Rattle.compose_merge.proofs.WordLaws.{has-part, clean-part, clean-kept, clean-behind}
-use Rattle.compose_merge.proofs.BaseLaws.{base-kept, Step, step-some, step-goes}
+use Rattle.compose_merge.proofs.ClearLaws.{Cleared}
+use Rattle.compose_merge.proofs.BaseLaws.{base-kept, Step}
 use Rattle.compose_merge.proofs.LeafLaws.{inputs-long, leaves-known, leaves-numbers}
+
+-- the inputs have their numbers, and the next number is n
+pub record InputsNumbered (mc : AagCounts) (t : Totals) (at : Layout) (n : ℕ) (work : List ℕ) (m : Sections) (ws : List Sections) : Type 0 where
+  pub model : Model mc m
+  pub totals : Summed t ws
+  pub base : Base at work m ws
+  pub next : n ≡ suc (length (inputFirsts m ws))
+  pub inputs : Has work (at .vars + 1) (inputNumbers m ws)
+  pub between : Clean work (at .assigned + length (m .inputs)) (at .vars + 1)
+  pub heads : Clean work (at .gates) (at .gates + (totalOf gateCount ws + 1))
+  pub bits : Clean work (at .«bad_bits») (at .end)
 
 module _ (mc : AagCounts) (t : Totals) (at : Layout) (work : List ℕ) where
   -- what is asked for
@@ -67,11 +79,7 @@ module _ (mc : AagCounts) (t : Totals) (at : Layout) (work : List ℕ) where
   pub inputs-can : Some (Cleared mc t at work) → Can
   inputs-can s = can (s .m) (s .ws) (s .holds)
 
-  -- the place of the numbers
-  pub inputs-own : Some (Cleared mc t at work) → at .vars + 1 ≤ length work
-  inputs-own s = omega (arith, room (s .m) (s .ws) (s .holds), s .holds .base .fits)
-
-  module _ (work' : List ℕ) (n : ℕ) (same : length work' ≡ length work) (post : Numbered (at .«input_origins») (t .inputs) (at .assigned) (mc .inputs) 0 (at .vars + 1) 1 work work' n) where
+  module _ {work' : List ℕ} {n : ℕ} (same : length work' ≡ length work) (post : Numbered (at .«input_origins») (t .inputs) (at .assigned) (mc .inputs) 0 (at .vars + 1) 1 work work' n) where
     module _ (m : Sections) (ws : List Sections) (k : Cleared mc t at work m ws) where
       -- nothing in front of the assigned numbers is written
       front : take (at .assigned) work' ≡ take (at .assigned) work
@@ -113,13 +121,5 @@ module _ (mc : AagCounts) (t : Totals) (at : Layout) (work : List ℕ) where
           }
 
     -- the pass as a step
-    step : Step (Cleared mc t at work) (InputsNumbered mc t at n work') at work work'
-    step = record { next = numbered; kept = front }
-
-    -- the next stage holds
-    pub inputs-next : Some (Cleared mc t at work) → Some (InputsNumbered mc t at n work')
-    inputs-next = step-some (Cleared mc t at work) (InputsNumbered mc t at n work') at work work' step
-
-    -- what comes out of it
-    pub inputs-goes : (work'' : List ℕ) (r : Merging) → Goes (InputsNumbered mc t at n work') at work' work'' r → Goes (Cleared mc t at work) at work work'' r
-    inputs-goes = step-goes (Cleared mc t at work) (InputsNumbered mc t at n work') at work work' step
+    pub inputs-step : Step (Cleared mc t at work) (InputsNumbered mc t at n work') at work work'
+    inputs-step = record { next = numbered; kept = front }

@@ -8,23 +8,34 @@ use Rattle.lists.specs.Parts.{part, zeros}
 use Rattle.lists.proofs.KeptLaws.{take-kept}
 use Rattle.witness_text.specs.declared.AagCounts.{AagCounts}
 use Rattle.witness_read.specs.Sections.{Sections}
-use Rattle.compose_spec.specs.Numbering.{inputFirsts}
+use Rattle.compose_spec.specs.Numbering.{inputFirsts, leafCount}
 use Rattle.compose_joint.specs.declared.Leaves.the-variants as leaf
 use Rattle.compose_joint.specs.Inner.Joint.{totalOf, inputCount, latchCount, gateCount, origins}
-use Rattle.compose_joint.specs.Inner.Numbers.{Numbers, numberAll}
+use Rattle.compose_joint.specs.Inner.Numbers.{Numbers, numberAll, leafVars}
 use Rattle.compose_joint.proofs.AmountLaws.{latch-origins-length, leaf-count-most}
 use Rattle.compose_joint.proofs.NumberLaws.{latch-numbers, latch-next}
 use Rattle.compose_numbers.specs.Inner.Marked.{CanNumber, Numbered, numbersIn}
 use Rattle.compose_numbers.proofs.CallLaws.{numbers-stored, numbered-before, numbered-between, numbered-behind}
 use Rattle.compose_gather.specs.declared.Totals.{Totals}
 use Rattle.compose_layout.specs.declared.Layout.{Layout}
-use Rattle.compose_layout.specs.Inner.Laid.{Has, Regions, Some}
-use Rattle.compose_merge.specs.declared.Merging.{Merging}
-use Rattle.compose_merge.specs.Inner.Merged.{Plan, Goes, inputNumbers, latchNumbers}
-use Rattle.compose_merge.specs.Inner.Stages.{InputsNumbered, LeavesNumbered}
+use Rattle.compose_layout.specs.Inner.Laid.{Has, Regions, Some, Summed}
+use Rattle.compose_merge.specs.Inner.Merged.{Plan, Base, inputNumbers, latchNumbers}
+use Rattle.compose_merge.specs.Inner.Stages.{Clean, Leaves}
 use Rattle.compose_merge.proofs.WordLaws.{has-part, has-join, clean-part, clean-behind}
-use Rattle.compose_merge.proofs.BaseLaws.{base-kept, Step, step-some, step-goes}
+use Rattle.compose_merge.proofs.InputLaws.{InputsNumbered}
+use Rattle.compose_merge.proofs.BaseLaws.{base-kept, Step}
 use Rattle.compose_merge.proofs.LeafLaws.{inputs-long, latches-long, leaves-known, leaves-numbers}
+
+-- the latches, too, and the next number is k; the first latch has the number n
+pub record LeavesNumbered (t : Totals) (at : Layout) (n k : ℕ) (work : List ℕ) (m : Sections) (ws : List Sections) : Type 0 where
+  pub totals : Summed t ws
+  pub base : Base at work m ws
+  pub first : n ≡ suc (length (inputFirsts m ws))
+  pub next : k ≡ suc (leafCount m ws)
+  pub leaves : Leaves at work m ws
+  pub vars : Has work (at .vars) (leafVars m ws)
+  pub heads : Clean work (at .gates) (at .gates + (totalOf gateCount ws + 1))
+  pub bits : Clean work (at .«bad_bits») (at .end)
 
 module _ (mc : AagCounts) (t : Totals) (at : Layout) (first : ℕ) (work : List ℕ) where
   -- what is asked for
@@ -79,11 +90,7 @@ module _ (mc : AagCounts) (t : Totals) (at : Layout) (first : ℕ) (work : List 
   pub latches-can : Some (InputsNumbered mc t at first work) → Can
   latches-can s = can (s .m) (s .ws) (s .holds)
 
-  -- the place of the numbers
-  pub latches-own : Some (InputsNumbered mc t at first work) → at .vars + 1 + t .inputs ≤ length work
-  latches-own s = omega (arith, can (s .m) (s .ws) (s .holds) .third)
-
-  module _ (work' : List ℕ) (next : ℕ) (same : length work' ≡ length work) (post : Numbered (at .«latch_origins») (t .latches) (at .assigned + mc .inputs) (mc .latches) (mc .inputs) (at .vars + 1 + t .inputs) first work work' next) where
+  module _ {work' : List ℕ} {next : ℕ} (same : length work' ≡ length work) (post : Numbered (at .«latch_origins») (t .latches) (at .assigned + mc .inputs) (mc .latches) (mc .inputs) (at .vars + 1 + t .inputs) first work work' next) where
     module _ (m : Sections) (ws : List Sections) (k : InputsNumbered mc t at first work m ws) where
       -- nothing in front of the assigned numbers is written
       front : take (at .assigned) work' ≡ take (at .assigned) work
@@ -150,13 +157,5 @@ module _ (mc : AagCounts) (t : Totals) (at : Layout) (first : ℕ) (work : List 
           }
 
     -- the pass as a step
-    step : Step (InputsNumbered mc t at first work) (LeavesNumbered t at first next work') at work work'
-    step = record { next = numbered; kept = front }
-
-    -- the next stage holds
-    pub latches-next : Some (InputsNumbered mc t at first work) → Some (LeavesNumbered t at first next work')
-    latches-next = step-some (InputsNumbered mc t at first work) (LeavesNumbered t at first next work') at work work' step
-
-    -- what comes out of it
-    pub latches-goes : (work'' : List ℕ) (r : Merging) → Goes (LeavesNumbered t at first next work') at work' work'' r → Goes (InputsNumbered mc t at first work) at work work'' r
-    latches-goes = step-goes (InputsNumbered mc t at first work) (LeavesNumbered t at first next work') at work work' step
+    pub latches-step : Step (InputsNumbered mc t at first work) (LeavesNumbered t at first next work') at work work'
+    latches-step = record { next = numbered; kept = front }

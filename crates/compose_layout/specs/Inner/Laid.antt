@@ -1,6 +1,6 @@
 -- For the contracts of the composer's inner functions: where everything stands in the work words.
 use Prim.Native.Nat.{ℕ, suc, _+_, _*_, _/_, _≤_}
-use mathlib.Core.Bool.{Bool, true, false}
+use mathlib.Core.Bool.{true, false}
 use mathlib.Core.List.{List, [], _∷_}
 use mathlib.Core.Path.{_≡_}
 use lib.ListN.{length}
@@ -9,14 +9,12 @@ use Rattle.lists.specs.Tests.{all}
 use Rattle.witness_text.specs.declared.AagCounts.{AagCounts}
 use Rattle.witness_read.specs.Sections.{Sections, variables}
 use Rattle.witness_read.specs.Reading.{countsIn}
-use Rattle.compose_spec.specs.Composing.{leavesRight, mapsRight}
-use Rattle.compose_spec.specs.Mapping.{mapsByName}
+use Rattle.compose_spec.specs.Composing.{mapsRight}
 use Rattle.compose_spec.specs.Calling.{sizes, textsIn}
 use Rattle.compose_joint.specs.declared.Literals.{Literals}
 use Rattle.compose_joint.specs.declared.Literals.the-variants as literals
-use Rattle.compose_joint.specs.declared.Leaves.{Leaves}
 use Rattle.compose_joint.specs.declared.Leaves.the-variants as leaf
-use Rattle.compose_joint.specs.Inner.Joint.{totalOf, inputCount, latchCount, gateCount, joint, listOf, namesOf, modelOf, origins}
+use Rattle.compose_joint.specs.Inner.Joint.{totalOf, inputCount, latchCount, gateCount, joint, listOf, origins}
 use Rattle.compose_gather.specs.declared.Totals.{Totals}
 use Rattle.compose_gather.specs.Inner.Gathered.{Blocks, wordTotal, Readable, literalCount}
 use Rattle.compose_layout.specs.declared.Layout.{Layout}
@@ -126,45 +124,35 @@ pub record Stage (mc : AagCounts) (t : Totals) (buffer : Bytes) (pairs work : Li
   pub standing : Standing work (wordTotal ws) ks
   pub to-is : to ≡ wordTotal ws + knownLength ks
 
--- the same, for some model and witnesses
-abbrev pub Staged : AagCounts → Totals → Bytes → List ℕ → List ℕ → (Sections → List Sections → List Known) → ℕ → Type 0
-Staged mc t buffer pairs work ks to = Some (λ m ws. Stage mc t buffer pairs work (ks m ws) to m ws)
+-- from words that fit to these, where the lists stand
+pub record Reaches (mc : AagCounts) (t : Totals) (buffer : Bytes) (pairs work work' : List ℕ) (ks : Sections → List Sections → List Known) (to : ℕ) : Type 0 where
+  pub stage : (m : Sections) (ws : List Sections) → Fitting mc t buffer pairs work m ws → Stage mc t buffer pairs work' (ks m ws) to m ws
 
--- what follows from a stage
-pub record Goes (mc : AagCounts) (t : Totals) (buffer : Bytes) (pairs work : List ℕ) (ks : Sections → List Sections → List Known) (to : ℕ) (work' : List ℕ) (r : Laid) : Type 0 where
-  pub goes : (m : Sections) (ws : List Sections) → Stage mc t buffer pairs work (ks m ws) to m ws → LaidOut buffer pairs m ws work' r
-
--- the joint lists that stand after so many steps
+-- a joint list of literals at its place
 abbrev pub literalsAt : Literals → ℕ → List Sections → Known
 literalsAt kind a ws = record { place = a; words = joint (listOf kind) ws }
 
-abbrev pub nothing : Sections → List Sections → List Known
-nothing m ws = []
-
-abbrev pub withLatches : ℕ → Sections → List Sections → List Known
-withLatches a m ws = literalsAt literals.Latches a ws ∷ []
-
-abbrev pub withOperands : ℕ → ℕ → Sections → List Sections → List Known
-withOperands a b m ws = literalsAt literals.Latches a ws ∷ literalsAt literals.Operands b ws ∷ []
-
-abbrev pub withSafety : ℕ → ℕ → ℕ → Sections → List Sections → List Known
-withSafety a b c m ws = literalsAt literals.Latches a ws ∷ literalsAt literals.Operands b ws ∷ literalsAt literals.Safety c ws ∷ []
-
-abbrev pub withConstraints : Lists → Sections → List Sections → List Known
-withConstraints l m ws =
+-- all four of them
+abbrev pub withLists : Lists → Sections → List Sections → List Known
+withLists l m ws =
     literalsAt literals.Latches (l .latches) ws ∷ literalsAt literals.Operands (l .operands) ws ∷ literalsAt literals.Safety (l .safety) ws
     ∷ literalsAt literals.Constraints (l .constraints) ws ∷ []
 
-abbrev pub withInputs : Lists → ℕ → Sections → List Sections → List Known
-withInputs l a m ws =
-    literalsAt literals.Latches (l .latches) ws ∷ literalsAt literals.Operands (l .operands) ws ∷ literalsAt literals.Safety (l .safety) ws
-    ∷ literalsAt literals.Constraints (l .constraints) ws ∷ record { place = a; words = origins leaf.Inputs m ws } ∷ []
+-- the witnesses can be laid out for a model with some counts
+pub record CanList (t : Totals) (buffer : Bytes) (pairs work : List ℕ) : Type 0 where
+  pub counts : AagCounts
+  pub can : CanLay counts t buffer pairs work
+
+-- the lists stand behind the texts' words, whatever the model
+abbrev pub ListsLaid : Totals → Bytes → List ℕ → List ℕ → List ℕ → Lists → Type 0
+ListsLaid t buffer pairs work work' l = (mc : AagCounts) → Reaches mc t buffer pairs work work' (withLists l) (l .end)
 
 -- ---- the places behind the lists
 
 -- so many words have room for all regions
-pub record PlacesFit (l : Lists) (assigned : ℕ) (mc : AagCounts) (t : Totals) (size : ℕ) : Type 0 where
-  pub fits : assigned + (mc .inputs + mc .latches) + (t .inputs + t .latches + t .gates + 1) + (4 * t .gates + 1) + 2 * t .latches + 2 * ((t .inputs + t .latches + t .gates) / 32 + 1) ≤ size
+pub record PlacesFit (assigned : ℕ) (mc : AagCounts) (t : Totals) (size : ℕ) : Type 0 where
+  pub fits : assigned + (mc .inputs + mc .latches) + (t .inputs + t .latches + t .gates + 1) + (4 * t .gates + 1) + 2 * t .latches
+      + 2 * ((t .inputs + t .latches + t .gates) / 32 + 1) ≤ size
 
 abbrev pub placesOf : Lists → ℕ → ℕ → AagCounts → Totals → Layout
 placesOf l latchOrigins assigned mc t =
@@ -186,14 +174,3 @@ placesOf l latchOrigins assigned mc t =
           assigned + (mc .inputs + mc .latches) + (t .inputs + t .latches + t .gates + 1) + (4 * t .gates + 1) + 2 * t .latches + ((t .inputs + t .latches + t .gates) / 32 + 1)
           + ((t .inputs + t .latches + t .gates) / 32 + 1);
     }
-
--- as `Goes`, where 16 is left to be decided by the inputs, or latches, only
-abbrev pub rightLeaves : Leaves → Sections → List Sections → Bool
-rightLeaves leaf m ws = all (λ s. leavesRight (modelOf leaf m) (mapsByName s) (namesOf leaf s)) ws
-
-abbrev pub LaidRight : Leaves → Bytes → List ℕ → Sections → List Sections → List ℕ → Laid → Type 0
-LaidRight leaf buffer pairs m ws work (laid.At at) = (rightLeaves leaf m ws ≡ true) × Ready buffer pairs m ws at work
-LaidRight leaf buffer pairs m ws work laid.Wrong = rightLeaves leaf m ws ≡ false
-
-pub record GoesRight (leaf : Leaves) (mc : AagCounts) (t : Totals) (buffer : Bytes) (pairs work : List ℕ) (ks : Sections → List Sections → List Known) (to : ℕ) (work' : List ℕ) (r : Laid) : Type 0 where
-  pub goes : (m : Sections) (ws : List Sections) → Stage mc t buffer pairs work (ks m ws) to m ws → LaidRight leaf buffer pairs m ws work' r

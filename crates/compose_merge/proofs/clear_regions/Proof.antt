@@ -5,7 +5,11 @@ use Rattle.compose_merge.proofs.clear_regions.Tie as tie
 
 returns : tie.Need-returns
 returns c =
-    regions-cleared _ _ _ _ _ _ (c .before .before .before .before .before .before .before .before .before .before .before .before .before .before .before .pre) (c .before .before .before .before .before .before .before .before .before .before .before .regions-clear .ensures) (c .before .before .before .before .before .before .regions-clear2 .ensures) (c .before .before .regions-clear3 .ensures)
+    let bits = c .before .before in
+    let heads = bits .before .before .before .before in
+    let leaves = heads .before .before .before .before .before in
+    let start = leaves .before .before .before .before in
+    regions-cleared _ _ _ _ _ _ (start .pre) (leaves .regions-clear .ensures) (heads .regions-clear2 .ensures) (bits .regions-clear3 .ensures)
 
 pub clear-regions-spec : {M : Type 1} → statement M
 clear-regions-spec =

@@ -17,8 +17,6 @@ use Rattle.compose_spec.specs.Sharing.{Operands}
 use Rattle.compose_spec.specs.Inner.Keys.{keyOf}
 use Rattle.compose_spec.specs.Composing.{composedGates, whole, gatesFit, allDefined, agree, composedLatches, safety, literalsOf}
 use Rattle.compose_spec.specs.Inner.Ranges.{InRange}
-use Rattle.compose_joint.specs.declared.Literals.the-variants as literals
-use Rattle.compose_joint.specs.declared.Leaves.the-variants as leaf
 use Rattle.compose_joint.specs.Inner.Joint.{totalOf, inputCount, gateCount}
 use Rattle.key_table.specs.Inner.Table.{Held}
 use Rattle.compose_gather.specs.declared.Totals.{Totals}

@@ -5,18 +5,17 @@ use mathlib.Core.List.{List, map}
 use mathlib.Core.Path.{_≡_}
 use lib.ListN.{length, take}
 use Rattle.lists.specs.Parts.{part, zeros}
-use Rattle.witness_text.specs.declared.AagCounts.{AagCounts}
 use Rattle.witness_read.specs.Sections.{Sections}
 use Rattle.compose_spec.specs.Numbering.{inputFirsts, leafCount}
 use Rattle.compose_spec.specs.Inner.Keys.{keyOf}
-use Rattle.compose_spec.specs.Composing.{composedGates, whole, gatesFit, allDefined, agree}
+use Rattle.compose_spec.specs.Composing.{composedGates, gatesFit}
 use Rattle.compose_joint.specs.Inner.Joint.{totalOf, inputCount, gateCount}
-use Rattle.compose_joint.specs.Inner.Numbers.{leafVars, jointShared}
+use Rattle.compose_joint.specs.Inner.Numbers.{jointShared}
 use Rattle.key_table.specs.Inner.Table.{Held}
 use Rattle.compose_gather.specs.declared.Totals.{Totals}
 use Rattle.compose_layout.specs.declared.Layout.{Layout}
 use Rattle.compose_layout.specs.Inner.Laid.{Has, Summed}
-use Rattle.compose_merge.specs.Inner.Merged.{Base, Model, inputNumbers, latchNumbers, definitionWords}
+use Rattle.compose_merge.specs.Inner.Merged.{Base, inputNumbers, latchNumbers}
 
 -- the words from one place up to another are 0
 pub record Clean (work : List ℕ) (a e : ℕ) : Type 0 where
@@ -38,41 +37,10 @@ pub record Clears (at : Layout) (gates : ℕ) (work work' : List ℕ) : Type 0 w
   pub bits : Clean work' (at .«bad_bits») (at .end)
   pub before : take (at .assigned) work' ≡ take (at .assigned) work
 
--- the words that are read before they are written are 0
-pub record Cleared (mc : AagCounts) (t : Totals) (at : Layout) (work : List ℕ) (m : Sections) (ws : List Sections) : Type 0 where
-  pub model : Model mc m
-  pub totals : Summed t ws
-  pub base : Base at work m ws
-  pub leaves : Clean work (at .assigned) (at .vars + 1)
-  pub heads : Clean work (at .gates) (at .gates + (totalOf gateCount ws + 1))
-  pub bits : Clean work (at .«bad_bits») (at .end)
-
--- the inputs have their numbers, and the next number is n
-pub record InputsNumbered (mc : AagCounts) (t : Totals) (at : Layout) (n : ℕ) (work : List ℕ) (m : Sections) (ws : List Sections) : Type 0 where
-  pub model : Model mc m
-  pub totals : Summed t ws
-  pub base : Base at work m ws
-  pub next : n ≡ suc (length (inputFirsts m ws))
-  pub inputs : Has work (at .vars + 1) (inputNumbers m ws)
-  pub between : Clean work (at .assigned + length (m .inputs)) (at .vars + 1)
-  pub heads : Clean work (at .gates) (at .gates + (totalOf gateCount ws + 1))
-  pub bits : Clean work (at .«bad_bits») (at .end)
-
 -- the numbers of inputs and latches stand in their places
 pub record Leaves (at : Layout) (work : List ℕ) (m : Sections) (ws : List Sections) : Type 0 where
   pub inputs : Has work (at .vars + 1) (inputNumbers m ws)
   pub latches : Has work (at .vars + 1 + totalOf inputCount ws) (latchNumbers m ws)
-
--- the latches, too, and the next number is k; the first latch has the number n
-pub record LeavesNumbered (t : Totals) (at : Layout) (n k : ℕ) (work : List ℕ) (m : Sections) (ws : List Sections) : Type 0 where
-  pub totals : Summed t ws
-  pub base : Base at work m ws
-  pub first : n ≡ suc (length (inputFirsts m ws))
-  pub next : k ≡ suc (leafCount m ws)
-  pub leaves : Leaves at work m ws
-  pub vars : Has work (at .vars) (leafVars m ws)
-  pub heads : Clean work (at .gates) (at .gates + (totalOf gateCount ws + 1))
-  pub bits : Clean work (at .«bad_bits») (at .end)
 
 -- what stands once gates are shared: all composed variables, and the composed gates by their keys
 pub record Shared (at : Layout) (work : List ℕ) (m : Sections) (ws : List Sections) : Type 0 where
@@ -89,16 +57,4 @@ pub record GatesShared (t : Totals) (at : Layout) (n k g : ℕ) (work : List ℕ
   pub count : g ≡ length (composedGates m ws)
   pub fits : gatesFit (leafCount m ws) (composedGates m ws) ≡ true
   pub shared : Shared at work m ws
-  pub bits : Clean work (at .«bad_bits») (at .end)
-
--- the latches are defined, and 18 does not apply
-pub record LatchesDefined (at : Layout) (n k g : ℕ) (work : List ℕ) (m : Sections) (ws : List Sections) : Type 0 where
-  pub base : Base at work m ws
-  pub first : n ≡ suc (length (inputFirsts m ws))
-  pub next : k ≡ suc (leafCount m ws)
-  pub count : g ≡ length (composedGates m ws)
-  pub fits : gatesFit (leafCount m ws) (composedGates m ws) ≡ true
-  pub agrees : agree (allDefined (whole m ws)) ≡ true
-  pub shared : Shared at work m ws
-  pub definitions : Has work (at .definitions) (definitionWords m ws)
   pub bits : Clean work (at .«bad_bits») (at .end)
