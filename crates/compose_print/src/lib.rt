@@ -1,47 +1,14 @@
-// The composition's text, printed from the work words: each function prints a part and goes on with the next. With an empty slice they only count.
+// The composition's text, printed from the work words. With an empty slice the functions only count.
 ghost use Rattle.compose_gather.specs.Inner.Counts.{CountsListed};
-ghost use Rattle.compose_print.specs.Inner.Written.{PrintableSome, PrintsText, fromLatchNames, fromInputNames, fromGates, fromConstraints, fromBads, fromLatches, fromInputs, fromHeader};
+ghost use Rattle.compose_print.specs.Inner.Written.{PrintableSome, PrintsText, fromInputNames, fromHeader};
 use compose_gather::Totals;
 use compose_joint::Leaves;
 use compose_layout::Layout;
 use compose_lines::Counts;
 use compose_merge::Merged;
 
-// From the symbols of the latches on.
-fn print_latch_names(
-    out: &mut [u8],
-    from: usize,
-    witnesses: &[u8],
-    pairs: &[u64],
-    counts: &[u64],
-    work: &[u64],
-    at: Layout,
-    merged: Merged,
-    totals: Totals,
-) -> usize
-    requires { ⌜ PrintableSome (now witnesses) (now pairs) (now work) at merged totals ⌝ }
-    requires { ⌜ CountsListed (now witnesses) (now pairs) (now counts) ⌝ }
-    ensures { λ r. ⌜ PrintsText fromLatchNames (now (witnesses .entry)) (now (pairs .entry)) (now (work .entry)) at merged totals (now (out .entry)) from (now (out .exit)) r ⌝ }
-{
-    let numbers = at.vars + 1 + totals.inputs;
-    let first = merged.inputs + 1;
-    let next = compose_names::print_symbols(
-        out,
-        from,
-        witnesses,
-        pairs,
-        counts,
-        work,
-        Leaves::Latches,
-        at.latch_origins,
-        numbers,
-        first as u64,
-    );
-    compose_lines::print_closing(out, next)
-}
-
-// From the symbols of the inputs on.
-fn print_input_names(
+// The symbols of the inputs and of the latches, and the last lines.
+fn print_names(
     out: &mut [u8],
     from: usize,
     witnesses: &[u8],
@@ -56,7 +23,10 @@ fn print_input_names(
     requires { ⌜ CountsListed (now witnesses) (now pairs) (now counts) ⌝ }
     ensures { λ r. ⌜ PrintsText fromInputNames (now (witnesses .entry)) (now (pairs .entry)) (now (work .entry)) at merged totals (now (out .entry)) from (now (out .exit)) r ⌝ }
 {
-    let next = compose_names::print_symbols(
+    let input_numbers = at.vars + 1;
+    let latch_numbers = input_numbers + totals.inputs;
+    let first_latch = merged.inputs + 1;
+    let latch_names = compose_names::print_symbols(
         out,
         from,
         witnesses,
@@ -65,190 +35,25 @@ fn print_input_names(
         work,
         Leaves::Inputs,
         at.input_origins,
-        at.vars + 1,
+        input_numbers,
         1,
     );
-    print_latch_names(
+    let closing = compose_names::print_symbols(
         out,
-        next,
+        latch_names,
         witnesses,
         pairs,
         counts,
         work,
-        at,
-        merged,
-        totals,
-    )
-}
-
-// From the gates on.
-fn print_gates(
-    out: &mut [u8],
-    from: usize,
-    witnesses: &[u8],
-    pairs: &[u64],
-    counts: &[u64],
-    work: &[u64],
-    at: Layout,
-    merged: Merged,
-    totals: Totals,
-) -> usize
-    requires { ⌜ PrintableSome (now witnesses) (now pairs) (now work) at merged totals ⌝ }
-    requires { ⌜ CountsListed (now witnesses) (now pairs) (now counts) ⌝ }
-    ensures { λ r. ⌜ PrintsText fromGates (now (witnesses .entry)) (now (pairs .entry)) (now (work .entry)) at merged totals (now (out .entry)) from (now (out .exit)) r ⌝ }
-{
-    let first = merged.inputs + merged.latches + 1;
-    let start = at.gates;
-    let end = at.definitions;
-    let next = compose_lines::print_gates(
-        out,
-        from,
-        first as u64,
-        &work[start..end],
-        totals.gates + 1,
-        merged.gates,
+        Leaves::Latches,
+        at.latch_origins,
+        latch_numbers,
+        first_latch as u64,
     );
-    print_input_names(
-        out,
-        next,
-        witnesses,
-        pairs,
-        counts,
-        work,
-        at,
-        merged,
-        totals,
-    )
+    compose_lines::print_closing(out, closing)
 }
 
-// From the constraints on.
-fn print_constraints(
-    out: &mut [u8],
-    from: usize,
-    witnesses: &[u8],
-    pairs: &[u64],
-    counts: &[u64],
-    work: &[u64],
-    at: Layout,
-    merged: Merged,
-    totals: Totals,
-) -> usize
-    requires { ⌜ PrintableSome (now witnesses) (now pairs) (now work) at merged totals ⌝ }
-    requires { ⌜ CountsListed (now witnesses) (now pairs) (now counts) ⌝ }
-    ensures { λ r. ⌜ PrintsText fromConstraints (now (witnesses .entry)) (now (pairs .entry)) (now (work .entry)) at merged totals (now (out .entry)) from (now (out .exit)) r ⌝ }
-{
-    let start = at.constraint_bits;
-    let end = at.end;
-    let next = text_print::print_set(out, from, &work[start..end]);
-    print_gates(
-        out,
-        next,
-        witnesses,
-        pairs,
-        counts,
-        work,
-        at,
-        merged,
-        totals,
-    )
-}
-
-// From the bads on.
-fn print_bads(
-    out: &mut [u8],
-    from: usize,
-    witnesses: &[u8],
-    pairs: &[u64],
-    counts: &[u64],
-    work: &[u64],
-    at: Layout,
-    merged: Merged,
-    totals: Totals,
-) -> usize
-    requires { ⌜ PrintableSome (now witnesses) (now pairs) (now work) at merged totals ⌝ }
-    requires { ⌜ CountsListed (now witnesses) (now pairs) (now counts) ⌝ }
-    ensures { λ r. ⌜ PrintsText fromBads (now (witnesses .entry)) (now (pairs .entry)) (now (work .entry)) at merged totals (now (out .entry)) from (now (out .exit)) r ⌝ }
-{
-    let start = at.bad_bits;
-    let end = at.constraint_bits;
-    let next = text_print::print_set(out, from, &work[start..end]);
-    print_constraints(
-        out,
-        next,
-        witnesses,
-        pairs,
-        counts,
-        work,
-        at,
-        merged,
-        totals,
-    )
-}
-
-// From the latches on.
-fn print_latches(
-    out: &mut [u8],
-    from: usize,
-    witnesses: &[u8],
-    pairs: &[u64],
-    counts: &[u64],
-    work: &[u64],
-    at: Layout,
-    merged: Merged,
-    totals: Totals,
-) -> usize
-    requires { ⌜ PrintableSome (now witnesses) (now pairs) (now work) at merged totals ⌝ }
-    requires { ⌜ CountsListed (now witnesses) (now pairs) (now counts) ⌝ }
-    ensures { λ r. ⌜ PrintsText fromLatches (now (witnesses .entry)) (now (pairs .entry)) (now (work .entry)) at merged totals (now (out .entry)) from (now (out .exit)) r ⌝ }
-{
-    let first = merged.inputs + 1;
-    let start = at.definitions;
-    let end = start + 2 * merged.latches;
-    let next = text_print::print_pairs(out, from, first as u64, &work[start..end]);
-    print_bads(
-        out,
-        next,
-        witnesses,
-        pairs,
-        counts,
-        work,
-        at,
-        merged,
-        totals,
-    )
-}
-
-// From the inputs on.
-fn print_inputs(
-    out: &mut [u8],
-    from: usize,
-    witnesses: &[u8],
-    pairs: &[u64],
-    counts: &[u64],
-    work: &[u64],
-    at: Layout,
-    merged: Merged,
-    totals: Totals,
-) -> usize
-    requires { ⌜ PrintableSome (now witnesses) (now pairs) (now work) at merged totals ⌝ }
-    requires { ⌜ CountsListed (now witnesses) (now pairs) (now counts) ⌝ }
-    ensures { λ r. ⌜ PrintsText fromInputs (now (witnesses .entry)) (now (pairs .entry)) (now (work .entry)) at merged totals (now (out .entry)) from (now (out .exit)) r ⌝ }
-{
-    let next = text_print::print_consecutive(out, from, 1, merged.inputs);
-    print_latches(
-        out,
-        next,
-        witnesses,
-        pairs,
-        counts,
-        work,
-        at,
-        merged,
-        totals,
-    )
-}
-
-// The whole text.
+// The whole text. A place that is printed at has the name of what stands there.
 pub fn print_composition(
     out: &mut [u8],
     witnesses: &[u8],
@@ -271,10 +76,35 @@ pub fn print_composition(
         bads: merged.bads as u64,
         constraints: merged.constraints as u64,
     };
-    let next = compose_lines::print_header(out, 0, head);
-    print_inputs(
+    let first_latch = merged.inputs + 1;
+    let first_gate = merged.inputs + merged.latches + 1;
+    let table = at.gates;
+    let definitions = at.definitions;
+    let definitions_end = definitions + 2 * merged.latches;
+    let bad_bits = at.bad_bits;
+    let constraint_bits = at.constraint_bits;
+    let end = at.end;
+    let inputs = compose_lines::print_header(out, 0, head);
+    let latches = text_print::print_consecutive(out, inputs, 1, merged.inputs);
+    let bads = text_print::print_pairs(
         out,
-        next,
+        latches,
+        first_latch as u64,
+        &work[definitions..definitions_end],
+    );
+    let constraints = text_print::print_set(out, bads, &work[bad_bits..constraint_bits]);
+    let gates = text_print::print_set(out, constraints, &work[constraint_bits..end]);
+    let names = compose_lines::print_gates(
+        out,
+        gates,
+        first_gate as u64,
+        &work[table..definitions],
+        totals.gates + 1,
+        merged.gates,
+    );
+    print_names(
+        out,
+        names,
         witnesses,
         pairs,
         counts,
