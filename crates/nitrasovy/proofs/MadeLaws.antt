@@ -17,13 +17,13 @@ use Rattle.obligation.specs.declared.Made.{Made}
 use Rattle.obligation.specs.Promise.{answerOf, sizes, Buffers, lentOf, Makes, clausesAfter, MakesRelation, MakesTransducer, MakesTerminal}
 use Rattle.nitrasovy.specs.declared.obligations.NitMade.{NitMade}
 use Rattle.nitrasovy.specs.Reasons.{madeReasons, Among}
-use Rattle.nitrasovy.specs.Inner.FlatEnums.{flatCounts}
+use Rattle.nitrasovy.specs.Inner.FlatEnums.{flatSizes}
 use Rattle.nitrasovy.specs.FlatObligations.{flatMade, MakesFlat, clausesFlat, RelationFlat, TransducerFlat, TerminalFlat}
 use Rattle.nitrasovy.proofs.ReasonLaws.{no-reason}
 use Rattle.nitrasovy.proofs.ModelLaws.{of-words}
 use Rattle.nitrasovy.proofs.CallReasons.{relation-among, transducer-among, terminal-among}
 
-flat-sizes : (a : Answer (List Clause)) → flatCounts (andThen a (λ cs. got (sizes cs))) ≡ flatMade a
+flat-sizes : (a : Answer (List Clause)) → flatSizes (andThen a (λ cs. got (sizes cs))) ≡ flatMade a
 flat-sizes (got cs) = refl
 flat-sizes (refused n) = refl
 
@@ -33,9 +33,9 @@ sizes-accepted (got cs) h r e z = (sizes cs, refl, ap (λ (x : NitMade). x .clau
 sizes-accepted (refused n) h r e z = no-reason madeReasons n refl (h .numbered n refl) (sym (ap (λ (x : NitMade). x .reason) e) ∙ z)
 
 -- what holds of the clauses that the code's answer counts holds of those that the flat answer counts
-module _ (answer : Answer (List Clause)) (among : Among madeReasons answer) (b : Buffers) (made : Made) (after : Buffers) (m : Makes answer b made after) (r : NitMade) (q : r ≡ flatCounts (answerOf made)) where
+module _ (answer : Answer (List Clause)) (among : Among madeReasons answer) (b : Buffers) (made : Made) (after : Buffers) (m : Makes answer b made after) (r : NitMade) (q : r ≡ flatSizes (answerOf made)) where
   flat-is : r ≡ flatMade answer
-  flat-is = q ∙ ap flatCounts (m .answers) ∙ flat-sizes answer
+  flat-is = q ∙ ap flatSizes (m .answers) ∙ flat-sizes answer
 
   makes-flat : MakesFlat answer b r after
   makes-flat = record { answers = flat-is; numbered = among; pairs = m .pairs; literals = m .literals; clears = m .clears }
@@ -45,7 +45,7 @@ module _ (answer : Answer (List Clause)) (among : Among madeReasons answer) (b :
       let t = sizes-accepted answer among r flat-is z in
       rw (t .2) (h (t .0) (m .answers ∙ t .1))
 
-module _ (q : Asked) (b : Buffers) (made : Made) (after : Buffers) (r : NitMade) (e : r ≡ flatCounts (answerOf made)) where
+module _ (q : Asked) (b : Buffers) (made : Made) (after : Buffers) (r : NitMade) (e : r ≡ flatSizes (answerOf made)) where
   relation-flat : (source : ℕ) (targets : List ℕ) → MakesRelation q source targets b made after → RelationFlat q source targets b r after
   relation-flat source targets m =
       let a = relation-among q source targets (lentOf b) in
@@ -64,7 +64,7 @@ module _ (q : Asked) (b : Buffers) (made : Made) (after : Buffers) (r : NitMade)
 -- ---- of a record that is lent as its words
 
 module _ (ws : List ℕ) (n : Counts) (a : n ≡ countsIn ws) (is : List ℕ) (c : is ≡ part ws 2 66) (ls : List AigerLatch) (d : ls ≡ latchesIn ws 8 67) (os : List ℕ) (o : os ≡ part ws 84 212)
-    (g relevant predicate predicateLiterals : List ℕ) (b : Buffers) (made : Made) (after : Buffers) (r : NitMade) (e : r ≡ flatCounts (answerOf made)) where
+    (g relevant predicate predicateLiterals : List ℕ) (b : Buffers) (made : Made) (after : Buffers) (r : NitMade) (e : r ≡ flatSizes (answerOf made)) where
   pub words-relation : (source : ℕ) (targets : List ℕ) → MakesRelation (askedOf (recordFrom n is ls os) g relevant predicate predicateLiterals) source targets b made after
       → RelationFlat (askedOf (recordIn ws) g relevant predicate predicateLiterals) source targets b r after
   words-relation source targets m =

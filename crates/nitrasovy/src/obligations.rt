@@ -3,7 +3,7 @@ ghost use mathlib.Core.Path.{_≡_};
 ghost use Rattle.model.specs.RecordWords.{recordIn};
 ghost use Rattle.obligation_spec.specs.Calls.{askedOf};
 ghost use Rattle.obligation.specs.Promise.{answerOf, buffersOf};
-ghost use Rattle.nitrasovy.specs.Inner.FlatEnums.{flatCounts};
+ghost use Rattle.nitrasovy.specs.Inner.FlatEnums.{flatSizes};
 ghost use Rattle.nitrasovy.specs.FlatObligations.{RelationFlat, TransducerFlat, TerminalFlat};
 use model::words;
 use obligation::Made;
@@ -20,7 +20,7 @@ pub struct NitMade {
 }
 
 fn flat_made(made: Made) -> NitMade
-    ensures { λ r. ⌜ r ≡ flatCounts (answerOf made) ⌝ }
+    ensures { λ r. ⌜ r ≡ flatSizes (answerOf made) ⌝ }
 {
     match made {
         Made::Clauses(appended) => NitMade {

@@ -19,9 +19,9 @@ abbrev pub reasonOf : Verdict → ℕ
 reasonOf verdict.Valid = 0
 reasonOf (verdict.Refused n) = n
 
-abbrev pub flatCounts : Answer ClauseCounts → NitMade
-flatCounts (got t) = record { reason = 0; clauses = t .clauses; literals = t .literals }
-flatCounts (refused n) = record { reason = n; clauses = 0; literals = 0 }
+abbrev pub flatSizes : Answer ClauseCounts → NitMade
+flatSizes (got t) = record { reason = 0; clauses = t .clauses; literals = t .literals }
+flatSizes (refused n) = record { reason = n; clauses = 0; literals = 0 }
 
 abbrev pub flatCounts : ReadAag → NitWitness
 flatCounts (read.Got n) =
