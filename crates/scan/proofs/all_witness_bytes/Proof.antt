@@ -17,10 +17,16 @@ abbrev μ-loop : tie.MeasureT-loop
 μ-loop s at₀ at = length s - at
 
 loop-again : tie.Need-loop-again Inv-loop μ-loop
-loop-again c = block-more isWitnessByte _ (c .before .before .before .before .before .loop .at) (c .before .before .before .block-end .result) (omega arith) _ (c .before .block-witness .ensures) _ (c .before .before .before .before .before .loop .inv) (c .if1 .taken)
+loop-again c =
+    let b3 = c .before .before .before in
+    let b5 = b3 .before .before in
+    block-more isWitnessByte _ (b5 .loop .at) (b3 .block-end .result) (omega arith) _ (c .before .block-witness .ensures) _ (b5 .loop .inv) (c .if1 .taken)
 
 returns : tie.Need-returns Inv-loop μ-loop
-returns c = block-stop isWitnessByte _ (c .before .before .before .before .before .loop .at) (c .before .before .before .block-end .result) (omega arith) _ (c .before .block-witness .ensures) _ (c .before .before .before .before .before .loop .inv) (c .if1 .left)
+returns c =
+    let b3 = c .before .before .before in
+    let b5 = b3 .before .before in
+    block-stop isWitnessByte _ (b5 .loop .at) (b3 .block-end .result) (omega arith) _ (c .before .block-witness .ensures) _ (b5 .loop .inv) (c .if1 .left)
 
 returns-2 : tie.Need-returns-2 Inv-loop μ-loop
 returns-2 c = search all-end

@@ -15,7 +15,10 @@ abbrev μ-loop : tie.MeasureT-loop
 μ-loop s at i₀ i = length s - i
 
 loop-again : tie.Need-loop-again Inv-loop μ-loop
-loop-again c = span-block inLine _ (c .before .before .before .before .before .loop .i) (c .before .before .before .block-end .result) (omega arith) (omega arith) _ (c .before .block-in-line .ensures) (c .if1 .taken) _ (c .before .before .before .before .before .loop .inv)
+loop-again c =
+    let b3 = c .before .before .before in
+    let b5 = b3 .before .before in
+    span-block inLine _ (b5 .loop .i) (b3 .block-end .result) (omega arith) (omega arith) _ (c .before .block-in-line .ensures) (c .if1 .taken) _ (b5 .loop .inv)
 
 pub blocks-in-line-spec : {M : Type 1} → statement M
 blocks-in-line-spec =
