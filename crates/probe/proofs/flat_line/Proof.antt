@@ -3,7 +3,7 @@ use Rattle.probe.proofs.flat_line.Statement.{statement}
 use Rattle.probe.proofs.flat_line.Tie as tie
 
 returns : tie.Need-returns
-returns c = rw (c .before .l .given .1)
+returns c = rw (c .before .line .given .1)
 
 returns-2 : tie.Need-returns-2
 returns-2 c = rw (c .enum-told .given .1)

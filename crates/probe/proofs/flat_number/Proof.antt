@@ -3,7 +3,7 @@ use Rattle.probe.proofs.flat_number.Statement.{statement}
 use Rattle.probe.proofs.flat_number.Tie as tie
 
 returns : tie.Need-returns
-returns c = rw (c .before .n .given .1)
+returns c = rw (c .before .number .given .1)
 
 returns-2 : tie.Need-returns-2
 returns-2 c = rw (c .enum-told .given .1)
