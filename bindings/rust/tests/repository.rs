@@ -88,8 +88,8 @@ fn an_export_that_names_an_inner_definition_is_found() {
         "believed",
         "inner-promise",
         "crates/nitrasovy/src/obligations.rt",
-        "pub extern \"C\" fn nit_wrong() -> u64\n    ensures { λ r. ⌜ r ≡ flatCounts ⌝ }\n{",
-        "flatCounts",
+        "pub extern \"C\" fn nit_wrong() -> u64\n    ensures { λ r. ⌜ r ≡ flatSizes ⌝ }\n{",
+        "flatSizes",
     );
 }
 
