@@ -142,7 +142,7 @@ fn compose_laid(
     }
 }
 
-// Composes witnesses that are read and for which there are enough work words; m are the counts of the model.
+// Composes witnesses that are read and for which there are enough work words, for a model with these counts.
 fn compose_fitting(
     witnesses: &[u8],
     pairs: &[u64],
@@ -187,7 +187,7 @@ fn room_beside(model_counts: AagCounts, words: usize) -> usize
     t.room
 }
 
-// Reads the witnesses and composes them; m are the counts of the model.
+// Reads the witnesses and composes them, for a model with these counts.
 fn compose_witnesses(
     witnesses: &[u8],
     pairs: &[u64],

@@ -146,7 +146,7 @@ pub fn after_words(counts: AagCounts, from: usize, end: usize) -> usize
     from + word_count(counts)
 }
 
-// Loads a text with the counts n from a place on, and returns the place after it.
+// Loads a text with these counts from a place on, and returns the place after it.
 fn load_at(text: &[u8], counts: AagCounts, work: &mut [u64], at: usize) -> usize
     requires { ⌜ LoadableAt (now text) counts (now work) at ⌝ }
     ensures { λ r. ⌜ (r ≡ at + wordsFor counts) × LoadsAt (now (text .entry)) counts at (now (work .entry)) (now (work .exit)) ⌝ }

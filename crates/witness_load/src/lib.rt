@@ -182,7 +182,7 @@ fn load_names(s: &[u8], cursor: Cursor, counts: AagCounts, out: &mut [u64])
     name_leaves(s, cursor, counts, out);
 }
 
-// The sections of a text with the counts n that is accepted, in front of the words.
+// The sections of an accepted text, whose counts are known, in front of the words.
 pub fn load(s: &[u8], known: AagCounts, words: &mut [u64])
     requires { ⌜ Loadable (now s) known (now words) ⌝ }
     ensures { λ _. ⌜ LoadsText (now (s .entry)) known (now (words .entry)) (now (words .exit)) ⌝ }
@@ -195,7 +195,7 @@ pub fn load(s: &[u8], known: AagCounts, words: &mut [u64])
     load_names(s, c, known, &mut words[..names]);
 }
 
-// Whether so many words are enough for sections with the counts n. The counts of outputs, bads and constraints are not added, since their sum may pass 2^64.
+// Whether so many words are enough for sections with these counts. The numbers of outputs, bads and constraints are not added, since their sum may pass 2^64.
 fn has_room(counts: AagCounts, size: usize) -> bool
     requires { ⌜ counted limited counts ≡ true ⌝ }
     ensures { λ r. ⌜ r ≡ leb (leafWords counts + bodyRoom counts) size ⌝ }
