@@ -82,7 +82,7 @@ module _ (n : ℕ) (some : 0 < n) (p : ModelLeaves) where
   abbrev Assigned : List Entry → List ℕ → Type 0
   Assigned seen assigned = (j : ℕ) → j < length assigned → getD assigned j 0 ≡ wordOf n seen (entryFor (2 * suc (p .before + j)))
 
-  -- the words behind those seen are numbered, whatever the assigned numbers is
+  -- the words behind those seen are numbered, whatever the assigned numbers are
   abbrev Rest : List Entry → List ℕ → List Entry → Type 0
   Rest seen xs es =
       (assigned : List ℕ) → length assigned ≡ p .count → Assigned seen assigned
@@ -130,7 +130,7 @@ module _ (n : ℕ) (some : 0 < n) (p : ModelLeaves) where
       same-entry : sameEntry e (entryFor (2 * suc (p .before + at))) ≡ true
       same-entry = ap (λ (k : Key). sameKey k (shared (2 * suc (p .before + at)))) is ∙ eq-eqb x (2 * suc (p .before + at)) literal-at
 
-      -- the assigned numbers has its word
+      -- the assigned numbers have its word
       word-here : getD assigned at 0 ≡ wordOf n seen e
       word-here = t at inside ∙ sym (word-alike n seen e (entryFor (2 * suc (p .before + at))) same-entry)
 

@@ -24,7 +24,7 @@ use Rattle.compose_origins.specs.Inner.Mapped.{CanMapAll, MapsAll}
 use Rattle.compose_layout.specs.declared.Layout.{Layout}
 use Rattle.compose_layout.specs.declared.Lists.{Lists}
 use Rattle.compose_layout.specs.declared.Laid.the-variants as laid
-use Rattle.compose_layout.specs.Inner.Laid.{Fitting, Ready, CanLay, Lays, knownLength, Reaches, withLists, PlacesFit, placesOf}
+use Rattle.compose_layout.specs.Inner.Laid.{Fitting, Ready, CanLay, Lays, knownLength, Reaches, withLists, LayoutFits, layoutOf}
 use Rattle.compose_layout.proofs.RoomLaws.{amounts}
 use Rattle.compose_layout.proofs.StageLaws.{literals-long}
 use Rattle.compose_layout.proofs.ReadyLaws.{stage-ready}
@@ -127,7 +127,7 @@ module _ {l : Lists} {mc : AagCounts} {t : Totals} {buffer : Bytes} {pairs work�
           last : Reaches mc t buffer pairs work₀ work₃ (λ m ws. withInputs l m ws ++ originsAt leaf.Latches b m ws ∷ []) assigned
           last = leaves-next (roomy-leaves l) listed work₃ r' g' e'
 
-          fits : (m : Sections) (ws : List Sections) → Fitting mc t buffer pairs work₀ m ws → PlacesFit assigned mc t (length work₃)
+          fits : (m : Sections) (ws : List Sections) → Fitting mc t buffer pairs work₀ m ws → LayoutFits assigned mc t (length work₃)
           fits m ws f =
               let k = last .stage m ws f in
               let s = k .fitting .totals in
@@ -138,10 +138,10 @@ module _ {l : Lists} {mc : AagCounts} {t : Totals} {buffer : Bytes} {pairs work�
                     (leaves-size ws (t .inputs) (t .latches) (t .gates) (s .inputs) (s .latches) (s .gates)) (k .fitting .room);
               }
 
-          pub places-fit : CanLay mc t buffer pairs work₀ → PlacesFit assigned mc t (length work₃)
+          pub places-fit : CanLay mc t buffer pairs work₀ → LayoutFits assigned mc t (length work₃)
           places-fit s = fits (s .m) (s .ws) (s .holds)
 
-          pub laid-out : {at : Layout} → at ≡ placesOf l b assigned mc t → Lays mc t buffer pairs work₀ work₃ (laid.At at)
+          pub laid-out : {at : Layout} → at ≡ layoutOf l b assigned mc t → Lays mc t buffer pairs work₀ work₃ (laid.At at)
           laid-out e'' m ws f = (
             right m ws f ∙ leaves-right (roomy-leaves l) listed work₃ r' g' e' m ws f,
             subst (λ (x : Layout). Ready buffer pairs m ws x work₃) (sym e'')

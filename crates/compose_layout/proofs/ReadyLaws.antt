@@ -13,7 +13,7 @@ use Rattle.compose_joint.specs.Inner.Joint.{totalOf, inputCount, latchCount, ga
 use Rattle.compose_joint.proofs.AmountLaws.{input-origins-length, latch-origins-length}
 use Rattle.compose_gather.specs.declared.Totals.{Totals}
 use Rattle.compose_layout.specs.declared.Lists.{Lists}
-use Rattle.compose_layout.specs.Inner.Laid.{Has, Regions, Listed, Ready, Stage, PlacesFit, placesOf}
+use Rattle.compose_layout.specs.Inner.Laid.{Has, Regions, Listed, Ready, Stage, LayoutFits, layoutOf}
 use Rattle.compose_layout.proofs.RoomLaws.{amounts}
 use Rattle.compose_layout.proofs.StageLaws.{literals-long}
 use Rattle.compose_layout.proofs.OriginLaws.{originsAt, withInputs}
@@ -23,7 +23,7 @@ module _ (l : Lists) (mc : AagCounts) (t : Totals) (buffer : Bytes) (pairs work 
   has : (a place : ℕ) (xs : List ℕ) → (place ≡ a) × Has work a xs → Has work place xs
   has a place xs h = subst (λ (j : ℕ). Has work j xs) (sym (h .0)) (h .1)
 
-  listed : Listed buffer pairs m ws (placesOf l b assigned mc t) work
+  listed : Listed buffer pairs m ws (layoutOf l b assigned mc t) work
   listed =
       let s = k .standing in
       record {
@@ -42,7 +42,7 @@ module _ (l : Lists) (mc : AagCounts) (t : Totals) (buffer : Bytes) (pairs work 
   last-place : b + length (origins leaf.Latches m ws) ≡ assigned
   last-place = omega (arith, k .to-is, k .standing .1 .1 .1 .1 .1 .0 .0)
 
-  regions : Regions m ws (placesOf l b assigned mc t)
+  regions : Regions m ws (layoutOf l b assigned mc t)
   regions =
       let s = k .standing in
       let n = amounts ws in
@@ -69,5 +69,5 @@ module _ (l : Lists) (mc : AagCounts) (t : Totals) (buffer : Bytes) (pairs work 
       sum : (i q a : ℕ) → i ≡ totalOf inputCount ws → q ≡ totalOf latchCount ws → a ≡ totalOf gateCount ws → i + q + a ≡ totalOf inputCount ws + totalOf latchCount ws + totalOf gateCount ws
       sum i q a e f g = omega arith
 
-  pub stage-ready : PlacesFit assigned mc t (length work) → Ready buffer pairs m ws (placesOf l b assigned mc t) work
+  pub stage-ready : LayoutFits assigned mc t (length work) → Ready buffer pairs m ws (layoutOf l b assigned mc t) work
   stage-ready p = record { regions = regions; listed = listed; fits = omega (arith, p .fits) }

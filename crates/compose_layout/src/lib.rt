@@ -1,7 +1,7 @@
 // All that the composer reads of the witnesses, laid out in the work words.
 ghost use mathlib.Core.Path.{_≡_};
 ghost use Rattle.compose_gather.specs.Inner.Counts.{CountsListed};
-ghost use Rattle.compose_layout.specs.Inner.Laid.{CanLay, Lays, CanList, ListsLaid, PlacesFit, placesOf};
+ghost use Rattle.compose_layout.specs.Inner.Laid.{CanLay, Lays, CanList, ListsLaid, LayoutFits, layoutOf};
 use compose_gather::Totals;
 use compose_joint::Leaves;
 use compose_joint::Literals;
@@ -51,8 +51,8 @@ fn place_regions(
     totals: Totals,
     size: usize,
 ) -> Layout
-    requires { ⌜ PlacesFit assigned «model_counts» totals size ⌝ }
-    ensures { λ r. ⌜ r ≡ placesOf listed «latch_origins» assigned «model_counts» totals ⌝ }
+    requires { ⌜ LayoutFits assigned «model_counts» totals size ⌝ }
+    ensures { λ r. ⌜ r ≡ layoutOf listed «latch_origins» assigned «model_counts» totals ⌝ }
 {
     let all = totals.inputs + totals.latches + totals.gates;
     let vars = assigned + (model_counts.inputs + model_counts.latches);

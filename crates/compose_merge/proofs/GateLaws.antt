@@ -91,7 +91,7 @@ module _ (t : Totals) (at : Layout) (first next : ℕ) (work : List ℕ) where
         let e = joint-earlier ws (plan .range) i (omega (arith, k .totals .gates)) in
         (omega (arith, left, e .0, k .totals .inputs, k .totals .latches), omega (arith, right, e .1, k .totals .inputs, k .totals .latches))
 
-    -- the words up to the end of the assigned numbers
+    -- the words up to the end of the table of gates
     room : at .gates + (4 * totalOf gateCount ws + 1) ≤ at .end
     room = omega (arith, places .definitions, places .badBits, places .constraintBits, places .end)
 
@@ -162,7 +162,7 @@ module _ (t : Totals) (at : Layout) (first next : ℕ) (work : List ℕ) where
         vars-end : at .vars + (known + t .gates) ≤ length work'
         vars-end = omega (arith, same, can m ws k .second, can m ws k .third)
 
-        -- the assigned numbers has the keys of the composed gates
+        -- the table of gates has the keys of the composed gates
         keys : Held (totalOf gateCount ws + 1) (map keyOf (composedGates m ws)) (part work' (at .gates) (at .gates + (4 * totalOf gateCount ws + 1)))
         keys =
             subst (λ (x : ℕ). Held (x + 1) (map keyOf (composedGates m ws)) (part work' (at .gates) (at .gates + (4 * x + 1)))) (k .totals .gates)

@@ -72,7 +72,7 @@ module _ (mc : AagCounts) (t : Totals) (at : Layout) (first : ℕ) (work : List 
               (k .base .stands .latchOrigins) counted (k .model .inputs) (k .model .latches);
         }
 
-    -- the assigned numbers is empty
+    -- the assigned numbers are all 0
     empty : part work (at .assigned + mc .inputs) (at .assigned + mc .inputs + mc .latches) ≡ zeros (mc .latches)
     empty =
         clean-part work (at .assigned + length (m .inputs)) (at .vars + 1) (k .between) (at .assigned + mc .inputs) (mc .latches)

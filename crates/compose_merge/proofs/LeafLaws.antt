@@ -45,7 +45,7 @@ module _ (kind : Leaves) (m : Sections) (ws : List Sections) (work : List ℕ) (
       (each-so (λ x. odd x ≡ false → OfKind (modelOf kind m) x) (HasSlot (modelOf kind m .before) (modelOf kind m .count)) (kind-has-slot (modelOf kind m)) (origins kind m ws)
       (origins-within kind m ws))))
 
-  -- their numbers, where the assigned numbers is empty
+  -- their numbers, where the assigned numbers are all 0
   pub leaves-numbers : (assigned next : ℕ) → part work assigned (assigned + size) ≡ zeros size
       → numbersIn a n assigned size before next work ≡ numberAll (modelOf kind m .before) next (origins kind m ws) (zeros (modelOf kind m .count))
   leaves-numbers assigned next c =

@@ -23,8 +23,8 @@ pub enum Merging {
     Refused(u64),
 }
 
-// Clears the words that are read before they are written: the numbers assigned to the model's leaves and the constant's variable behind it, the heads of the table of
-// gates, and both sets of bits.
+// Clears the words that are read before they are written: the numbers assigned to the model's leaves and the constant's variable behind
+// them, the heads of the table of gates, and both sets of bits.
 fn clear_regions(work: &mut [u64], at: Layout, gates: usize)
     requires { ⌜ Clearable at gates (now work) ⌝ }
     ensures { λ _. ⌜ Clears at gates (now (work .entry)) (now (work .exit)) ⌝ }

@@ -4,7 +4,7 @@ use mathlib.Core.Path.{_≡_, refl}
 use Rattle.lists.specs.Sets.{setOf}
 use Rattle.compose_numbers.specs.Inner.Marked.{turn, numberOne, numbersIn, literalsAt}
 
--- Origin words of four leaves: the model's variable 4, a private one, 4 again, 3. The model has two variables in front of those two, and the assigned numbers begins at place 4.
+-- Origin words of four leaves: the model's variable 4, a private one, 4 again, 3. The model has two variables in front of those two, and the assigned numbers begin at place 4.
 pub numbers : numbersIn 0 4 4 2 2 1 (8 ∷ 1 ∷ 8 ∷ 6 ∷ 0 ∷ 0 ∷ []) .numbers ≡ 1 ∷ 2 ∷ 1 ∷ 3 ∷ []
 numbers = refl
 

@@ -212,7 +212,7 @@ fn names_at(leaves: Leaves, counts: AagCounts, from: usize, end: usize) -> usize
     from + compose_gather::counts::names_before(leaves, counts)
 }
 
-// Whether witness maps by name; its words begin at a place.
+// Whether a witness maps by name; its words begin at a place.
 fn maps_by_name(text: &[u8], counts: AagCounts, work: &[u64], from: usize) -> bool
     requires { ⌜ CanTest (now text) counts (now work) from ⌝ }
     ensures { λ r. ⌜ TestsWitness (now (text .entry)) counts (now (work .entry)) from r ⌝ }

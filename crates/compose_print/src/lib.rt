@@ -8,7 +8,7 @@ use compose_lines::Counts;
 use compose_merge::Merged;
 
 // The symbols of the inputs and of the latches, and the last lines.
-fn print_names(
+fn print_tail(
     out: &mut [u8],
     from: usize,
     witnesses: &[u8],
@@ -102,7 +102,7 @@ pub fn print_composition(
         totals.gates + 1,
         merged.gates,
     );
-    print_names(
+    print_tail(
         out,
         names,
         witnesses,

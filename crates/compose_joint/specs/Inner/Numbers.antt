@@ -23,7 +23,7 @@ pub record Numbers : Type 0 where
 abbrev pub withNumber : ℕ → Numbers → Numbers
 withNumber x n = record { numbers = x ∷ n .numbers; assigned = n .assigned; next = n .next }
 
--- the assigned numbers has a word for each input, or latch, of the model: its number, or 0 before it appears; `before` variables of the model stand in front
+-- the assigned numbers have a word for each input, or latch, of the model: its number, or 0 before it appears; `before` variables of the model stand in front
 abbrev pub slot : ℕ → ℕ → ℕ
 slot before l = l / 2 - before - 1
 

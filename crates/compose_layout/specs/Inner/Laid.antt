@@ -150,12 +150,12 @@ ListsLaid t buffer pairs work work' l = (mc : AagCounts) → Reaches mc t buffer
 -- ---- the places behind the lists
 
 -- so many words have room for all regions
-pub record PlacesFit (assigned : ℕ) (mc : AagCounts) (t : Totals) (size : ℕ) : Type 0 where
+pub record LayoutFits (assigned : ℕ) (mc : AagCounts) (t : Totals) (size : ℕ) : Type 0 where
   pub fits : assigned + (mc .inputs + mc .latches) + (t .inputs + t .latches + t .gates + 1) + (4 * t .gates + 1) + 2 * t .latches
       + 2 * ((t .inputs + t .latches + t .gates) / 32 + 1) ≤ size
 
-abbrev pub placesOf : Lists → ℕ → ℕ → AagCounts → Totals → Layout
-placesOf l latchOrigins assigned mc t =
+abbrev pub layoutOf : Lists → ℕ → ℕ → AagCounts → Totals → Layout
+layoutOf l latchOrigins assigned mc t =
     record {
       latches = l .latches;
       operands = l .operands;

@@ -29,8 +29,8 @@ pub record Clearable (at : Layout) (gates : ℕ) (work : List ℕ) : Type 0 wher
   pub ends : at .«bad_bits» ≤ at .end
   pub fits : at .end ≤ length work
 
--- They are 0: the numbers assigned to the model's inputs and latches, with the composed variable of the constant behind it; the heads of the table of gates; both sets of
--- bits. Nothing in front of them is written.
+-- They are 0: the numbers assigned to the model's inputs and latches, with the composed variable of the constant behind them; the heads of
+-- the table of gates; both sets of bits. Nothing in front of them is written.
 pub record Clears (at : Layout) (gates : ℕ) (work work' : List ℕ) : Type 0 where
   pub leaves : Clean work' (at .assigned) (at .vars + 1)
   pub heads : Clean work' (at .gates) (at .gates + (gates + 1))

@@ -141,8 +141,8 @@ print-gates-requires c κs =
     let start = header .before .before .before .before .before .before .before .before .before .before .before .before in
     gates-can (start .pre .0)
 
-print-names-requires : tie.Need-print-names-requires
-print-names-requires c κs =
+print-tail-requires : tie.Need-print-tail-requires
+print-tail-requires c κs =
     let bads = c .before .before .before .before .before .before .before .before .before .before .before .before .before .before in
     let header = bads .before .before .before .before .before .before .before .before .before .before .before .before .before .before in
     let start = header .before .before .before .before .before .before .before .before .before .before .before .before in
@@ -159,7 +159,7 @@ same-length c =
     let header = inputs .before .before .before .before in
     omega (
       arith,
-      names .print-names .kept .0,
+      names .print-tail .kept .0,
       gates .print-gates .kept .0,
       constraints .print-set2 .kept .0,
       bads .print-set .kept .0,
@@ -185,7 +185,7 @@ returns c =
     (bads-printed (bads .print-set .kept .0) (bads .print-set .ensures)
     (constraints-printed (constraints .print-set2 .kept .0) (constraints .print-set2 .ensures)
     (gates-printed (gates .print-gates .kept .0) (gates .print-gates .ensures)
-    (λ word. names .print-names .ensures))))))
+    (λ word. names .print-tail .ensures))))))
     small
 
 pub print-composition-spec : {M : Type 1} → statement M
@@ -222,6 +222,6 @@ print-composition-spec =
     part-print-gates-end
     add-print-gates
     print-gates-requires
-    print-names-requires
+    print-tail-requires
     same-length
     returns)

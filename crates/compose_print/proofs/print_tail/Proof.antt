@@ -2,8 +2,8 @@ use borrow.Author.Needs.{needs}
 use native.Mathlib.Omega.{arith}
 use lib.ListN.{length}
 use Rattle.text_print.proofs.PrintsLaws.{Word}
-use Rattle.compose_print.proofs.print_names.Statement.{statement}
-use Rattle.compose_print.proofs.print_names.Tie as tie
+use Rattle.compose_print.proofs.print_tail.Statement.{statement}
+use Rattle.compose_print.proofs.print_tail.Tie as tie
 use Rattle.compose_print.proofs.WriteLaws.{input-symbols, latch-symbols, input-names-printed, latch-names-printed}
 
 print-symbols-requires : tie.Need-print-symbols-requires
@@ -28,8 +28,8 @@ returns c =
     (latch-names-printed (latches .print-symbols2 .kept .0) (latches .print-symbols2 .ensures) (closing .print-closing .ensures))
     small
 
-pub print-names-spec : {M : Type 1} → statement M
-print-names-spec =
+pub print-tail-spec : {M : Type 1} → statement M
+print-tail-spec =
     tie.close
     (tie.spec
     (λ c. search needs)
