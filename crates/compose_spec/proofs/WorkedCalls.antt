@@ -68,7 +68,7 @@ twenty-last = refl
 
 -- a byte, the first witness of 01's case, two bytes, the second, a byte: what no pair names is never looked at
 abbrev buffer : Bytes
-buffer = 13 ∷ 97 ∷ 97 ∷ 103 ∷ 32 ∷ 49 ∷ 32 ∷ 48 ∷ 32 ∷ 49 ∷ 32 ∷ 49 ∷ 32 ∷ 48 ∷ 10 ∷ 50 ∷ 32 ∷ 50 ∷ 10 ∷ 50 ∷ 10 ∷ 0 ∷ 127 ∷ 97 ∷ 97 ∷ 103 ∷ 32 ∷ 49 ∷ 32 ∷ 48 ∷ 32 ∷ 49 ∷ 32 ∷ 49 ∷ 32 ∷ 48 ∷ 10 ∷ 50 ∷ 32 ∷ 50 ∷ 10 ∷ 51 ∷ 10 ∷ 120 ∷ []
+buffer = (13 ∷ first) ++ (0 ∷ 127 ∷ second) ++ 120 ∷ []
 
 -- 01's composing case as a call, its texts one behind the other
 pub composing-call : composeCall 1104 82 model (first ++ second) (0 ∷ 20 ∷ 20 ∷ 20 ∷ []) ≡ got together
