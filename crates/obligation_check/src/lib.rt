@@ -29,20 +29,20 @@ fn indexes_hold(clause: &[u32], n: u32) -> bool
     true
 }
 
-// Whether the predicate's pairs are in order, and its words index one of n relevant inputs.
-fn predicate_holds(pairs: &[u64], words: &[u32], n: u32) -> bool
-    ensures { λ r. ⌜ r ≡ predicateHolds n 0 (now (words .entry)) (now (pairs .entry)) ⌝ }
+// Whether the predicate's pairs are in order, and its literals index one of n relevant inputs.
+fn predicate_holds(predicate_pairs: &[u64], predicate_literals: &[u32], n: u32) -> bool
+    ensures { λ r. ⌜ r ≡ predicateHolds n 0 (now («predicate_literals» .entry)) (now («predicate_pairs» .entry)) ⌝ }
 {
-    let size = words.len();
-    let count = pairs.len() / 2;
+    let size = predicate_literals.len();
+    let count = predicate_pairs.len() / 2;
     let mut end = 0;
     let mut i = 0;
     while i < count {
-        let PartEnd::At(next) = lists::pair_end(pairs, i, end, size) else {
+        let PartEnd::At(next) = lists::pair_end(predicate_pairs, i, end, size) else {
             return false;
         };
-        let offset = lists::index(pairs[2 * i]);
-        if indexes_hold(&words[offset..next], n) {
+        let offset = lists::index(predicate_pairs[2 * i]);
+        if indexes_hold(&predicate_literals[offset..next], n) {
             end = next;
             i += 1;
         } else {
@@ -53,8 +53,13 @@ fn predicate_holds(pairs: &[u64], words: &[u32], n: u32) -> bool
 }
 
 // Whether relevant inputs and predicate are right for a model of so many inputs: reason 13.
-fn validate_boundary(inputs: u64, relevant: &[u64], pairs: &[u64], words: &[u32]) -> bool
-    ensures { λ r. ⌜ Bounds inputs (now (relevant .entry)) (now (pairs .entry)) (now (words .entry)) r ⌝ }
+fn validate_boundary(
+    inputs: u64,
+    relevant: &[u64],
+    predicate_pairs: &[u64],
+    predicate_literals: &[u32],
+) -> bool
+    ensures { λ r. ⌜ Bounds inputs (now (relevant .entry)) (now («predicate_pairs» .entry)) (now («predicate_literals» .entry)) r ⌝ }
 {
     let count = relevant.len();
     if 64 < count {
@@ -66,13 +71,13 @@ fn validate_boundary(inputs: u64, relevant: &[u64], pairs: &[u64], words: &[u32]
     if !lists::below(relevant, inputs) {
         return false;
     }
-    if 64 < pairs.len() / 2 {
+    if 64 < predicate_pairs.len() / 2 {
         return false;
     }
-    if !lists::lengths_within(pairs, 1024) {
+    if !lists::lengths_within(predicate_pairs, 1024) {
         return false;
     }
-    predicate_holds(pairs, words, count as u32)
+    predicate_holds(predicate_pairs, predicate_literals, count as u32)
 }
 
 // 2^L.
