@@ -16,7 +16,9 @@ print-composition-requires : tie.Need-print-composition-requires
 print-composition-requires c κs = (search needs, search needs)
 
 returns-2 : tie.Need-returns-2
-returns-2 c = let small : length (c .before .before .before .before .before .before .before .before .before .before .before .before .before .before .args .out .now) < 9223372036854775808 = omega (arith, c .before .before .before .before .before .before .before .before .before .before .before .before .before .before .good .1 .1 .1 .1 .1 .1 .1 .0) in search written
+returns-2 c =
+    let b14 = c .before .before .before .before .before .before .before .before .before .before .before .before .before .before in
+    let small : length (b14 .args .out .now) < 9223372036854775808 = omega (arith, b14 .good .1 .1 .1 .1 .1 .1 .1 .0) in search written
 
 pub write-merged-spec : {M : Type 1} → statement M
 write-merged-spec =

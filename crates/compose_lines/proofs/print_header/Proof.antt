@@ -6,9 +6,11 @@ use Rattle.compose_lines.proofs.print_header.Tie as tie
 
 returns : tie.Need-returns
 returns c =
-    let args = c .before .before .before .before .before .before .before .before .before .before .before .before .before .before .args in
-    let first = c .before .before .before .before .before .before .before .before .before .before .before .print-start in
-    let second = c .before .before .before .before .before .before .before .print-four in
+    let b7 = c .before .before .before .before .before .before .before in
+    let b11 = b7 .before .before .before .before in
+    let args = b11 .before .before .before .args in
+    let first = b11 .print-start in
+    let second = b7 .print-four in
     let last = c .before .before .print-bytes in
     header-printed _ _ _ _ _ _ (omega arith) (omega (arith, first .kept .0)) (args .counts) _ _ (omega (arith, first .kept .0, second .kept .0)) (first .ensures) (second .ensures) (last .ensures)
 

@@ -7,9 +7,11 @@ use Rattle.compose_names.proofs.print_symbol.Tie as tie
 
 returns : tie.Need-returns
 returns c =
-    let args = c .before .before .before .before .before .before .before .before .before .before .before .before .before .before .args in
-    let head = c .before .before .before .before .before .before .before .before .before .before .print-head in
-    let name = c .before .before .before .before .before .before .print-name in
+    let b6 = c .before .before .before .before .before .before in
+    let b10 = b6 .before .before .before .before in
+    let args = b10 .before .before .before .before .args in
+    let head = b10 .print-head in
+    let name = b6 .print-name in
     let end = c .before .before .print-byte in
     symbol-printed _ _ (omega arith) (args .leaves) (args .k) _ _ _ _ _ _ (omega (arith, head .kept .0)) (omega (arith, head .kept .0, name .kept .0))
     (nameFor (args .leaves) (args .w) (args .origin) (ownName (args .text .now) (args .start) (args .size))) (head .ensures) (name .ensures) (end .ensures)

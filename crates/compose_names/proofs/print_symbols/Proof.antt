@@ -26,12 +26,14 @@ pass-requires c κs = search walking-pass
 
 loop-again : tie.Need-loop-again Inv-loop μ-loop
 loop-again c =
-    let start = c .before .before .before .before .before .before .before .before .before .before .before .before .before .before in
-    let loop = c .before .before .before .before .before .before .before .before .loop in
-    let less = c .before .before .before .before .before .before .before .loop-test in
-    let text = c .before .before .before .before .before .before .text-at in
-    let counts = c .before .before .before .before .before .counts-at in
-    let lines = c .before .before .before .print-witness in
+    let b3 = c .before .before .before in
+    let b6 = b3 .before .before .before in
+    let start = b6 .before .before .before .before .before .before .before .before in
+    let loop = b6 .before .before .loop in
+    let less = b6 .before .loop-test in
+    let text = b6 .text-at in
+    let counts = b3 .before .before .counts-at in
+    let lines = b3 .print-witness in
     let places = c .pass in
     (walking-more _ _ _ _ _ _ _ _ _ _ _ _ _ _ (loop .inv .0) (loop .inv .1) (omega (arith, less)) _ (text .ensures) _ (start .pre .1) _ (counts .ensures) _ _ (omega (arith, lines .kept .0)) (lines .ensures) _ (places .ensures), search needs)
 

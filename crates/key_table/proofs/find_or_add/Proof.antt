@@ -27,8 +27,10 @@ add-requires c κs =
 
 returns : tie.Need-returns
 returns c =
-    let p = c .before .before .before .before .before .before .before .before .before .before .pre in
-    finds-new _ _ _ _ _ _ _ (p .base .some) (p .room) (c .before .before .before .before .before .before .before .walk .ensures) (c .before .before .before .before .before .index .ensures) (c .before .before .before .before .if1 .taken) (c .before .before .add .ensures)
+    let b4 = c .before .before .before .before in
+    let b7 = b4 .before .before .before in
+    let p = b7 .before .before .before .pre in
+    finds-new _ _ _ _ _ _ _ (p .base .some) (p .room) (b7 .walk .ensures) (b4 .before .index .ensures) (b4 .if1 .taken) (c .before .before .add .ensures)
 
 returns-2 : tie.Need-returns-2
 returns-2 c = finds-known _ _ _ _ _ _ (c .before .before .before .before .before .before .pre .base .some) (c .before .before .before .walk .ensures) (c .before .index .ensures) (c .if1 .left)

@@ -64,7 +64,9 @@ loop-less c = omega (arith, within (c .before .before .before .before .before .b
 
 loop-again : tie.Need-loop-again Inv-loop μ-loop
 loop-again c =
-    comes-more _ _ _ (c .before .before .before .before .before .before .before .before .before .before .before .pre) _ _ (c .before .before .before .before .before .before .loop .inv) _ _ (c .before .before .before .before .index .ensures) (c .before .before .before .if1 .left) (c .before .if2 .left) (c .index2 .ensures)
+    let b3 = c .before .before .before in
+    let b6 = b3 .before .before .before in
+    comes-more _ _ _ (b6 .before .before .before .before .before .pre) _ _ (b6 .loop .inv) _ _ (b3 .before .index .ensures) (b3 .if1 .left) (c .before .if2 .left) (c .index2 .ensures)
 
 pub walk-spec : {M : Type 1} → statement M
 walk-spec =

@@ -24,9 +24,12 @@ loop-holds : tie.Need-loop-holds Inv-loop μ-loop
 loop-holds c = (omega arith, refl, search gates-start)
 
 loop-again : tie.Need-loop-again Inv-loop μ-loop
-loop-again c = let l = c .before .before .before .before .before .before .before .before .before .loop in
-    let s = c .before .before .before .before .before .before .before .before .before .before .before .before .before .args in
-    let g = c .before .before .before .define-gate in
+loop-again c =
+    let b3 = c .before .before .before in
+    let b9 = b3 .before .before .before .before .before .before in
+    let l = b9 .loop in
+    let s = b9 .before .before .before .before .args in
+    let g = b3 .define-gate in
     (search needs, search needs, gates-more _ _ (s .gates .now) _ (l .i) (l .work) (l .inv .2) (l .i + 1) (omega arith) (omega arith) (g .result) (g .last .0) (g .ensures) (c .if2 .taken))
 
 returns-2 : tie.Need-returns-2 Inv-loop μ-loop

@@ -27,9 +27,12 @@ push-gate-requires c κs = let l = c .before .before .before .before .before .be
     (gate-low (s .args .gates .now) (s .args .count) (l .i) (s .pre .0) (omega arith) (s .pre .1), gate-space (s .args .gates .now) (s .args .count) (l .i) (s .pre .0) (omega arith) _ _ _ _ _ _ (l .inv .3) (s .pre .2))
 
 loop-again : tie.Need-loop-again Inv-loop μ-loop
-loop-again c = let l = c .before .before .before .before .before .before .before .before .before .before .before .loop in
-    let s = c .before .before .before .before .before .before .before .before .before .before .before .before .before .before .before in
-    (search needs, search needs, search needs, gate-next (s .args .gates .now) (s .args .count) (l .i) (s .pre .0) (omega arith) _ _ _ _ _ _ (l .inv .3) _ _ _ (c .before .before .before .before .push-gate .ensures))
+loop-again c =
+    let b4 = c .before .before .before .before in
+    let b11 = b4 .before .before .before .before .before .before .before in
+    let l = b11 .loop in
+    let s = b11 .before .before .before .before in
+    (search needs, search needs, search needs, gate-next (s .args .gates .now) (s .args .count) (l .i) (s .pre .0) (omega arith) _ _ _ _ _ _ (l .inv .3) _ _ _ (b4 .push-gate .ensures))
 
 returns : tie.Need-returns Inv-loop μ-loop
 returns c = let l = c .before .loop in

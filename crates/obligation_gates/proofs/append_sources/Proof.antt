@@ -30,9 +30,13 @@ push-literal-requires c κs = let l = c .before .before .before .before .before 
     (source-narrow (s .args .currents .now) (s .args .source) (l .i) _ (omega arith) e (s .pre .0), source-space (s .args .currents .now) (s .args .source) (l .i) _ (omega arith) e _ _ _ _ _ _ (l .inv .2) (s .pre .2))
 
 loop-again : tie.Need-loop-again Inv-loop μ-loop
-loop-again c = let l = c .before .before .before .before .before .before .before .before .before .before .loop in
-    let s = c .before .before .before .before .before .before .before .before .before .before .before .before .before .before in
-    (search needs, search needs, source-next (s .args .currents .now) (s .args .source) (l .i) _ (omega arith) (c .before .before .before .before .before .before .before .source-literal .ensures) _ _ _ _ _ _ (l .inv .2) _ _ _ (c .before .before .before .before .push-literal .ensures))
+loop-again c =
+    let b4 = c .before .before .before .before in
+    let b7 = b4 .before .before .before in
+    let b10 = b7 .before .before .before in
+    let l = b10 .loop in
+    let s = b10 .before .before .before .before in
+    (search needs, search needs, source-next (s .args .currents .now) (s .args .source) (l .i) _ (omega arith) (b7 .source-literal .ensures) _ _ _ _ _ _ (l .inv .2) _ _ _ (b4 .push-literal .ensures))
 
 returns : tie.Need-returns Inv-loop μ-loop
 returns c = let l = c .before .loop in

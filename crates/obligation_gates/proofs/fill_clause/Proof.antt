@@ -29,9 +29,12 @@ word-requires c κs = let l = c .before .before .before .before .before .before 
     keeping-some (s .args .inputs .now) (s .args .relevant .now) (s .args .clause .now) _ _ _ (l .i) (s .pre .0) (l .inv .0) (omega arith) _ (c .predicate-literal .ensures)
 
 loop-again : tie.Need-loop-again Inv-loop μ-loop
-loop-again c = let l = c .before .before .before .before .before .before .before .before .loop in
-    let s = c .before .before .before .before .before .before .before .before .before .before .before .before .before in
-    (keeping-more (s .args .inputs .now) (s .args .relevant .now) (s .args .clause .now) _ _ _ (l .i) (s .pre .0) (l .inv .0) (omega arith) _ _ (c .before .before .before .before .add .ensures) (omega (arith, l .inv .0 .few, l .inv .2, s .pre .1)) _ (c .before .predicate-literal .ensures) _ (c .word .ensures), omega arith, search needs)
+loop-again c =
+    let b4 = c .before .before .before .before in
+    let b8 = b4 .before .before .before .before in
+    let l = b8 .loop in
+    let s = b8 .before .before .before .before .before in
+    (keeping-more (s .args .inputs .now) (s .args .relevant .now) (s .args .clause .now) _ _ _ (l .i) (s .pre .0) (l .inv .0) (omega arith) _ _ (b4 .add .ensures) (omega (arith, l .inv .0 .few, l .inv .2, s .pre .1)) _ (c .before .predicate-literal .ensures) _ (c .word .ensures), omega arith, search needs)
 
 loop-again-2 : tie.Need-loop-again-2 Inv-loop μ-loop
 loop-again-2 c = let l = c .before .before .before .before .before .before .loop in

@@ -31,11 +31,14 @@ write-field-requires-3 c κs = (search needs, (omega arith, search needs))
 
 returns-3 : tie.Need-returns-3
 returns-3 c =
-    let a = c .before .before .before .before .before .before .before .before .before .before .before .before .before .before .before .before .digit-count .ensures .0 in
-    let b = c .before .before .before .before .before .before .before .before .before .before .before .before .before .before .before .digit-count2 .ensures .0 in
-    let d = c .before .before .before .before .before .before .before .before .before .before .before .before .before .before .digit-count3 .ensures .0 in
-    let e = c .before .before .before .before .before .before .before .before .before .before .write-field .ensures in
-    let f = c .before .before .before .before .before .before .write-field2 .ensures in
+    let b6 = c .before .before .before .before .before .before in
+    let b10 = b6 .before .before .before .before in
+    let b14 = b10 .before .before .before .before in
+    let a = b14 .before .before .digit-count .ensures .0 in
+    let b = b14 .before .digit-count2 .ensures .0 in
+    let d = b14 .digit-count3 .ensures .0 in
+    let e = b10 .write-field .ensures in
+    let f = b6 .write-field2 .ensures in
     let g = c .before .before .write-field3 .ensures in
     prints-put _ _ _ _ (three-length _ _ _ _ _ _ a b d) _ (omega arith) (three-put _ _ _ _ _ _ a b d _ _ _ _ _ (omega arith) e f g)
 

@@ -8,8 +8,10 @@ roomy-requires c κs = roomy-asks _ _ _ (c .before .before .before .before .befo
 
 returns : tie.Need-returns
 returns c =
-    made-roomy _ _ _ (c .before .before .before .before .before .before .before .before .before .before .before .before .before .before .before .before .before .before .before .before .pre) _ _ _ (c .before .before .before .before .before .before .before .before .before .claim-count .ensures)
-    (c .before .before .before .before .before .before .before .before .roomy .ensures (c .before .before .before .before .before .before .before .if1 .taken)) _ _ _ (c .before .before .before .before .append-all .ensures)
+    let b4 = c .before .before .before .before in
+    let b7 = b4 .before .before .before in
+    made-roomy _ _ _ (b7 .before .before .before .before .before .before .before .before .before .before .before .before .before .pre) _ _ _ (b7 .before .before .claim-count .ensures)
+    (b7 .before .roomy .ensures (b7 .if1 .taken)) _ _ _ (b4 .append-all .ensures)
 
 pub make-spec : {M : Type 1} → statement M
 make-spec =
