@@ -113,7 +113,8 @@ for path, text in texts.items():
     def turned(it, path=path, text=text):
         word = it[0]
         behind = it.start() and text[it.start() - 1] == "."
-        if word not in new or behind and not CAMEL.search(word):
+        # What stands in src/, or behind a dot, may be a function or a step of a proof: there only a name in camel case is a definition's.
+        if word not in new or (behind or not path.endswith(".antt")) and not CAMEL.search(word):
             return word
         return new[word]
 

@@ -2,7 +2,7 @@
 
 // A gate: three literals.
 #[repr(C)]
-#[derive(Drop)]
+#[derive(Clone, Copy)]
 pub struct Gate {
     pub output: u64,
     pub left: u64,

@@ -10,41 +10,41 @@ use aiger::Gate;
 use text::{Cursor, Field, Line, Literal, Plain, Reader, Taken};
 
 // The place after a section, or that a line of it is missing or bad.
-#[derive(Drop)]
+#[derive(Clone, Copy)]
 pub enum SectionEnd {
     At(Cursor),
     Bad,
 }
 
-#[derive(Drop)]
+#[derive(Clone, Copy)]
 pub enum TakenGate {
     Got { gate: Gate, next: Cursor },
     Bad,
 }
 
 // How many numbers were stored, or that a field is no number or that there are too many.
-#[derive(Drop)]
+#[derive(Clone, Copy)]
 pub enum Numbers {
     Got(usize),
     Refused,
 }
 
 // How many numbers the header has, and the place of the lines after it.
-#[derive(Drop)]
+#[derive(Clone, Copy)]
 pub enum HeaderCount {
     Got { count: usize, next: Cursor },
     Refused,
 }
 
 // What one line has.
-#[derive(Drop)]
+#[derive(Clone, Copy)]
 enum ReadGate {
     Got(Gate),
     Bad,
 }
 
 // A gate that was read the fast way and the place of the next line; or a line that the longer way reads.
-#[derive(Drop)]
+#[derive(Clone, Copy)]
 enum PlainGate {
     Got { gate: Gate, next: Cursor },
     Other,

@@ -15,7 +15,7 @@ use witness_read::ReadAag;
 use witness_text::AagCounts;
 
 // How many bytes the composed text has, or the number of the reason.
-#[derive(Drop)]
+#[derive(Clone, Copy)]
 pub enum Composed {
     Got(usize),
     Refused(u64),

@@ -8,14 +8,14 @@ ghost use Rattle.compose_gates.specs.Inner.Latches.{Slot, SlotIs, same_pair, Sto
 use lists::index;
 
 // How many gates the composition has, or R9.17.
-#[derive(Drop)]
+#[derive(Clone, Copy)]
 pub enum SharedGates {
     All(usize),
     TooMany,
 }
 
 // How many latches the composition has, or R9.18.
-#[derive(Drop)]
+#[derive(Clone, Copy)]
 pub enum DefinedLatches {
     Agreed(usize),
     Differs,

@@ -14,7 +14,7 @@ use witness_read::ReadAag;
 use witness_text::AagCounts;
 
 // What is counted of all witnesses, and how much of the room the texts leave: 0 where they need too much, else one more than is left.
-#[derive(Drop)]
+#[derive(Clone, Copy)]
 pub struct Totals {
     pub room: usize,
     pub inputs: usize,
@@ -23,14 +23,14 @@ pub struct Totals {
 }
 
 // Where a list stands among the words of a text, and how long it is.
-#[derive(Drop)]
+#[derive(Clone, Copy)]
 pub struct Range {
     pub start: usize,
     pub count: usize,
 }
 
 // The totals, or the number of the reason.
-#[derive(Drop)]
+#[derive(Clone, Copy)]
 pub enum Checked {
     Read(Totals),
     Refused(u64),

@@ -1,7 +1,7 @@
 // The composer works on all witnesses side by side, as one circuit with joint variables: 0, then all inputs, all latches, all gates. The definitions stand in specs/.
 
 // How the variables of one witness become joint ones: those up to `inputs`, those up to `leaves`, and the gates, each moved up by a number of its own.
-#[derive(Drop)]
+#[derive(Clone, Copy)]
 pub struct Shift {
     pub inputs: usize,
     pub leaves: usize,
@@ -11,7 +11,7 @@ pub struct Shift {
 }
 
 // How many inputs, latches and gates stand before those of a witness.
-#[derive(Drop)]
+#[derive(Clone, Copy)]
 pub struct Before {
     pub inputs: usize,
     pub latches: usize,
@@ -19,7 +19,7 @@ pub struct Before {
 }
 
 // The lists of literals of a witness: next and reset of its latches, its safety, its constraints, the operands of its gates.
-#[derive(Drop)]
+#[derive(Clone, Copy)]
 pub enum Literals {
     Latches,
     Safety,
@@ -28,7 +28,7 @@ pub enum Literals {
 }
 
 // Inputs or latches.
-#[derive(Drop)]
+#[derive(Clone, Copy)]
 pub enum Leaves {
     Inputs,
     Latches,

@@ -10,7 +10,7 @@ use compose_spec::ModelLeaves;
 use witness_text::AagCounts;
 
 // Where the regions of the work words begin.
-#[derive(Drop)]
+#[derive(Clone, Copy)]
 pub struct Layout {
     pub latches: usize,
     pub operands: usize,
@@ -29,14 +29,14 @@ pub struct Layout {
 }
 
 // The places, or that a literal is wrong (R9.16).
-#[derive(Drop)]
+#[derive(Clone, Copy)]
 pub enum Laid {
     At(Layout),
     Wrong,
 }
 
 // Where the lists begin, and where the last one ends.
-#[derive(Drop)]
+#[derive(Clone, Copy)]
 pub struct Lists {
     pub latches: usize,
     pub operands: usize,

@@ -8,7 +8,7 @@ ghost use Rattle.compose_lines.specs.Inner.GateText.{CanPrintGates, PrintsGates}
 ghost use Rattle.compose_lines.specs.Inner.Text.{closing_text};
 
 // What the header says of the composition.
-#[derive(Drop)]
+#[derive(Clone, Copy)]
 pub struct Counts {
     pub variables: u64,
     pub inputs: u64,

@@ -9,7 +9,7 @@ use compose_layout::Layout;
 use witness_text::AagCounts;
 
 // The counts of the composition.
-#[derive(Drop)]
+#[derive(Clone, Copy)]
 pub struct Merged {
     pub inputs: usize,
     pub latches: usize,
@@ -19,7 +19,7 @@ pub struct Merged {
 }
 
 // The counts, or R9.17, or R9.18.
-#[derive(Drop)]
+#[derive(Clone, Copy)]
 pub enum Merging {
     Done(Merged),
     Refused(u64),

@@ -13,7 +13,7 @@ use compose_joint::Leaves;
 use witness_text::AagCounts;
 
 // Where words of one witness begin: those of its names, its origin words, its composed variables.
-#[derive(Drop)]
+#[derive(Clone, Copy)]
 pub struct Starts {
     pub names: usize,
     pub origins: usize,
@@ -21,7 +21,7 @@ pub struct Starts {
 }
 
 // The place after what is printed, and the composed variable that is the next new one.
-#[derive(Drop)]
+#[derive(Clone, Copy)]
 pub struct Printed {
     pub at: usize,
     pub next: u64,

@@ -18,7 +18,7 @@ use text::Number;
 use witness_text::AagCounts;
 
 // The place after the origins, or that a literal is wrong (R9.16).
-#[derive(Drop)]
+#[derive(Clone, Copy)]
 pub enum Origins {
     Next(usize),
     Wrong,

@@ -7,7 +7,7 @@ ghost use Rattle.lists.specs.Words.{lengths, in_order};
 ghost use Rattle.lists.specs.Inner.Pairs.{part_end};
 
 // Where a part ends; or that it begins too early or ends outside its buffer.
-#[derive(Drop)]
+#[derive(Clone, Copy)]
 pub enum PartEnd {
     At(usize),
     Outside,
@@ -178,7 +178,7 @@ pub fn pair_end(pairs: &[u64], i: usize, end: usize, all: usize) -> PartEnd
 }
 
 // Whether the pairs are in order, within so many elements.
-pub fn in_order_lem(pairs: &[u64], all: usize) -> bool
+pub fn in_order(pairs: &[u64], all: usize) -> bool
     ensures { result ≡ in_order 0 all pairs.now }
 {
     let count = pairs.len() / 2;

@@ -16,7 +16,7 @@ use aiger::Gate;
 pub mod words;
 
 #[repr(C)]
-#[derive(Drop)]
+#[derive(Clone, Copy)]
 pub struct AigerLatch {
     pub current: u64,
     pub next: u64,
@@ -24,7 +24,7 @@ pub struct AigerLatch {
 
 // The gates' words are lent beside it, three a gate.
 #[repr(C)]
-#[derive(Drop)]
+#[derive(Clone, Copy)]
 pub struct AigerTransition {
     pub max_variable: usize,
     pub input_count: usize,
@@ -37,7 +37,7 @@ pub struct AigerTransition {
 }
 
 // The five counts of a header or a record.
-#[derive(Drop)]
+#[derive(Clone, Copy)]
 pub struct Counts {
     pub max_variable: usize,
     pub inputs: usize,
@@ -47,14 +47,14 @@ pub struct Counts {
 }
 
 // Whether there is a model, or the number of the reason (R9) why there is none.
-#[derive(Drop)]
+#[derive(Clone, Copy)]
 pub enum Verdict {
     Valid,
     Refused(u64),
 }
 
 // The counts of a record.
-pub fn counts_of_lem(model: AigerTransition) -> Counts
+pub fn counts_of(model: AigerTransition) -> Counts
     ensures { result ≡ counts_of model }
 {
     Counts {

@@ -16,34 +16,34 @@ use model_text::ModelHeader;
 use text::{Cursor, Reader};
 
 // The model that was read, or the number of the reason with a record of zeros.
-#[derive(Drop)]
+#[derive(Clone, Copy)]
 pub struct ReadTransition {
     pub verdict: Verdict,
     pub model: AigerTransition,
 }
 
 // A model without its gates, and the place of the gates' lines.
-#[derive(Drop)]
+#[derive(Clone, Copy)]
 struct Head {
     place: SectionEnd,
     model: AigerTransition,
 }
 
 // The inputs of a section, with zeros past them; and the outputs.
-#[derive(Drop)]
+#[derive(Clone, Copy)]
 struct TakenInputs {
     place: SectionEnd,
     inputs: [u64; 64],
 }
 
-#[derive(Drop)]
+#[derive(Clone, Copy)]
 struct TakenOutputs {
     place: SectionEnd,
     outputs: [u64; 128],
 }
 
 // Whether the definitions hold, or that a gate's line is missing or bad.
-#[derive(Drop)]
+#[derive(Clone, Copy)]
 enum GateCheck {
     Done(bool),
     Bad,

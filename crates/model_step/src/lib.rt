@@ -14,7 +14,7 @@ use aiger::Gate;
 use model::{AigerLatch, Counts, Verdict};
 
 // The state that a step leads to, and the outputs: those from the 65th on in the high half.
-#[derive(Drop)]
+#[derive(Clone, Copy)]
 pub struct Outcome {
     pub target: u64,
     pub high: u64,
@@ -22,7 +22,7 @@ pub struct Outcome {
 }
 
 // An outcome, or the number of the reason (R9) why there is none.
-#[derive(Drop)]
+#[derive(Clone, Copy)]
 pub enum Stepped {
     Done(Outcome),
     Refused(u64),

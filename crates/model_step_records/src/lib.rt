@@ -14,7 +14,7 @@ use model_step::Stepped;
 
 // How far the records are gone through: `at` is the next of `count`. Definitions are checked before values are computed. Where there is no
 // step, no record is left, and `reason` is the number.
-#[derive(Drop)]
+#[derive(Clone, Copy)]
 pub struct Pass {
     pub count: usize,
     pub at: usize,

@@ -10,33 +10,33 @@ use circuit_lines::SectionEnd;
 use model::{AigerLatch, Counts};
 use text::{Cursor, Field, Line, Number, Reader, Taken};
 
-#[derive(Drop)]
+#[derive(Clone, Copy)]
 pub enum ModelHeader {
     Got { counts: Counts, next: Cursor },
     Refused,
 }
 
-#[derive(Drop)]
+#[derive(Clone, Copy)]
 pub enum TakenLatch {
     Got { latch: AigerLatch, next: Cursor },
     Bad,
 }
 
 // The latches of a section, with zeros past them.
-#[derive(Drop)]
+#[derive(Clone, Copy)]
 pub struct TakenLatches {
     pub place: SectionEnd,
     pub latches: [AigerLatch; 8],
 }
 
 // What one line has.
-#[derive(Drop)]
+#[derive(Clone, Copy)]
 enum ReadLatch {
     Got(AigerLatch),
     Bad,
 }
 
-fn counts_of_lem(ns: [u64; 5]) -> Counts
+fn counts_of(ns: [u64; 5]) -> Counts
     ensures { result ≡ counts_from ns }
 {
     Counts {
@@ -62,7 +62,7 @@ pub fn take_model_header(s: &[u8]) -> ModelHeader
     };
     if count == 5 {
         return ModelHeader::Got {
-            counts: counts_of_lem(ns),
+            counts: counts_of(ns),
             next: next,
         };
     }

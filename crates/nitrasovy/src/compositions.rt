@@ -7,7 +7,7 @@ use compose::Composed;
 
 // Reason 0 and how many bytes the text has, or the number of the reason and 0.
 #[repr(C)]
-#[derive(Drop)]
+#[derive(Clone, Copy)]
 pub struct NitComposed {
     pub reason: u64,
     pub bytes: usize,

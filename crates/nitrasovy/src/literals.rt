@@ -7,21 +7,21 @@ use text::{Cursor, Literal, Reader};
 
 // A place in a text.
 #[repr(C)]
-#[derive(Drop)]
+#[derive(Clone, Copy)]
 pub struct NitCursor {
     pub at: usize,
 }
 
 // Reason 0 and the literal, or the number of the reason and 0.
 #[repr(C)]
-#[derive(Drop)]
+#[derive(Clone, Copy)]
 pub struct NitTaken {
     pub reason: u64,
     pub value: u64,
 }
 
 // The answer, and the place after the line.
-#[derive(Drop)]
+#[derive(Clone, Copy)]
 struct Moved {
     taken: NitTaken,
     next: usize,

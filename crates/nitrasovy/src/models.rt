@@ -11,7 +11,7 @@ use model_step::Stepped;
 
 // Reason 0 and the model, or the number of the reason and a record of zeros.
 #[repr(C)]
-#[derive(Drop)]
+#[derive(Clone, Copy)]
 pub struct NitRead {
     pub reason: u64,
     pub model: AigerTransition,
@@ -19,7 +19,7 @@ pub struct NitRead {
 
 // Reason 0 and the outcome, or the number of the reason and zeros.
 #[repr(C)]
-#[derive(Drop)]
+#[derive(Clone, Copy)]
 pub struct NitStepped {
     pub reason: u64,
     pub target: u64,

@@ -11,7 +11,7 @@ use obligation::{Made, relation, terminal, transducer};
 
 // Reason 0 and the numbers of clauses and literals, or the number of the reason and zeros.
 #[repr(C)]
-#[derive(Drop)]
+#[derive(Clone, Copy)]
 pub struct NitMade {
     pub reason: u64,
     pub clauses: usize,

@@ -9,7 +9,7 @@ use witness_read::ReadAag;
 
 // Reason 0 and the counts, or the number of the reason and zeros.
 #[repr(C)]
-#[derive(Drop)]
+#[derive(Clone, Copy)]
 pub struct NitWitness {
     pub reason: u64,
     pub max_variable: usize,

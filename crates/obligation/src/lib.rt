@@ -11,7 +11,7 @@ pub mod terminal;
 pub mod transducer;
 
 // The numbers of clauses and literals that were written, or the number of the reason (R9) why none were.
-#[derive(Drop)]
+#[derive(Clone, Copy)]
 pub enum Made {
     Clauses(ClauseCounts),
     Refused(u64),

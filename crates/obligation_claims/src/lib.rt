@@ -15,7 +15,7 @@ ghost use Rattle.obligation_claims.specs.Inner.Filling.{InOrder, Fills, Fits};
 use cnf::ClauseCounts;
 
 // What became of a claim's literals: one is the true constant, or so many words were filled in.
-#[derive(Drop)]
+#[derive(Clone, Copy)]
 pub enum Fill {
     True,
     Words(usize),

@@ -17,14 +17,14 @@ use text::{Cursor, Field, Line, Literal, Number, Reader};
 use text_decimal::Written;
 
 #[repr(C)]
-#[derive(Drop)]
+#[derive(Clone, Copy)]
 pub struct ProbeNumber {
     pub readable: bool,
     pub value: u64,
 }
 
 #[repr(C)]
-#[derive(Drop)]
+#[derive(Clone, Copy)]
 pub struct ProbeLiteral {
     pub readable: bool,
     pub value: u64,
@@ -32,7 +32,7 @@ pub struct ProbeLiteral {
 }
 
 #[repr(C)]
-#[derive(Drop)]
+#[derive(Clone, Copy)]
 pub struct ProbePart {
     pub found: bool,
     pub start: usize,
@@ -41,7 +41,7 @@ pub struct ProbePart {
 }
 
 #[repr(C)]
-#[derive(Drop)]
+#[derive(Clone, Copy)]
 pub struct ProbeWritten {
     pub fits: bool,
     pub next: usize,

@@ -9,7 +9,7 @@ mod obligations;
 mod texts;
 
 // Where the next case begins, and where printing goes on.
-#[derive(Drop)]
+#[derive(Clone, Copy)]
 struct Progress {
     input: usize,
     output: usize,

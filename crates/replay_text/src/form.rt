@@ -3,7 +3,7 @@
 use text::{Reader, Taken};
 
 // How many numbers a line has, or that it has something else or too many of them.
-#[derive(Drop)]
+#[derive(Clone, Copy)]
 pub enum Count {
     Of(usize),
     Other,

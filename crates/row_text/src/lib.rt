@@ -17,7 +17,7 @@ use text::Number;
 use text_decimal::Written;
 
 // How many numbers a line has, or that its form is another one.
-#[derive(Drop)]
+#[derive(Clone, Copy)]
 pub enum Numbers {
     Count(usize),
     OtherForm,

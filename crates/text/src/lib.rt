@@ -12,24 +12,24 @@ ghost use Rattle.text.specs.Texts.{limited, good_bytes, good_end, good_text};
 pub mod numbers;
 
 // Which of the two readers reads: they differ in the numbers and the texts that they take.
-#[derive(Drop)]
+#[derive(Clone, Copy)]
 pub enum Reader {
     Transition,
     Witness,
 }
 
-#[derive(Drop)]
+#[derive(Clone, Copy)]
 pub enum Number {
     Value(u64),
     Unreadable,
 }
 
-#[derive(Drop)]
+#[derive(Clone, Copy)]
 pub struct Cursor {
     pub at: usize,
 }
 
-#[derive(Drop)]
+#[derive(Clone, Copy)]
 pub enum Line {
     At {
         start: usize,
@@ -39,14 +39,14 @@ pub enum Line {
     None,
 }
 
-#[derive(Drop)]
+#[derive(Clone, Copy)]
 pub enum Field {
     At { start: usize, end: usize },
     None,
 }
 
 // A number of a line, and where to go on in the line.
-#[derive(Drop)]
+#[derive(Clone, Copy)]
 pub enum Taken {
     Got { value: u64, next: usize },
     Unreadable,
@@ -54,21 +54,21 @@ pub enum Taken {
 }
 
 // A number of plain digits, and the place after the byte behind them; or something else, which the longer way reads.
-#[derive(Drop)]
+#[derive(Clone, Copy)]
 pub enum Plain {
     Got { value: u64, next: usize },
     Other,
 }
 
 // Where digits of a line end, and the number that they write.
-#[derive(Drop)]
+#[derive(Clone, Copy)]
 struct Run {
     end: usize,
     value: u64,
 }
 
 // The number of a line that has nothing else, and the place of the next line.
-#[derive(Drop)]
+#[derive(Clone, Copy)]
 pub enum Literal {
     Got { value: u64, next: Cursor },
     Refused { next: Cursor },

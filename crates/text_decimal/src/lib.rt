@@ -4,7 +4,7 @@ ghost use Rattle.text_decimal.specs.Decimal.{decimal};
 ghost use Rattle.text_decimal.specs.Inner.Writing.{written, written_at};
 
 // Where to write on, or that the bytes do not fit; then none of them is written.
-#[derive(Drop)]
+#[derive(Clone, Copy)]
 pub enum Written {
     Next(usize),
     NoRoom,

@@ -12,28 +12,28 @@ use text::{Cursor, Reader};
 use witness_text::{AagCounts, Kind, WitnessHeader};
 
 // The counts of a text that is accepted, or the number of the reason.
-#[derive(Drop)]
+#[derive(Clone, Copy)]
 pub enum ReadAag {
     Got(AagCounts),
     Refused(u64),
 }
 
 // The place after some sections and whether their literals are in range and order, or that a line is missing or bad.
-#[derive(Drop)]
+#[derive(Clone, Copy)]
 pub enum Checked {
     Done { next: Cursor, fine: bool },
     Bad,
 }
 
 // The place of the comments, or the number of the reason.
-#[derive(Drop)]
+#[derive(Clone, Copy)]
 pub enum Symbols {
     Done(Cursor),
     Refused(u64),
 }
 
 // A symbol with the place of the next line, or how the symbols end.
-#[derive(Drop)]
+#[derive(Clone, Copy)]
 pub enum NextSymbol {
     Named {
         kind: Kind,

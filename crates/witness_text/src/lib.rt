@@ -10,7 +10,7 @@ use circuit_lines::Numbers;
 use text::{Cursor, Line, Number, Reader};
 
 // The counts of a header: M I L O A B C J F.
-#[derive(Drop)]
+#[derive(Clone, Copy)]
 pub struct AagCounts {
     pub max_variable: usize,
     pub inputs: usize,
@@ -23,27 +23,27 @@ pub struct AagCounts {
     pub fairness: usize,
 }
 
-#[derive(Drop)]
+#[derive(Clone, Copy)]
 pub enum WitnessHeader {
     Got { counts: AagCounts, next: Cursor },
     Refused,
 }
 
-#[derive(Drop)]
+#[derive(Clone, Copy)]
 pub struct Latch {
     pub current: u64,
     pub next: u64,
     pub reset: u64,
 }
 
-#[derive(Drop)]
+#[derive(Clone, Copy)]
 pub enum TakenLatch {
     Got { latch: Latch, next: Cursor },
     Bad,
 }
 
 // What a symbol line names.
-#[derive(Drop)]
+#[derive(Clone, Copy)]
 pub enum Kind {
     Input,
     Latch,
@@ -53,7 +53,7 @@ pub enum Kind {
 }
 
 // A symbol line taken apart: what it names, and the place in the line where the name begins.
-#[derive(Drop)]
+#[derive(Clone, Copy)]
 pub enum SymbolLine {
     Named {
         kind: Kind,
@@ -64,19 +64,19 @@ pub enum SymbolLine {
 }
 
 // What one line has.
-#[derive(Drop)]
+#[derive(Clone, Copy)]
 enum ReadLatch {
     Got(Latch),
     Bad,
 }
 
-#[derive(Drop)]
+#[derive(Clone, Copy)]
 enum KnownKind {
     Is(Kind),
     Unknown,
 }
 
-fn counts_of_lem(ns: [u64; 9]) -> AagCounts
+fn counts_of(ns: [u64; 9]) -> AagCounts
     ensures { result ≡ counts_from ns }
 {
     AagCounts {
@@ -108,7 +108,7 @@ pub fn take_witness_header(s: &[u8]) -> WitnessHeader
         return WitnessHeader::Refused;
     }
     WitnessHeader::Got {
-        counts: counts_of_lem(ns),
+        counts: counts_of(ns),
         next: next,
     }
 }
