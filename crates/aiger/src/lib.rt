@@ -1,4 +1,5 @@
 // What both circuit readers share. The definitions stand in specs/, what is proved of them in proofs/.
+#![tactic(auto)]
 
 // A gate: three literals.
 #[repr(C)]

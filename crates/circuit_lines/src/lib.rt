@@ -1,4 +1,6 @@
 // The lines of a circuit text, for both readers: the header's numbers, literals and gates (R4, R5).
+#![tactic(auto)]
+
 ghost use Rattle.std.specs.Prelude.{◌≡◌, length, drop};
 ghost use Rattle.text.specs.Fields.{fields_of};
 ghost use Rattle.text.specs.Literals.{numbers_of};

@@ -1,4 +1,6 @@
 // The composer (R8).
+#![tactic(auto)]
+
 ghost use Rattle.std.specs.Prelude.{◌≡◌, length, ◌+◌, ◌<◌};
 ghost use Rattle.compose_spec.specs.Calling.{texts_in, compose_texts, compose_call};
 ghost use Rattle.compose_gather.specs.Inner.Checking.{FewInOrder, SmallSums, none_yet};

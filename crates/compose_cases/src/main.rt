@@ -1,4 +1,6 @@
 // Runs the composer on the composing case R14.7 and on its neighbours; what they must print is in the file `stdout`.
+#![tactic(auto)]
+
 use compose::Composed;
 use libc::STDOUT_FILENO;
 use text_decimal::Written;

@@ -1,4 +1,6 @@
 // The gates and latches of all witnesses, which stand side by side in lent words, become those of the composition.
+#![tactic(auto)]
+
 ghost use Rattle.std.specs.Prelude.{◌≡◌, ◌+◌, ◌<◌, max, length, drop};
 ghost use Rattle.compose_spec.specs.Sharing.{translate, unordered};
 ghost use Rattle.compose_spec.specs.Inner.Keys.{key_of};

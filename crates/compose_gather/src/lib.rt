@@ -1,4 +1,6 @@
 // All witnesses of a call: read, loaded into the work words, and gathered into lists of the joint circuit.
+#![tactic(auto)]
+
 ghost use Rattle.std.specs.Prelude.{true, [], ◌≡◌, ◌+◌, ◌-◌, ◌*◌, ◌/◌, ◌≤◌, ◌<◌, length, get_or};
 ghost use Rattle.lists.specs.Parts.{part};
 ghost use Rattle.lists.specs.Words.{in_order};

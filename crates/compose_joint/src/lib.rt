@@ -1,4 +1,5 @@
 // The composer works on all witnesses side by side, as one circuit with joint variables: 0, then all inputs, all latches, all gates. The definitions stand in specs/.
+#![tactic(auto)]
 
 // How the variables of one witness become joint ones: those up to `inputs`, those up to `leaves`, and the gates, each moved up by a number of its own.
 #[derive(Clone, Copy)]

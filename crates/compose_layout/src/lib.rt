@@ -1,4 +1,6 @@
 // All that the composer reads of the witnesses, laid out in the work words.
+#![tactic(auto)]
+
 ghost use Rattle.std.specs.Prelude.{◌≡◌};
 ghost use Rattle.compose_gather.specs.Inner.Counts.{CountsListed};
 ghost use Rattle.compose_layout.specs.Inner.Laid.{CanLay, Lays, CanList, ListsLaid, LayoutFits, layout_of};

@@ -1,5 +1,7 @@
 // The text of the composition from the composer's words: its header, its gates and its last lines. Its other lines are printed by `text_print` and `compose_names`;
 // the law `printed-parts` says how all of them make up the text.
+#![tactic(auto)]
+
 ghost use Rattle.std.specs.Prelude.{[], ◌∷◌, ◌++◌};
 ghost use Rattle.text_print.specs.Inner.Prints.{Prints};
 ghost use Rattle.text_decimal.specs.Decimal.{decimal};

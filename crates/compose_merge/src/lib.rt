@@ -1,4 +1,6 @@
 // The witnesses, laid out in the work words, are merged into the composition: its variables, gates, latches, bads and constraints.
+#![tactic(auto)]
+
 ghost use Rattle.compose_layout.specs.Inner.Laid.{Some};
 ghost use Rattle.compose_merge.specs.Inner.Merged.{Mergeable, Goes};
 ghost use Rattle.compose_merge.specs.Inner.Stages.{Clearable, Clears, GatesShared};

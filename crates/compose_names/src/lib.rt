@@ -1,4 +1,6 @@
 // The symbol lines of the composition's inputs, or latches: each where it first appears among those of all witnesses.
+#![tactic(auto)]
+
 ghost use Rattle.std.specs.Prelude.{◌+◌, ◌≤◌, ◌<◌, [], ◌∷◌, ◌++◌, ◌≡◌, length};
 ghost use Rattle.std.proofs.Math.Option.{some};
 ghost use Rattle.text_print.specs.Inner.Prints.{Prints};

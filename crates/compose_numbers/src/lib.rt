@@ -1,4 +1,6 @@
 // Leaves are numbered at their first appearance, and composed literals are collected in sets of bits, all in lent words.
+#![tactic(auto)]
+
 ghost use Rattle.std.specs.Prelude.{◌≡◌, ◌-◌, ◌≤◌, length};
 ghost use Rattle.lists.specs.Parts.{put, zeros};
 ghost use Rattle.compose_numbers.specs.Inner.Marked.{Listed, ListedAt, CanNumberOne, NumberedOne, CanNumber, Numbered, CanAddOne, AddedOne, CanAdd, Added};

@@ -1,4 +1,6 @@
 // What the inputs and latches of all witnesses are: shared with the model, or private.
+#![tactic(auto)]
+
 ghost use Rattle.std.proofs.Math.Option.{some};
 ghost use Rattle.std.specs.Prelude.{◌≡◌, cond, ◌+◌, ◌≤◌, ◌<◌};
 ghost use Rattle.text.specs.declared.Number.TheVariants.{Value};

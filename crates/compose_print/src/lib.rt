@@ -1,4 +1,6 @@
 // The composition's text, printed from the work words. With an empty slice the functions only count.
+#![tactic(auto)]
+
 ghost use Rattle.compose_gather.specs.Inner.Counts.{CountsListed};
 ghost use Rattle.compose_print.specs.Inner.Written.{PrintableSome, PrintsText, from_input_names, from_header};
 

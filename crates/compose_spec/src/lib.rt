@@ -1,4 +1,5 @@
 // R8 has its definitions here, and demand 3 for compositions its theorems; crate `compose` has the functions.
+#![tactic(auto)]
 
 // The inputs of the model, or its latches: they are the variables before + 1 to before + count.
 #[derive(Clone, Copy)]

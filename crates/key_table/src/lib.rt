@@ -1,5 +1,7 @@
 // Keys numbered at their first appearance, in a lent table: heads of buckets, then nodes of three words. Each bucket is a tree in which the bits of a code
 // of the key say where to go: whatever the keys are, a search passes 64 nodes at most, where the halves of each are below 2^30.
+#![tactic(auto)]
+
 ghost use Rattle.std.specs.Prelude.{◌≡◌, ◌+◌, ◌<◌, ◌≤◌, length, set};
 ghost use Rattle.lists.specs.Parts.{put};
 ghost use Rattle.key_table.specs.Inner.Table.{mix_of, head_of, code_of, node_of, Searchable, Walked, Holding, Finds};

@@ -1,4 +1,6 @@
 // Small functions on words that every layer uses.
+#![tactic(auto)]
+
 ghost use Rattle.std.specs.Prelude.{◌≡◌, not, ◌+◌, ◌*◌, ◌≤◌, ◌<◌, ◌^◌, min, max, leb, ltb, length, get_or, take};
 ghost use Rattle.lists.specs.Parts.{part, zeros};
 ghost use Rattle.lists.specs.Sets.{holds, with_bit, rising};

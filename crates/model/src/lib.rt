@@ -1,4 +1,6 @@
 // The transition model by value, and its validation (R5).
+#![tactic(auto)]
+
 ghost use Rattle.std.specs.Prelude.{◌≡◌, true, cond, ◌&&◌, not, map, ◌*◌, ◌<◌, ◌≤◌, length, take};
 ghost use Rattle.lists.specs.Parts.{zeros};
 ghost use Rattle.lists.specs.Sets.{holds, with_bit};

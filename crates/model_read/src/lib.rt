@@ -1,5 +1,7 @@
 // The transition reader (R5). A text is passed over twice: everything is checked first, with marks in the work words, and then the gate
 // words are written.
+#![tactic(auto)]
+
 ghost use Rattle.std.specs.Prelude.{◌≡◌, true, ◌*◌, ◌≤◌, ◌<◌, length, []};
 ghost use Rattle.lists.specs.Answer.{refused};
 ghost use Rattle.lists.specs.Parts.{zeros};

@@ -1,4 +1,6 @@
 // The step (R6). The values stand in the work words, one word a variable.
+#![tactic(auto)]
+
 ghost use Rattle.std.specs.Prelude.{◌≡◌, [], ◌∷◌, map, ◌+◌, ◌*◌, ◌<◌, ◌≤◌, length, take, drop};
 ghost use Rattle.lists.specs.Bits.{bit, bits, packed};
 ghost use Rattle.lists.specs.Parts.{zeros};

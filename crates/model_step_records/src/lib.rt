@@ -1,5 +1,7 @@
 // The step (R6) over gates that are lent as a list of records (R12.4). The list is gone through twice, record by record: first the
 // definitions are checked, then the values are computed, each by the function that does so for one gate of the words.
+#![tactic(auto)]
+
 ghost use Rattle.std.specs.Prelude.{◌≡◌, ◌<◌, length};
 ghost use Rattle.lists.specs.Parts.{zeros};
 ghost use Rattle.lists.specs.Words.{words_of};

@@ -1,4 +1,6 @@
 // The header and the latch lines of a transition text (R5). Its other lines are those of `circuit_lines`.
+#![tactic(auto)]
+
 ghost use Rattle.std.specs.Prelude.{◌≡◌, ◌≤◌, drop};
 ghost use Rattle.text.specs.Fields.{fields_of};
 ghost use Rattle.model_text.specs.Header.{counts_from};

@@ -1,4 +1,6 @@
 // The obligations (R7): the clauses of rows and of terminal lists, in lent buffers.
+#![tactic(auto)]
+
 ghost use Rattle.obligation_spec.specs.Calls.{asked_of};
 ghost use Rattle.obligation.specs.Promise.{buffers_of, MakesRelation};
 

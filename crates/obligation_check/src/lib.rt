@@ -1,4 +1,6 @@
 // Whether an obligation's boundary (R9.13) and its claims (R9.14) are within the limits.
+#![tactic(auto)]
+
 ghost use Rattle.std.specs.Prelude.{◌≡◌, ◌+◌, ◌*◌, ◌/◌, ◌≤◌, ◌<◌, ◌^◌, ltb, length, get_or};
 ghost use Rattle.lists.specs.Tests.{all};
 ghost use Rattle.model.specs.Circuit.{record_from};

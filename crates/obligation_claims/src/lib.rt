@@ -2,6 +2,8 @@
 //
 // All claims of a call have the same literals and differ in their bits alone. So the literals are put in order once, as keys that say
 // which bit belongs to which literal, and each clause is filled nearly sorted.
+#![tactic(auto)]
+
 ghost use Rattle.std.specs.Prelude.{◌≡◌, not, [], ◌∷◌, map, ◌+◌, ◌/◌, ◌%◌, ◌≤◌, ◌<◌, ◌^◌, length, get_or, take};
 ghost use Rattle.lists.specs.Bits.{bit};
 ghost use Rattle.lists.specs.Parts.{put};

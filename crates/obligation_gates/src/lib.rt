@@ -1,4 +1,6 @@
 // The clauses of source latches, predicate and gates (R7.2).
+#![tactic(auto)]
+
 ghost use Rattle.std.specs.Prelude.{◌≡◌, map, [], ◌∷◌, ◌*◌, ◌/◌, ◌≤◌, ◌<◌, ◌^◌, length, take};
 ghost use Rattle.lists.specs.Bits.{odd, bits};
 ghost use Rattle.lists.specs.Tests.{Each};

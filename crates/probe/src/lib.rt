@@ -1,4 +1,6 @@
 // Exports of the inner layers under plain C signatures, for the comparison with the Rust in differential/ alone: no part of the delivered library.
+#![tactic(auto)]
+
 ghost use Rattle.std.specs.Prelude.{◌≡◌, length};
 ghost use Rattle.text.specs.Numbers.{number_of};
 ghost use Rattle.text.specs.Lines.{line_at};

@@ -1,5 +1,7 @@
 // Replays stored cases: reads them from standard input, makes the call of each, and prints the answer and what became of the lent buffers.
 // What the published Rust answered is in the file `stdout`; README.md says how it was made.
+#![tactic(auto)]
+
 use libc::{STDIN_FILENO, STDOUT_FILENO};
 use replay_text::form::Count;
 use replay_text::{form, show};

@@ -1,4 +1,6 @@
 // The row program (R14): reads standard input and prints what `row_text::row` says of it. One byte more than the limit is looked at.
+#![tactic(auto)]
+
 use libc::{STDIN_FILENO, STDOUT_FILENO};
 
 // Prints the answer to standard input, by way of a lent buffer.

@@ -1,4 +1,6 @@
 // Runs `row_text::row` on inputs that show each answer and each limit; what they must print is in the file `stdout`.
+#![tactic(auto)]
+
 use libc::STDOUT_FILENO;
 
 // Prints what the row program prints for an input.

@@ -1,4 +1,6 @@
 // The row program (R14) as a function from its input to its output.
+#![tactic(auto)]
+
 ghost use Rattle.std.specs.Prelude.{◌≡◌, [], ◌∷◌, ◌++◌, ◌+◌, ◌*◌, ◌≤◌, ◌<◌, length, drop};
 ghost use Rattle.lists.specs.Answer.{got, refused};
 ghost use Rattle.lists.specs.Parts.{part};

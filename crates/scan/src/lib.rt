@@ -1,4 +1,6 @@
 // Looking through bytes: the end of a line, bytes that a text may have, comparing with a constant.
+#![tactic(auto)]
+
 ghost use Rattle.std.specs.Prelude.{◌≡◌, cond, ◌+◌, min, max, eqb, drop};
 ghost use Rattle.lists.specs.Tests.{all};
 ghost use Rattle.scan.specs.Spans.{span, in_line, between};

@@ -1,4 +1,6 @@
 // Lines and fields of a text of bytes (R2), and the checks of R9.3. The numbers (R1) are in `numbers`.
+#![tactic(auto)]
+
 ghost use Rattle.std.specs.Prelude.{◌≡◌, true, false, ◌+◌, ◌<◌, length, drop};
 ghost use Rattle.lists.specs.Parts.{part};
 ghost use Rattle.scan.specs.Spans.{span};

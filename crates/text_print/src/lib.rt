@@ -1,4 +1,6 @@
 // Texts printed into a lent buffer. The same functions measure a text: lent an empty slice, they only count its bytes.
+#![tactic(auto)]
+
 ghost use Rattle.std.specs.Prelude.{◌≡◌, [], ◌∷◌, ◌++◌, ◌+◌, ◌*◌, ◌^◌, ◌≤◌, ◌<◌, length};
 ghost use Rattle.lists.specs.Parts.{put};
 ghost use Rattle.text_decimal.specs.Decimal.{decimal};

@@ -1,4 +1,6 @@
 // The sections of an accepted witness text as words in lent memory: the places of the names in the text, then the literals.
+#![tactic(auto)]
+
 ghost use Rattle.std.specs.Prelude.{true, [], ◌∷◌, ◌≡◌, ◌+◌, ◌*◌, ◌≤◌, ◌<◌, leb, length, drop};
 ghost use Rattle.lists.specs.Parts.{part, put, zeros};
 ghost use Rattle.text.specs.declared.Reader.TheVariants.{Witness};

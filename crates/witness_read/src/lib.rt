@@ -1,4 +1,6 @@
 // The witness reader (R4): from any bytes to the counts of the sections, or the number of the first reason. It is lent no memory.
+#![tactic(auto)]
+
 ghost use Rattle.std.specs.Prelude.{true, ◌≡◌};
 ghost use Rattle.text.specs.Texts.{limited};
 ghost use Rattle.circuit_lines.specs.Inner.Takes.{lines_from};

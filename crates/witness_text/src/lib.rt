@@ -1,4 +1,6 @@
 // The header, the latch lines and the symbol lines of a witness text (R4). Its other lines are those of `circuit_lines`.
+#![tactic(auto)]
+
 ghost use Rattle.std.specs.Prelude.{◌≡◌};
 ghost use Rattle.text.specs.Texts.{limited};
 ghost use Rattle.witness_text.specs.Header.{counts_from, counted, without_liveness};

@@ -1,0 +1,6 @@
+use borrow.Author.Rules.{rules}
+use Rattle.circuit_lines.proofs.GateLaws.{plain-got}
+use Rattle.circuit_lines.proofs.plain_gate.Goals as goal
+
+pub returns : goal.returns
+returns c = search plain-got

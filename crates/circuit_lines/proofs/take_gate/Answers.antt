@@ -1,0 +1,6 @@
+use borrow.Author.Rules.{rules}
+use Rattle.circuit_lines.proofs.GateLaws.{gate_plain}
+use Rattle.circuit_lines.proofs.take_gate.Goals as goal
+
+pub returns : goal.returns
+returns c = search gate_plain

@@ -1,0 +1,6 @@
+use borrow.Author.Rules.{rules}
+use Rattle.compose.proofs.TopLaws.{promised}
+use Rattle.compose.proofs.compose_safety_witnesses_v1.Goals as goal
+
+pub returns : goal.returns
+returns c = search promised

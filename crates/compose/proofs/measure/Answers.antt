@@ -1,0 +1,9 @@
+use borrow.Author.Rules.{rules}
+use Rattle.compose.proofs.LaidLaws.{measured}
+use Rattle.compose.proofs.measure.Goals as goal
+
+pub print_composition-requires : goal.print_composition-requires
+print_composition-requires c = (search rules, search rules)
+
+pub returns : goal.returns
+returns c = search measured

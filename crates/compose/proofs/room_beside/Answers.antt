@@ -1,0 +1,6 @@
+use borrow.Author.Rules.{rules}
+use Rattle.compose.proofs.ChainLaws.{room-left}
+use Rattle.compose.proofs.room_beside.Goals as goal
+
+pub returns : goal.returns
+returns c = search room-left

@@ -1,0 +1,6 @@
+use borrow.Author.Rules.{rules}
+use Rattle.compose_gather.proofs.CheckLaws.{added_is}
+use Rattle.compose_gather.proofs.add_counts.Goals as goal
+
+pub returns : goal.returns
+returns c = search added_is

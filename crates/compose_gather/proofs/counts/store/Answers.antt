@@ -1,0 +1,6 @@
+use Rattle.compose_gather.proofs.CountLaws.{nine_stored}
+use borrow.Author.Rules.{rules}
+use Rattle.compose_gather.proofs.counts.store.Goals as goal
+
+pub returns : goal.returns
+returns c = search nine_stored

@@ -1,0 +1,27 @@
+use borrow.Author.Rules.{rules}
+use Rattle.compose_gather.proofs.GatherLaws.{Gathering, gathering-none, gathering-end}
+use Rattle.compose_gather.proofs.TurnLaws.{gather-before, gather-behind, gather-can, gather-more}
+use lib.ListN.{length}
+use Prim.Native.Nat.{◌-◌, ◌/◌}
+use mathlib.Core.Path.{◌≡◌}
+use Rattle.compose_joint.specs.Inner.Joint.{joint_literals, list_of}
+use Rattle.compose_gather.specs.Inner.Gathered.{literal_count}
+use Rattle.compose_gather.proofs.literals.gather.Goals as goal
+
+pub loop-w-init : goal.loop-w-init
+loop-w-init c = search (rules, gathering-none)
+
+pub after_words-next-requires : goal.after_words-next-requires
+after_words-next-requires c = search gather-behind
+
+pub shift_list-at-requires : goal.shift_list-at-requires
+shift_list-at-requires c = (search gather-before, search gather-can)
+
+pub pass-b-requires : goal.pass-b-requires
+pass-b-requires c = search gather-before
+
+pub loop-w-preserved : goal.loop-w-preserved
+loop-w-preserved c = (search gather-more, search rules, search rules)
+
+pub returns : goal.returns
+returns c = search gathering-end

@@ -1,0 +1,7 @@
+use native.Mathlib.Omega.{arith}
+use Rattle.text_print.proofs.PrintsLaws.{prints_then}
+use borrow.Author.Rules.{rules}
+use Rattle.compose_lines.proofs.print_field.Goals as goal
+
+pub returns : goal.returns
+returns c = prints_then _ _ _ _ _ _ _ _ (omega arith) (omega (arith, c.print_byte-digits.auto.out)) c.print_byte-digits.ensures c.print_number.ensures

@@ -1,0 +1,11 @@
+use Prim.Native.Nat.{◌-◌}
+use native.Mathlib.Omega.{arith}
+use Rattle.compose_lines.proofs.GateLaws.{GateWalk, walk_none, key-some, walk_more, walk_end}
+use borrow.Author.Rules.{rules}
+use Rattle.compose_lines.proofs.print_gates.Given as goal
+
+abbrev pub invariant-loop-k : goal.invariant-loop-k
+invariant-loop-k l = GateWalk l.first l.table l.heads l.count l.initial.out l.at l.out l.to l.x l.k
+
+abbrev pub decreases-loop-k : goal.decreases-loop-k
+decreases-loop-k l = l.count - l.k

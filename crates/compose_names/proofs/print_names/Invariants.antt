@@ -1,0 +1,13 @@
+use Prim.Native.Nat.{◌-◌}
+use native.Mathlib.Omega.{arith}
+use Rattle.compose_names.specs.Inner.Symbols.{row_at}
+use Rattle.compose_names.proofs.WalkLaws.{Walk, walk_none, walk_old, walk_new, walk_end}
+use Rattle.compose_names.proofs.WitnessLaws.{row_words}
+use borrow.Author.Rules.{rules}
+use Rattle.compose_names.proofs.print_names.Given as goal
+
+abbrev pub invariant-loop-k : goal.invariant-loop-k
+invariant-loop-k l = Walk l.leaves (row_at l.text l.work l.leaves l.w l.starts) l.count l.first l.new l.initial.out l.at l.out l.to l.next l.k
+
+abbrev pub decreases-loop-k : goal.decreases-loop-k
+decreases-loop-k l = l.count - l.k

@@ -1,0 +1,22 @@
+use Prim.Native.Nat.{◌-◌, ◌/◌}
+use mathlib.Core.Path.{◌≡◌}
+use native.Mathlib.Omega.{arith}
+use lib.ListN.{length}
+use Rattle.compose_names.proofs.SymbolLaws.{Walking, walking-none, walking-can, walking_pass, walking-more, walking-end}
+use borrow.Author.Rules.{rules}
+use Rattle.compose_names.proofs.print_symbols.Goals as goal
+
+pub loop-w-init : goal.loop-w-init
+loop-w-init c = (walking-none _ _ _ _ _ _ _ _ _ (search rules) (omega arith) (omega arith), search rules)
+
+pub print_witness-done-requires : goal.print_witness-done-requires
+print_witness-done-requires c = search walking-can
+
+pub pass-p-requires : goal.pass-p-requires
+pass-p-requires c = search walking_pass
+
+pub loop-w-preserved : goal.loop-w-preserved
+loop-w-preserved c = (walking-more _ _ _ _ _ _ _ _ _ _ _ _ _ _ c.loop-w.invariant.0 c.loop-w.invariant.1 (omega (arith, c.loop-w-test)) _ c.text_at-text.ensures _ c.requires.1 _ c.counts_at-n.ensures _ _ (omega (arith, c.print_witness-done.auto.out)) c.print_witness-done.ensures _ c.pass-p.ensures, search rules)
+
+pub returns : goal.returns
+returns c = search walking-end

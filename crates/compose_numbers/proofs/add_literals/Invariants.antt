@@ -1,0 +1,12 @@
+use Prim.Native.Nat.{◌-◌}
+use mathlib.Core.Path.{◌≡◌, refl}
+use lib.ListN.{length}
+use borrow.Author.Rules.{rules}
+use Rattle.compose_numbers.proofs.AddLaws.{Adding, adding-none, adding-done, turn-addable, turn_more}
+use Rattle.compose_numbers.proofs.add_literals.Given as goal
+
+abbrev pub invariant-loop-i : goal.invariant-loop-i
+invariant-loop-i l = (length l.work ≡ length l.initial.work) × Adding l.from l.count l.vars l.bits l.words l.initial.work l.work l.found l.i
+
+abbrev pub decreases-loop-i : goal.decreases-loop-i
+decreases-loop-i l = l.count - l.i

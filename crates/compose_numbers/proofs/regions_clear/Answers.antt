@@ -1,0 +1,6 @@
+use borrow.Author.Rules.{rules}
+use Rattle.compose_numbers.proofs.StoreLaws.{cleared}
+use Rattle.compose_numbers.proofs.regions_clear.Goals as goal
+
+pub returns : goal.returns
+returns c = search cleared

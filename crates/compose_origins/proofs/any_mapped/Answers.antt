@@ -1,0 +1,21 @@
+use borrow.Author.Rules.{rules}
+use Rattle.compose_origins.proofs.LoopLaws.{Testing, testing-none, testing-says, testing-true, testing-more, testing-end}
+use lib.ListN.{length}
+use Prim.Native.Nat.{◌-◌, ◌/◌}
+use mathlib.Core.Path.{◌≡◌}
+use Rattle.compose_origins.proofs.any_mapped.Goals as goal
+
+pub loop-i-init : goal.loop-i-init
+loop-i-init c = search (rules, testing-none)
+
+pub mapped_at-requires : goal.mapped_at-requires
+mapped_at-requires c = search testing-says
+
+pub returns-then-mapped_at : goal.returns-then-mapped_at
+returns-then-mapped_at c = search testing-true
+
+pub loop-i-preserved : goal.loop-i-preserved
+loop-i-preserved c = (search testing-more, search rules)
+
+pub returns : goal.returns
+returns c = search testing-end

@@ -1,0 +1,12 @@
+use borrow.Author.Rules.{rules}
+use Rattle.compose_origins.proofs.AllLaws.{Mapping, mapping-none, mapping-behind, mapping-can, mapping_wrong, mapping-more, mapping-end}
+use lib.ListN.{length}
+use Prim.Native.Nat.{◌-◌, ◌/◌}
+use mathlib.Core.Path.{◌≡◌}
+use Rattle.compose_origins.proofs.gather_origins.Given as goal
+
+abbrev pub invariant-loop-w : goal.invariant-loop-w
+invariant-loop-w l = Mapping l.model_leaves l.leaves l.witnesses l.pairs l.initial.work l.work l.to l.from l.at l.w × (l.count ≡ length l.pairs / 2) × (length l.work ≡ length l.initial.work)
+
+abbrev pub decreases-loop-w : goal.decreases-loop-w
+decreases-loop-w l = l.count - l.w

@@ -1,0 +1,6 @@
+use borrow.Author.Rules.{rules}
+use Rattle.lists.proofs.PairLaws.{pair_ends}
+use Rattle.lists.proofs.pair_end.Goals as goal
+
+pub returns : goal.returns
+returns c = search pair_ends

@@ -1,0 +1,17 @@
+use Rattle.lists.proofs.RisingLaws.{numbers_fall, numbers_rise, rises-end}
+use Prim.Native.Nat.{◌-◌, ◌<◌}
+use mathlib.Core.Path.{◌≡◌}
+use native.Mathlib.Omega.{arith}
+use lib.ListN.{length, drop}
+use Rattle.lists.specs.Sets.{rising}
+use borrow.Author.Rules.{rules}
+use Rattle.lists.proofs.rises.Goals as goal
+
+pub returns-then-words-i : goal.returns-then-words-i
+returns-then-words-i c = search numbers_fall
+
+pub loop-i-preserved : goal.loop-i-preserved
+loop-i-preserved c = (search numbers_rise, omega arith)
+
+pub returns : goal.returns
+returns c = search rises-end

@@ -1,0 +1,14 @@
+use Rattle.lists.proofs.RisingLaws.{numbers_fall, numbers_rise, rises-end}
+use Prim.Native.Nat.{◌-◌, ◌<◌}
+use mathlib.Core.Path.{◌≡◌}
+use native.Mathlib.Omega.{arith}
+use lib.ListN.{length, drop}
+use Rattle.lists.specs.Sets.{rising}
+use borrow.Author.Rules.{rules}
+use Rattle.lists.proofs.rises.Given as goal
+
+abbrev pub invariant-loop-i : goal.invariant-loop-i
+invariant-loop-i l = (rising l.words ≡ rising (drop (l.i - 1) l.words)) × (0 < l.i)
+
+abbrev pub decreases-loop-i : goal.decreases-loop-i
+decreases-loop-i l = length l.words - l.i

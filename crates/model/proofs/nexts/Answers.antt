@@ -1,0 +1,19 @@
+use Prim.Native.Nat.{◌-◌}
+use mathlib.Core.List.{map}
+use mathlib.Core.Path.{◌≡◌}
+use native.Mathlib.Omega.{arith}
+use lib.ListN.{length-set, length, take}
+use borrow.Author.Rules.{rules}
+use Rattle.model.specs.Circuit.{no_latch, next_of}
+use Rattle.lists.proofs.RestLaws.{map_more, map-end}
+use Rattle.model.proofs.nexts.Goals as goal
+
+pub loop-i-preserved : goal.loop-i-preserved
+loop-i-preserved c =
+    let n : length c.args.t1 ≡ 8 = c.well_formed.0.1.0.1 in
+    (simp length-set c.loop-i.invariant.0, map_more next_of c.loop-i.r c.args.t1 c.loop-i.i c.loop-i.invariant.1 no_latch (omega arith) (omega arith))
+
+pub returns : goal.returns
+returns c =
+    let n : length c.args.t1 ≡ 8 = c.well_formed.0.1.0.1 in
+    map-end next_of c.loop-i.r c.args.t1 c.loop-i.i c.loop-i.invariant.1 (omega arith) (omega arith)

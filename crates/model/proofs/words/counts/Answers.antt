@@ -1,0 +1,6 @@
+use borrow.Author.Rules.{rules}
+use Rattle.model.proofs.WordsLaws.{counts-from}
+use Rattle.model.proofs.words.counts.Goals as goal
+
+pub returns : goal.returns
+returns c = search counts-from

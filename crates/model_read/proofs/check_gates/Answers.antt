@@ -1,0 +1,18 @@
+use Prim.Native.Nat.{◌-◌}
+use mathlib.Core.Path.{◌≡◌, refl}
+use lib.ListN.{length}
+use borrow.Author.Rules.{rules}
+use Rattle.model_read.proofs.GateLaws.{Checking, checking-none, checking_bad, checking-more, checking-done}
+use Rattle.model_read.proofs.check_gates.Goals as goal
+
+pub loop-i-init : goal.loop-i-init
+loop-i-init c = (refl, checking-none _ _ _ _ _ _)
+
+pub loop-i-preserved : goal.loop-i-preserved
+loop-i-preserved c = (search rules, search checking-more)
+
+pub returns-in-Bad : goal.returns-in-Bad
+returns-in-Bad c = search checking_bad
+
+pub returns : goal.returns
+returns c = search checking-done

@@ -1,0 +1,12 @@
+use Prim.Native.Nat.{◌-◌}
+use mathlib.Core.Path.{◌≡◌, refl}
+use lib.ListN.{length}
+use borrow.Author.Rules.{rules}
+use Rattle.model_read.proofs.GateLaws.{Checking, checking-none, checking_bad, checking-more, checking-done}
+use Rattle.model_read.proofs.check_gates.Given as goal
+
+abbrev pub invariant-loop-i : goal.invariant-loop-i
+invariant-loop-i l = (length l.work ≡ length l.initial.work) × Checking l.s l.initial.p l.n l.most l.fine l.initial.work l.work l.p l.good l.i
+
+abbrev pub decreases-loop-i : goal.decreases-loop-i
+decreases-loop-i l = l.n - l.i

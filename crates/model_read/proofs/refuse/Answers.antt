@@ -1,0 +1,6 @@
+use borrow.Author.Rules.{rules}
+use Rattle.model_read.proofs.ReadLaws.{refused_with}
+use Rattle.model_read.proofs.refuse.Goals as goal
+
+pub returns : goal.returns
+returns c = search refused_with

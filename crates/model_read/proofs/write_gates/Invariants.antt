@@ -1,0 +1,13 @@
+use Prim.Native.Nat.{◌-◌}
+use mathlib.Core.Path.{◌≡◌, refl}
+use native.Mathlib.Omega.{arith}
+use lib.ListN.{length-set, length}
+use borrow.Author.Rules.{rules}
+use Rattle.model_read.proofs.GateLaws.{Writing, writing-none, writing_bad, writing_more, writing-done}
+use Rattle.model_read.proofs.write_gates.Given as goal
+
+abbrev pub invariant-loop-i : goal.invariant-loop-i
+invariant-loop-i l = (length l.gates ≡ length l.initial.gates) × Writing l.s l.initial.p l.n l.initial.gates l.gates l.p l.i
+
+abbrev pub decreases-loop-i : goal.decreases-loop-i
+decreases-loop-i l = l.n - l.i

@@ -1,0 +1,11 @@
+use Prim.Native.Nat.{◌+◌, ◌*◌, ◌<◌}
+use native.Mathlib.Omega.{arith}
+use borrow.Author.Rules.{rules}
+use Rattle.model_step.proofs.StepLaws.{Packing, packing-none, packing-inside, packing-room, packing-more, packing-done}
+use Rattle.model_step.proofs.word.Given as goal
+
+abbrev pub invariant-loop-k : goal.invariant-loop-k
+invariant-loop-k l = Packing l.vals l.lits l.start l.k l.r
+
+abbrev pub decreases-loop-k : goal.decreases-loop-k
+decreases-loop-k l = l.k

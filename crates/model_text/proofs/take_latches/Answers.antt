@@ -1,0 +1,20 @@
+use Prim.Native.Nat.{◌-◌}
+use native.Mathlib.Omega.{arith}
+use borrow.Author.Rules.{rules}
+use Rattle.model_text.proofs.StoringLaws.{Latches, latches-none, latches-more, latches_bad, latches-done}
+use Rattle.model_text.proofs.take_latches.Goals as goal
+
+pub returns-then-n-gt8 : goal.returns-then-n-gt8
+returns-then-n-gt8 c = λ h. absurd (omega arith)
+
+pub loop-i-init : goal.loop-i-init
+loop-i-init c = search latches-none
+
+pub loop-i-preserved : goal.loop-i-preserved
+loop-i-preserved c = search latches-more
+
+pub returns-in-Bad : goal.returns-in-Bad
+returns-in-Bad c = search latches_bad
+
+pub returns : goal.returns
+returns c = search latches-done

@@ -1,0 +1,6 @@
+use Rattle.nitrasovy.proofs.ComposedLaws.{composes_flat}
+use borrow.Author.Rules.{rules}
+use Rattle.nitrasovy.proofs.compositions.nit_compose.Goals as goal
+
+pub returns : goal.returns
+returns c = search composes_flat

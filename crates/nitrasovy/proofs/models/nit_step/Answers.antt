@@ -1,0 +1,6 @@
+use Rattle.nitrasovy.proofs.ModelLaws.{words_stepped}
+use borrow.Author.Rules.{rules}
+use Rattle.nitrasovy.proofs.models.nit_step.Goals as goal
+
+pub returns : goal.returns
+returns c = search words_stepped

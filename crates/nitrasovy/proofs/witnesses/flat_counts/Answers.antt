@@ -1,0 +1,8 @@
+use borrow.Author.Rules.{rules}
+use Rattle.nitrasovy.proofs.witnesses.flat_counts.Goals as goal
+
+pub returns-in-Got : goal.returns-in-Got
+returns-in-Got c = rw c.in-Got.is
+
+pub returns-in-Refused : goal.returns-in-Refused
+returns-in-Refused c = rw c.in-Refused.is

@@ -1,0 +1,11 @@
+use borrow.Author.Rules.{rules}
+use Rattle.obligation.proofs.RoomLaws.{roomy-asks, made_roomy}
+use Rattle.obligation.proofs.making.make.Goals as goal
+
+pub roomy-requires : goal.roomy-requires
+roomy-requires c = roomy-asks _ _ _ c.requires _ c.claim_count-claims.ensures
+
+pub returns-then-roomy : goal.returns-then-roomy
+returns-then-roomy c =
+    made_roomy _ _ _ c.requires _ _ _ c.claim_count-claims.ensures
+    (c.roomy.ensures c.if-roomy.true) _ _ _ c.append_all.ensures

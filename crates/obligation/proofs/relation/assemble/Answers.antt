@@ -1,0 +1,32 @@
+use native.Mathlib.Omega.{arith}
+use Rattle.model.proofs.ValueLaws.{Sized}
+use Rattle.model.specs.Circuit.{record_from}
+use Rattle.obligation_spec.specs.Calls.{Asked, asked_of}
+use Rattle.obligation.proofs.AssembleLaws.{in_order_lem, currents_list, nexts_list, low_list, few_list, relation_ready, relation_made}
+use borrow.Author.Rules.{rules}
+use Rattle.obligation.proofs.relation.assemble.Goals as goal
+
+abbrev question : goal.Start → Asked
+question c = asked_of (record_from c.args.counts c.args.inputs.now c.args.latches c.args.outputs.now) c.args.gates.now c.args.relevant.now c.args.predicate_pairs.now c.args.predicate_literals.now
+
+sized : (c : goal.Start) → Sized ((asked_of (record_from c.args.counts c.args.inputs.now c.args.latches c.args.outputs.now) c.args.gates.now c.args.relevant.now c.args.predicate_pairs.now c.args.predicate_literals.now)).model
+sized c = record { latches = c.well_formed.1.1.0.1.0.1 }
+
+pub state_keys-count-requires : goal.state_keys-count-requires
+state_keys-count-requires c =
+    let e = nexts_list (question (goal.at.state_keys-count-requires c).Start) _ _ c.nexts-to.ensures c.first.ensures in
+    (omega (arith, few_list (question (goal.at.state_keys-count-requires c).Start) c.requires.0 (sized (goal.at.state_keys-count-requires c).Start) _ e), omega (arith, few_list (question (goal.at.state_keys-count-requires c).Start) c.requires.0 (sized (goal.at.state_keys-count-requires c).Start) _ e), low_list (question (goal.at.state_keys-count-requires c).Start) c.requires.0 (sized (goal.at.state_keys-count-requires c).Start) _ e)
+
+pub make-requires : goal.make-requires
+make-requires c =
+    let q = question (goal.at.make-requires c).Start in
+    let ne = nexts_list q _ _ c.nexts-to.ensures c.first.ensures in
+    let ce = currents_list q _ _ c.currents-at.ensures c.first-2.ensures in
+    relation_ready q c.requires.0 (sized (goal.at.make-requires c).Start) c.args.source _ _ _ _ ce c.first-3.ensures ne (in_order_lem _ _ _ _ c.state_keys-count.ensures c.first-4.ensures) _ c.requires.1
+
+pub returns : goal.returns
+returns c =
+    let q = question (goal.at.returns c).Start in
+    let ne = nexts_list q _ _ c.nexts-to.ensures c.first.ensures in
+    let ce = currents_list q _ _ c.currents-at.ensures c.first-2.ensures in
+    relation_made q c.requires.0 (sized (goal.at.returns c).Start) c.args.source _ _ _ _ ce c.first-3.ensures ne (in_order_lem _ _ _ _ c.state_keys-count.ensures c.first-4.ensures) _ _ _ _ _ _ c.make.ensures

@@ -1,0 +1,13 @@
+use Prim.Native.Nat.{◌-◌, ◌*◌}
+use mathlib.Core.Path.{◌≡◌}
+use lib.ListN.{drop}
+use Rattle.obligation_check.specs.Inner.Boundary.{predicate_holds}
+use Rattle.obligation_check.proofs.BoundaryLaws.{pair_stop, clause-starts, clause-within, clause-fits, clause-stop, clause-more, pairs-stop}
+use borrow.Author.Rules.{rules}
+use Rattle.obligation_check.proofs.predicate_holds.Given as goal
+
+abbrev pub invariant-loop-i : goal.invariant-loop-i
+invariant-loop-i l = predicate_holds l.n 0 l.predicate_literals l.predicate_pairs ≡ predicate_holds l.n l.end l.predicate_literals (drop (2 * l.i) l.predicate_pairs)
+
+abbrev pub decreases-loop-i : goal.decreases-loop-i
+decreases-loop-i l = l.count - l.i

@@ -1,0 +1,12 @@
+use lib.ListN.{length}
+use Prim.Native.Nat.{◌-◌}
+use Rattle.obligation_claims.specs.Inner.Claims.{state_claims}
+use Rattle.obligation_claims.proofs.PushLaws.{Pushing, pushing-none, pushing-fits, pushing-more, pushing-done, pushing-space, states_count, states_at}
+use borrow.Author.Rules.{rules}
+use Rattle.obligation_claims.proofs.push_states.Given as goal
+
+abbrev pub invariant-loop-i : goal.invariant-loop-i
+invariant-loop-i l = Pushing (state_claims l.keys l.states) l.keys l.initial.appended l.initial.list l.initial.work l.initial.pairs l.initial.literals l.appended l.list l.work l.pairs l.literals l.i
+
+abbrev pub decreases-loop-i : goal.decreases-loop-i
+decreases-loop-i l = length l.states - l.i

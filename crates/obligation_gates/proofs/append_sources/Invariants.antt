@@ -1,0 +1,16 @@
+use Rattle.obligation_gates.proofs.PredicateLaws.{low-at}
+use Prim.Native.Nat.{◌-◌}
+use mathlib.Core.Path.{◌≡◌}
+use lib.ListN.{length, take}
+use Rattle.cnf.specs.Inner.Appending.{Appends}
+use Rattle.cnf.proofs.AppendLaws.{appends-none}
+use native.Mathlib.Omega.{arith}
+use Rattle.obligation_gates.proofs.SourceLaws.{sources, source-narrow, source-space, source-next, source-end}
+use borrow.Author.Rules.{rules}
+use Rattle.obligation_gates.proofs.append_sources.Given as goal
+
+abbrev pub invariant-loop-i : goal.invariant-loop-i
+invariant-loop-i l = (length l.pairs ≡ length l.initial.pairs) × (length l.literals ≡ length l.initial.literals) × Appends (take l.i (sources l.currents l.source)) l.initial.appended l.initial.pairs l.initial.literals l.appended l.pairs l.literals
+
+abbrev pub decreases-loop-i : goal.decreases-loop-i
+decreases-loop-i l = length l.currents - l.i

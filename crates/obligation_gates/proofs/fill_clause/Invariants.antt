@@ -1,0 +1,13 @@
+use Prim.Native.Nat.{◌-◌, ◌≤◌}
+use mathlib.Core.Path.{◌≡◌}
+use native.Mathlib.Omega.{arith}
+use lib.ListN.{length}
+use Rattle.obligation_gates.proofs.RepeatLaws.{Keeping, keeping_none, word-indexed, keeping-some, keeping-more, keeping_seen, keeping-end}
+use borrow.Author.Rules.{rules}
+use Rattle.obligation_gates.proofs.fill_clause.Given as goal
+
+abbrev pub invariant-loop-i : goal.invariant-loop-i
+invariant-loop-i l = Keeping l.inputs l.relevant l.clause l.seen l.list l.n l.i × (l.i ≤ length l.clause) × (length l.list ≡ length l.initial.list)
+
+abbrev pub decreases-loop-i : goal.decreases-loop-i
+decreases-loop-i l = length l.clause - l.i

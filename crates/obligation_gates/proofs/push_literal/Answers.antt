@@ -1,0 +1,5 @@
+use borrow.Author.Rules.{rules}
+use Rattle.obligation_gates.proofs.push_literal.Goals as goal
+
+pub returns : goal.returns
+returns c = c.push_single.ensures

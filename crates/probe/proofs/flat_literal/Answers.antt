@@ -1,0 +1,8 @@
+use borrow.Author.Rules.{rules}
+use Rattle.probe.proofs.flat_literal.Goals as goal
+
+pub returns-in-Got : goal.returns-in-Got
+returns-in-Got c = rw c.in-Got.is
+
+pub returns-in-Refused : goal.returns-in-Refused
+returns-in-Refused c = rw c.in-Refused.is

@@ -1,0 +1,5 @@
+use borrow.Author.Rules.{rules}
+use Rattle.probe.proofs.probe_field.Goals as goal
+
+pub returns : goal.returns
+returns c = simp (c.flat_field.ensures, c.next_field.ensures)

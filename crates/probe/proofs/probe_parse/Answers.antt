@@ -1,0 +1,5 @@
+use borrow.Author.Rules.{rules}
+use Rattle.probe.proofs.probe_parse.Goals as goal
+
+pub returns : goal.returns
+returns c = simp (c.flat_number.ensures, c.parse_for.ensures, c.reader_of.ensures)

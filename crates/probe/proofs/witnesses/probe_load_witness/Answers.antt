@@ -1,0 +1,6 @@
+use borrow.Author.Rules.{rules}
+use Rattle.probe.proofs.LoadLaws.{loads_flat}
+use Rattle.probe.proofs.witnesses.probe_load_witness.Goals as goal
+
+pub returns : goal.returns
+returns c = search loads_flat

@@ -1,0 +1,24 @@
+use native.Mathlib.Omega.{arith}
+use Prim.Native.Nat.{◌+◌, ◌-◌}
+use lib.ListN.{length}
+use Rattle.row_text.proofs.PieceLaws.{Taking, taking-none, piece_within, taking-more, taking_bad, taking-done}
+use borrow.Author.Rules.{rules}
+use Rattle.row_text.proofs.read_numbers.Goals as goal
+
+pub loop-at-init : goal.loop-at-init
+loop-at-init c = search taking-none
+
+pub slice_bounds-parse_usize-end : goal.slice_bounds-parse_usize-end
+slice_bounds-parse_usize-end c = search piece_within
+
+pub returns-in_default : goal.returns-in_default
+returns-in_default c = search taking_bad
+
+pub overflow_add-at : goal.overflow_add-at
+overflow_add-at c = omega (arith, piece_within _ _ _ _ _ c.loop-at.invariant (omega arith) _ c.piece_end-end.ensures)
+
+pub loop-at-preserved : goal.loop-at-preserved
+loop-at-preserved c = search taking-more
+
+pub returns : goal.returns
+returns c = search taking-done

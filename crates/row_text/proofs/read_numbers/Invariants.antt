@@ -1,0 +1,12 @@
+use native.Mathlib.Omega.{arith}
+use Prim.Native.Nat.{◌+◌, ◌-◌}
+use lib.ListN.{length}
+use Rattle.row_text.proofs.PieceLaws.{Taking, taking-none, piece_within, taking-more, taking_bad, taking-done}
+use borrow.Author.Rules.{rules}
+use Rattle.row_text.proofs.read_numbers.Given as goal
+
+abbrev pub invariant-loop-at : goal.invariant-loop-at
+invariant-loop-at l = Taking l.line l.initial.numbers l.numbers l.count l.at
+
+abbrev pub decreases-loop-at : goal.decreases-loop-at
+decreases-loop-at l = length l.line + 1 - l.at

@@ -1,0 +1,12 @@
+use borrow.Author.Rules.{rules}
+use Rattle.text.proofs.PlainLaws.{zero_past, zero-alone, zero-other}
+use Rattle.text.proofs.long_zero.Goals as goal
+
+pub returns-then-l-at : goal.returns-then-l-at
+returns-then-l-at c = search zero_past
+
+pub returns-then-l-at-eq48 : goal.returns-then-l-at-eq48
+returns-then-l-at-eq48 c = search zero-alone
+
+pub returns : goal.returns
+returns c = search zero-other

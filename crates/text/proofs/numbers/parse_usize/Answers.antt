@@ -1,0 +1,6 @@
+use borrow.Author.Rules.{rules}
+use Rattle.text.proofs.NumberLaws.{usize-digits}
+use Rattle.text.proofs.numbers.parse_usize.Goals as goal
+
+pub returns : goal.returns
+returns c = search usize-digits

@@ -1,0 +1,6 @@
+use borrow.Author.Rules.{rules}
+use Rattle.text.proofs.PlainLineLaws.{literal-plain}
+use Rattle.text.proofs.take_literal.Goals as goal
+
+pub returns : goal.returns
+returns c = search literal-plain

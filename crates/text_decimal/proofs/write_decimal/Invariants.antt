@@ -1,0 +1,10 @@
+use native.Mathlib.Omega.{arith}
+use Rattle.text_decimal.proofs.WritingLaws.{no_room, room, Writing, writing-none, writing_more, writing-done}
+use borrow.Author.Rules.{rules}
+use Rattle.text_decimal.proofs.write_decimal.Given as goal
+
+abbrev pub invariant-loop-left : goal.invariant-loop-left
+invariant-loop-left l = Writing l.initial.out l.at l.n l.out l.left l.rest
+
+abbrev pub decreases-loop-left : goal.decreases-loop-left
+decreases-loop-left l = l.left

@@ -1,0 +1,13 @@
+use native.Mathlib.Omega.{arith}
+use lib.ListN.{length-set}
+use Rattle.text_decimal.proofs.WritingLaws.{Writing, writing-none, writing-done}
+use Rattle.text_print.proofs.WriteLaws.{writing_two, writing-first}
+use Rattle.text_print.proofs.DigitPairLaws.{pairs-length, tens_in, ones_in}
+use borrow.Author.Rules.{rules}
+use Rattle.text_print.proofs.write_digits.Given as goal
+
+abbrev pub invariant-loop-left : goal.invariant-loop-left
+invariant-loop-left l = Writing l.initial.out l.at l.n l.out l.left l.rest
+
+abbrev pub decreases-loop-left : goal.decreases-loop-left
+decreases-loop-left l = l.left

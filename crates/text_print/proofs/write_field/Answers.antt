@@ -1,0 +1,6 @@
+use Rattle.text_print.proofs.WriteLaws.{field_end}
+use borrow.Author.Rules.{rules}
+use Rattle.text_print.proofs.write_field.Goals as goal
+
+pub returns : goal.returns
+returns c = search field_end

@@ -1,0 +1,18 @@
+use Prim.Native.Nat.{◌-◌}
+use mathlib.Core.Path.{◌≡◌, refl}
+use lib.ListN.{length}
+use borrow.Author.Rules.{rules}
+use Rattle.witness_load.proofs.SectionLaws.{Latches, latches-none, latches-more, latches_bad, latches-done}
+use Rattle.witness_load.proofs.load_latches.Goals as goal
+
+pub loop-i-init : goal.loop-i-init
+loop-i-init c = (refl, search latches-none)
+
+pub returns-in_default : goal.returns-in_default
+returns-in_default c = search latches_bad
+
+pub loop-i-preserved : goal.loop-i-preserved
+loop-i-preserved c = (search rules, search latches-more)
+
+pub returns : goal.returns
+returns c = search latches-done

@@ -1,0 +1,37 @@
+use Prim.Native.Nat.{◌-◌}
+use mathlib.Core.Path.{◌≡◌, refl}
+use lib.ListN.{length}
+use borrow.Author.Rules.{rules}
+use Rattle.text.proofs.LineLaws.{line-ordered, line-within, line-less}
+use Rattle.witness_load.proofs.NamingLaws.{Names, names-none, names-end, names-starts, names-stop, names-refused, names_more}
+use Rattle.witness_load.proofs.name_leaves.Goals as goal
+
+pub loop-start-init : goal.loop-start-init
+loop-start-init c = (refl, search names-none)
+
+pub returns-in_default : goal.returns-in_default
+returns-in_default c = search names-end
+
+pub slice_bounds-ends_symbols-count : goal.slice_bounds-ends_symbols-count
+slice_bounds-ends_symbols-count c = search line-ordered
+
+pub slice_bounds-ends_symbols-start : goal.slice_bounds-ends_symbols-start
+slice_bounds-ends_symbols-start c = search line-ordered
+
+pub slice_bounds-ends_symbols-end : goal.slice_bounds-ends_symbols-end
+slice_bounds-ends_symbols-end c = search line-within
+
+pub returns-then-ends_symbols : goal.returns-then-ends_symbols
+returns-then-ends_symbols c = search names-stop
+
+pub name_line-requires : goal.name_line-requires
+name_line-requires c = (search names-starts, search line-ordered, search line-within, search rules)
+
+pub loop-start-smaller : goal.loop-start-smaller
+loop-start-smaller c = search line-less
+
+pub loop-start-preserved : goal.loop-start-preserved
+loop-start-preserved c = (search rules, search names_more)
+
+pub returns-else-name_line : goal.returns-else-name_line
+returns-else-name_line c = search names-refused

@@ -1,0 +1,15 @@
+use Prim.Native.Nat.{◌-◌}
+use borrow.Author.Rules.{rules}
+use Rattle.witness_read.proofs.NumberedLaws.{literals-none, literals-more, literals_bad, literals-done}
+use Rattle.witness_read.proofs.CheckingLaws.{Checking}
+use Rattle.text.specs.declared.Reader.TheVariants.{Witness}
+use Rattle.circuit_lines.specs.SectionLines.{literal_line}
+use Rattle.lists.specs.Tests.{all}
+use Rattle.aiger.specs.Defined.{literal}
+use Rattle.witness_read.proofs.body.check_literals.Given as goal
+
+abbrev pub invariant-loop-i : goal.invariant-loop-i
+invariant-loop-i l = Checking (literal_line Witness) (all (literal l.most)) l.s l.initial.p l.n l.i l.fine l.p
+
+abbrev pub decreases-loop-i : goal.decreases-loop-i
+decreases-loop-i l = l.n - l.i

@@ -1,0 +1,6 @@
+use borrow.Author.Rules.{rules}
+use Rattle.witness_read.proofs.NumberedLaws.{literal-is}
+use Rattle.witness_read.proofs.body.literal_holds.Goals as goal
+
+pub returns : goal.returns
+returns c = search literal-is

@@ -1,0 +1,37 @@
+use Prim.Native.Nat.{◌-◌}
+use mathlib.Core.Path.{◌≡◌, refl}
+use lib.ListN.{length}
+use borrow.Author.Rules.{rules}
+use Rattle.witness_read.proofs.CommentLaws.{model-comments, comments-end, comments-stop, comments-more}
+use Rattle.witness_read.specs.Comments.{plain_comment}
+use Rattle.text.proofs.LineLaws.{line-ordered, line-within, line-less}
+use Rattle.circuit_lines.specs.Inner.Takes.{lines_from}
+use Rattle.lists.specs.Tests.{all}
+use Rattle.witness_read.proofs.tail.plain_comments.Goals as goal
+
+pub returns-then-not-witness : goal.returns-then-not-witness
+returns-then-not-witness c = search model-comments
+
+pub loop-start-init : goal.loop-start-init
+loop-start-init c = refl
+
+pub returns-in_default : goal.returns-in_default
+returns-in_default c = search comments-end
+
+pub slice_bounds-plain_comment-count : goal.slice_bounds-plain_comment-count
+slice_bounds-plain_comment-count c = search line-ordered
+
+pub slice_bounds-plain_comment-start : goal.slice_bounds-plain_comment-start
+slice_bounds-plain_comment-start c = search line-ordered
+
+pub slice_bounds-plain_comment-end : goal.slice_bounds-plain_comment-end
+slice_bounds-plain_comment-end c = search line-within
+
+pub loop-start-smaller : goal.loop-start-smaller
+loop-start-smaller c = search line-less
+
+pub loop-start-preserved : goal.loop-start-preserved
+loop-start-preserved c = search comments-more
+
+pub returns-else-plain_comment : goal.returns-else-plain_comment
+returns-else-plain_comment c = search comments-stop

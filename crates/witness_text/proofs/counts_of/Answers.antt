@@ -1,0 +1,6 @@
+use borrow.Author.Rules.{rules}
+use Rattle.witness_text.proofs.HeaderLaws.{counts-are}
+use Rattle.witness_text.proofs.counts_of.Goals as goal
+
+pub returns : goal.returns
+returns c = search counts-are

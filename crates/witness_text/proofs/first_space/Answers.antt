@@ -1,0 +1,22 @@
+use Prim.Native.Nat.{◌+◌, ◌-◌}
+use mathlib.Core.Path.{◌≡◌, sym}
+use native.Mathlib.Nat.{zero-add}
+use lib.ListN.{length, drop}
+use borrow.Author.Rules.{rules}
+use Rattle.scan.specs.Spans.{span}
+use Rattle.scan.proofs.SpanLaws.{span-again, span-stop, span-over}
+use Rattle.witness_text.specs.Symbols.{not_space, before_space}
+use Rattle.witness_text.proofs.SymbolLaws.{space-stops, space-goes}
+use Rattle.witness_text.proofs.first_space.Goals as goal
+
+pub loop-i-init : goal.loop-i-init
+loop-i-init c = search (sym, zero-add)
+
+pub returns-then-l-i-eq32 : goal.returns-then-l-i-eq32
+returns-then-l-i-eq32 c = search (span-stop, space-stops)
+
+pub loop-i-preserved : goal.loop-i-preserved
+loop-i-preserved c = search (span-again, space-goes)
+
+pub returns : goal.returns
+returns c = search span-over

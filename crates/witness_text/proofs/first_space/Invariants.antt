@@ -1,0 +1,16 @@
+use Prim.Native.Nat.{◌+◌, ◌-◌}
+use mathlib.Core.Path.{◌≡◌, sym}
+use native.Mathlib.Nat.{zero-add}
+use lib.ListN.{length, drop}
+use borrow.Author.Rules.{rules}
+use Rattle.scan.specs.Spans.{span}
+use Rattle.scan.proofs.SpanLaws.{span-again, span-stop, span-over}
+use Rattle.witness_text.specs.Symbols.{not_space, before_space}
+use Rattle.witness_text.proofs.SymbolLaws.{space-stops, space-goes}
+use Rattle.witness_text.proofs.first_space.Given as goal
+
+abbrev pub invariant-loop-i : goal.invariant-loop-i
+invariant-loop-i l = before_space l.l ≡ l.i + span not_space (drop l.i l.l)
+
+abbrev pub decreases-loop-i : goal.decreases-loop-i
+decreases-loop-i l = length l.l - l.i
