@@ -5,8 +5,9 @@ use Rattle.key_table.proofs.HeldLaws.{comes-within}
 use Rattle.key_table.proofs.AddLaws.{finds-known, finds_new}
 use borrow.Author.Rules.{rules}
 use Rattle.key_table.proofs.find_or_add.Goals as goal
+use Rattle.key_table.proofs.find_or_add.Goals.{After-walk-at}
 
-within : (c : goal.After-walk-at) → c.walk-at.result < length c.args.table.now
+within : (c : After-walk-at) → c.walk-at.result < length c.args.table.now
 within c = comes-within c.args.heads c.args.key c.args.table.now c.requires.base c.walk-at.result c.walk-at.ensures.code c.walk-at.ensures.comes
 
 pub offset_bounds-table-at : goal.offset_bounds-table-at

@@ -5,11 +5,12 @@ use Rattle.key_table.specs.Inner.Table.{Comes}
 use Rattle.key_table.proofs.HeldLaws.{Ahead, comes-none, comes-within, comes-ahead, comes-more, walked_none, walked-found}
 use borrow.Author.Rules.{rules}
 use Rattle.key_table.proofs.walk.Goals as goal
+use Rattle.key_table.proofs.walk.Goals.{At-loop-heads, Else-x-eq0}
 
-within : (c : goal.At-loop-heads) → c.loop-heads.at < length c.args.table.now
+within : (c : At-loop-heads) → c.loop-heads.at < length c.args.table.now
 within c = comes-within c.args.heads c.args.key c.args.table.now c.requires c.loop-heads.at c.loop-heads.code c.loop-heads.invariant
 
-ahead : (c : goal.Else-x-eq0) → Ahead c.args.heads (length c.args.table.now) c.loop-heads.at c.index-x.result
+ahead : (c : Else-x-eq0) → Ahead c.args.heads (length c.args.table.now) c.loop-heads.at c.index-x.result
 ahead c = comes-ahead c.args.heads c.args.key c.args.table.now c.requires c.loop-heads.at c.loop-heads.code c.loop-heads.invariant c.index-x.result c.index-x.ensures c.if-x-eq0.false
 
 pub loop-heads-init : goal.loop-heads-init

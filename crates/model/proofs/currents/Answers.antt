@@ -10,10 +10,10 @@ use Rattle.model.proofs.currents.Goals as goal
 
 pub loop-i-preserved : goal.loop-i-preserved
 loop-i-preserved c =
-    let n : length c.args.t1 ≡ 8 = c.well_formed.0.1.0.1 in
-    (simp length-set c.loop-i.invariant.0, map_more current_of c.loop-i.r c.args.t1 c.loop-i.i c.loop-i.invariant.1 no_latch (omega arith) (omega arith))
+    let n : length c.args.latches ≡ 8 = c.well_formed.0.1.0.1 in
+    (simp length-set c.loop-i.invariant.0, map_more current_of c.loop-i.r c.args.latches c.loop-i.i c.loop-i.invariant.1 no_latch (omega arith) (omega arith))
 
 pub returns : goal.returns
 returns c =
-    let n : length c.args.t1 ≡ 8 = c.well_formed.0.1.0.1 in
-    map-end current_of c.loop-i.r c.args.t1 c.loop-i.i c.loop-i.invariant.1 (omega arith) (omega arith)
+    let n : length c.args.latches ≡ 8 = c.well_formed.0.1.0.1 in
+    map-end current_of c.loop-i.r c.args.latches c.loop-i.i c.loop-i.invariant.1 (omega arith) (omega arith)

@@ -7,8 +7,9 @@ use Rattle.model.specs.declared.AigerTransition.{AigerTransition}
 use Rattle.model.specs.Circuit.{record_from}
 use Rattle.model.proofs.CheckedLaws.{limits_refuse, limits-passed, check_fails, check_holds, checkable}
 use Rattle.model.proofs.validate_parts.Goals as goal
+use Rattle.model.proofs.validate_parts.Goals.{Start}
 
-abbrev model : goal.Start → AigerTransition
+abbrev model : Start → AigerTransition
 model c = record_from c.args.counts c.args.inputs.now c.args.latches c.args.outputs.now
 
 pub returns-in-Refused : goal.returns-in-Refused

@@ -10,14 +10,15 @@ use Rattle.model_step.proofs.RunnableLaws.{IsModel, is-model, runnable}
 use Rattle.model.specs.Circuit.{record_from}
 use Rattle.model.specs.declared.AigerTransition.{AigerTransition}
 use Rattle.model_step.proofs.evaluate_parts.Goals as goal
+use Rattle.model_step.proofs.evaluate_parts.Goals.{In_default, Start}
 
-abbrev model : goal.Start → AigerTransition
+abbrev model : Start → AigerTransition
 model c = record_from c.args.counts c.args.inputs.now c.args.latches c.args.outputs.now
 
-eight : (c : goal.Start) → length c.args.latches ≡ 8
+eight : (c : Start) → length c.args.latches ≡ 8
 eight c = c.well_formed.1.1.0.1.0.1
 
-valid : (c : goal.In_default) → IsModel ((record_from c.args.counts c.args.inputs.now c.args.latches c.args.outputs.now)) c.args.gates.now (length c.args.work.now)
+valid : (c : In_default) → IsModel ((record_from c.args.counts c.args.inputs.now c.args.latches c.args.outputs.now)) c.args.gates.now (length c.args.work.now)
 valid c = is-model ((record_from c.args.counts c.args.inputs.now c.args.latches c.args.outputs.now)) c.args.gates.now (length c.args.work.now) _ c.validate_parts-verdict.ensures.judges c.in_default.is
 
 pub returns-in-Refused : goal.returns-in-Refused

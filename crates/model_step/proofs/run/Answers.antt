@@ -3,14 +3,15 @@ use lib.ListN.{length}
 use borrow.Author.Rules.{rules}
 use Rattle.model_step.proofs.RunLaws.{run_currents, run_inputs, run_words, run_reads, run_outcome}
 use Rattle.model_step.proofs.run.Goals as goal
+use Rattle.model_step.proofs.run.Goals.{After-load, After-load-2, After-run_gates}
 
-loaded : (c : goal.After-load) → length c.load.new.vals ≡ length c.args.vals.now
+loaded : (c : After-load) → length c.load.new.vals ≡ length c.args.vals.now
 loaded c = c.load.auto.vals
 
-loaded-2 : (c : goal.After-load-2) → length c.load-2.new.vals ≡ length c.args.vals.now
+loaded-2 : (c : After-load-2) → length c.load-2.new.vals ≡ length c.args.vals.now
 loaded-2 c = c.load-2.auto.vals ∙ (let loaded : length c.load.new.vals ≡ length c.args.vals.now = c.load.auto.vals in loaded)
 
-computed : (c : goal.After-run_gates) → length c.run_gates.new.vals ≡ length c.args.vals.now
+computed : (c : After-run_gates) → length c.run_gates.new.vals ≡ length c.args.vals.now
 computed c = c.run_gates.auto.vals ∙ (let loaded-2 : length c.load-2.new.vals ≡ length c.args.vals.now = c.load-2.auto.vals ∙ (let loaded : length c.load.new.vals ≡ length c.args.vals.now = c.load.auto.vals in loaded) in loaded-2)
 
 pub load-requires : goal.load-requires

@@ -10,11 +10,11 @@ counts_of-n-requires c = tt
 
 pub slice_bounds-row_parts-end-2 : goal.slice_bounds-row_parts-end-2
 slice_bounds-row_parts-end-2 c =
-    let n : length c.args.t1.outputs ≡ 128 = simp length-map at c.well_formed.0.1.1.1.1.1.1.1.1.0.1.0.1 in
+    let n : length c.args.model.outputs ≡ 128 = simp length-map at c.well_formed.0.1.1.1.1.1.1.1.1.0.1.0.1 in
     sym n
 
 pub row_parts-requires : goal.row_parts-requires
 row_parts-requires c = tt
 
 pub returns : goal.returns
-returns c = relation_whole c.args.t1 _ c.counts_of-n.ensures c.args.gates.now c.args.relevant.now c.args.predicate_pairs.now c.args.predicate_literals.now (buffers_of c.args.pairs.now c.args.literals.now c.args.work.now) _ _ c.args.source c.args.targets.now c.row_parts.ensures
+returns c = relation_whole c.args.model _ c.counts_of-n.ensures c.args.gates.now c.args.relevant.now c.args.predicate_pairs.now c.args.predicate_literals.now (buffers_of c.args.pairs.now c.args.literals.now c.args.work.now) _ _ c.args.source c.args.targets.now c.row_parts.ensures

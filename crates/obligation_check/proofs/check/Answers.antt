@@ -3,8 +3,9 @@ use Rattle.obligation_spec.specs.Calls.{Asked, asked_of}
 use Rattle.model.specs.Circuit.{record_from}
 use borrow.Author.Rules.{rules}
 use Rattle.obligation_check.proofs.check.Goals as goal
+use Rattle.obligation_check.proofs.check.Goals.{Start}
 
-abbrev question : goal.Start → Asked
+abbrev question : Start → Asked
 question c = asked_of (record_from c.args.counts c.args.inputs.now c.args.latches c.args.outputs.now) c.args.gates.now c.args.relevant.now c.args.predicate_pairs.now c.args.predicate_literals.now
 
 pub returns-in_default : goal.returns-in_default

@@ -15,7 +15,7 @@ pub after_words-next-requires : goal.after_words-next-requires
 after_words-next-requires c = search gather-behind
 
 pub shift_list-at-requires : goal.shift_list-at-requires
-shift_list-at-requires c = (search gather-before, search gather-can)
+shift_list-at-requires c = record { small_before = search gather-before; can_shift_list = search gather-can }
 
 pub pass-b-requires : goal.pass-b-requires
 pass-b-requires c = search gather-before

@@ -5,11 +5,12 @@ use Rattle.obligation_spec.specs.Calls.{Asked, asked_of}
 use Rattle.obligation.proofs.AssembleLaws.{in_order_lem, currents_list, nexts_list, low_list, few_list, relation_ready, relation_made}
 use borrow.Author.Rules.{rules}
 use Rattle.obligation.proofs.relation.assemble.Goals as goal
+use Rattle.obligation.proofs.relation.assemble.Goals.{Start}
 
-abbrev question : goal.Start → Asked
+abbrev question : Start → Asked
 question c = asked_of (record_from c.args.counts c.args.inputs.now c.args.latches c.args.outputs.now) c.args.gates.now c.args.relevant.now c.args.predicate_pairs.now c.args.predicate_literals.now
 
-sized : (c : goal.Start) → Sized ((asked_of (record_from c.args.counts c.args.inputs.now c.args.latches c.args.outputs.now) c.args.gates.now c.args.relevant.now c.args.predicate_pairs.now c.args.predicate_literals.now)).model
+sized : (c : Start) → Sized ((asked_of (record_from c.args.counts c.args.inputs.now c.args.latches c.args.outputs.now) c.args.gates.now c.args.relevant.now c.args.predicate_pairs.now c.args.predicate_literals.now)).model
 sized c = record { latches = c.well_formed.1.1.0.1.0.1 }
 
 pub state_keys-count-requires : goal.state_keys-count-requires

@@ -5,11 +5,12 @@ use Rattle.model.specs.Circuit.{record_from}
 use Rattle.model.proofs.ValueLaws.{Sized}
 use borrow.Author.Rules.{rules}
 use Rattle.obligation.proofs.terminal.list_parts.Goals as goal
+use Rattle.obligation.proofs.terminal.list_parts.Goals.{Start}
 
-abbrev question : goal.Start → Asked
+abbrev question : Start → Asked
 question c = asked_of (record_from c.args.counts c.args.inputs.now c.args.latches c.args.outputs.now) c.args.gates.now c.args.relevant.now c.args.predicate_pairs.now c.args.predicate_literals.now
 
-eight : (c : goal.Start) → Sized ((asked_of (record_from c.args.counts c.args.inputs.now c.args.latches c.args.outputs.now) c.args.gates.now c.args.relevant.now c.args.predicate_pairs.now c.args.predicate_literals.now)).model
+eight : (c : Start) → Sized ((asked_of (record_from c.args.counts c.args.inputs.now c.args.latches c.args.outputs.now) c.args.gates.now c.args.relevant.now c.args.predicate_pairs.now c.args.predicate_literals.now)).model
 eight c = record { latches = c.well_formed.1.1.0.1.0.1 }
 
 pub check-verdict-requires : goal.check-verdict-requires
