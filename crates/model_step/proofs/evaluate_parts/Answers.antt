@@ -35,7 +35,7 @@ fits-requires-2 c = inputs-few (valid (goal.at.fits-requires-2 c).In_default) _ 
 
 pub returns-then-not-fits-2 : goal.returns-then-not-fits-2
 returns-then-not-fits-2 c = (
-  step-word (valid (goal.at.returns-then-not-fits-2 c).In_default) (eight (goal.at.returns-then-not-fits-2 c).Start) c.args.state c.args.input _ c.fits-2.ensures c.if-not-fits.false-raw _ c.first-given.ensures _ c.fits-2.ensures c.if-not-fits-2.true-raw,
+  step-word (valid (goal.at.returns-then-not-fits-2 c).In_default) (eight (goal.at.returns-then-not-fits-2 c).Start) c.args.state c.args.input _ c.fits.ensures c.if-not-fits.false-raw _ c.first-given.ensures _ c.fits-2.ensures c.if-not-fits-2.true-raw,
   c.validate_parts-verdict.ensures.clears,
 )
 
@@ -56,6 +56,6 @@ returns c =
     let words = c.args.counts.max_variable + 1 in
     let n : length (c.run-outcome.new.vals ++ drop words c.validate_parts-verdict.new.work) ≡ length c.args.work.now =
     length_front c.validate_parts-verdict.new.work c.run-outcome.new.vals words c.run-outcome.auto.vals ∙ c.validate_parts-verdict.auto.work in (
-      step-done (valid (goal.at.returns c).In_default) (eight (goal.at.returns c).Start) c.args.state c.args.input _ c.fits-2.ensures c.if-not-fits.false-raw _ c.first-given.ensures _ c.fits-2.ensures c.if-not-fits-2.false-raw _ c.run-outcome.ensures,
+      step-done (valid (goal.at.returns c).In_default) (eight (goal.at.returns c).Start) c.args.state c.args.input _ c.fits.ensures c.if-not-fits.false-raw _ c.first-given.ensures _ c.fits-2.ensures c.if-not-fits-2.false-raw _ c.run-outcome.ensures,
       rw n at c.clear.ensures,
     )

@@ -16,21 +16,21 @@ fits-requires-2 c = few-inputs c.args.model.now c.args.work.now c.requires _ c.c
 pub returns-then-not-fits-2 : goal.returns-then-not-fits-2
 returns-then-not-fits-2 c =
     λ given. input_unfit c.args.model.now c.args.work.now given _ c.counts-n.ensures _ c.inputs.ensures _ c.first-given.ensures c.args.state
-    c.args.input _ c.fits-2.ensures c.if-not-fits.false-raw _ c.fits-2.ensures c.if-not-fits-2.true-raw _ c.refuse-then-not-fits-2.ensures
+    c.args.input _ c.fits.ensures c.if-not-fits.false-raw _ c.fits-2.ensures c.if-not-fits-2.true-raw _ c.refuse-then-not-fits-2.ensures
 
 pub load-requires : goal.load-requires
 load-requires c =
     load-latches c.args.model.now c.args.work.now c.requires _ c.counts-n.ensures _ c.inputs.ensures _ c.first-given.ensures c.args.state c.args.input _
-    c.fits-2.ensures c.if-not-fits.false-raw _ c.fits-2.ensures c.if-not-fits-2.false-raw _ c.latches.ensures _ c.currents-from.ensures _ c.clear.ensures _ c.first.ensures
+    c.fits.ensures c.if-not-fits.false-raw _ c.fits-2.ensures c.if-not-fits-2.false-raw _ c.latches.ensures _ c.currents-from.ensures _ c.clear.ensures _ c.first.ensures
 
 pub load-requires-2 : goal.load-requires-2
 load-requires-2 c =
     load-inputs c.args.model.now c.args.work.now c.requires _ c.counts-n.ensures _ c.inputs.ensures _ c.first-given.ensures c.args.state c.args.input _
-    c.fits-2.ensures c.if-not-fits.false-raw _ c.fits-2.ensures c.if-not-fits-2.false-raw _ c.latches.ensures _ c.currents-from.ensures _ c.clear.ensures _ c.first.ensures
+    c.fits.ensures c.if-not-fits.false-raw _ c.fits-2.ensures c.if-not-fits-2.false-raw _ c.latches.ensures _ c.currents-from.ensures _ c.clear.ensures _ c.first.ensures
     c.load.new.vals c.load.auto.vals
 
 pub returns : goal.returns
 returns c =
     λ given. computing c.args.model.now c.args.work.now given _ c.counts-n.ensures _ c.inputs.ensures _ c.first-given.ensures c.args.state c.args.input
-    _ c.fits-2.ensures c.if-not-fits.false-raw _ c.fits-2.ensures c.if-not-fits-2.false-raw _ c.latches.ensures _ c.currents-from.ensures _ c.clear.ensures _ c.first.ensures _
+    _ c.fits.ensures c.if-not-fits.false-raw _ c.fits-2.ensures c.if-not-fits-2.false-raw _ c.latches.ensures _ c.currents-from.ensures _ c.clear.ensures _ c.first.ensures _
     c.load.auto.vals c.load.ensures _ c.load-2.auto.vals c.load-2.ensures
