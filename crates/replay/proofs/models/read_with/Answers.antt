@@ -1,6 +1,5 @@
 use lib.ListN.{length-take}
 use native.Mathlib.Omega.{arith}
-use borrow.Author.Rules.{rules}
 use Rattle.replay.proofs.models.read_with.Goals as goal
 
 pub slice_bounds-read_lent-end-2 : goal.slice_bounds-read_lent-end-2

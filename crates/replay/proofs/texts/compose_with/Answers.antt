@@ -1,6 +1,5 @@
 use lib.ListN.{length-take}
 use native.Mathlib.Omega.{arith}
-use borrow.Author.Rules.{rules}
 use Rattle.replay.proofs.texts.compose_with.Goals as goal
 
 pub slice_bounds-compose_lent-end-2 : goal.slice_bounds-compose_lent-end-2
