@@ -1,9 +1,0 @@
-use lib.ListN.{length-take}
-use native.Mathlib.Omega.{arith}
-use Rattle.replay.proofs.texts.compose_with.Goals as goal
-
-pub slice_bounds-compose_lent-end-2 : goal.slice_bounds-compose_lent-end-2
-slice_bounds-compose_lent-end-2 c = simp length-take (omega arith)
-
-pub slice_bounds-compose_lent-end-4 : goal.slice_bounds-compose_lent-end-4
-slice_bounds-compose_lent-end-4 c = simp length-take (omega arith)
