@@ -1,4 +1,3 @@
-use borrow.Author.Rules.{rules}
 use Rattle.circuit_lines.proofs.GateLaws.{gate_missing, gate_bad, gate_got}
 use Rattle.text.proofs.LineLaws.{line-ordered, line-within}
 use Rattle.circuit_lines.proofs.any_gate.Goals as goal

@@ -1,4 +1,3 @@
-use borrow.Author.Rules.{rules}
 use Rattle.circuit_lines.proofs.GateLaws.{gate_refused, gate_some, gate_other}
 use Rattle.circuit_lines.proofs.gate_line.Goals as goal
 

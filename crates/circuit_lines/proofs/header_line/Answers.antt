@@ -1,4 +1,3 @@
-use borrow.Author.Rules.{rules}
 use Rattle.text.proofs.FieldLaws.{field-ordered, field-within}
 use Rattle.circuit_lines.proofs.HeaderLaws.{no_field, no_word, after-word}
 use Rattle.circuit_lines.proofs.header_line.Goals as goal

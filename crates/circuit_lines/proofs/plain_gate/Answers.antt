@@ -1,4 +1,3 @@
-use borrow.Author.Rules.{rules}
 use Rattle.circuit_lines.proofs.GateLaws.{plain-got}
 use Rattle.circuit_lines.proofs.plain_gate.Goals as goal
 

@@ -1,4 +1,3 @@
-use borrow.Author.Rules.{rules}
 use Rattle.circuit_lines.proofs.GateLaws.{gate_plain}
 use Rattle.circuit_lines.proofs.take_gate.Goals as goal
 

@@ -1,4 +1,3 @@
-use borrow.Author.Rules.{rules}
 use Rattle.text.proofs.LineLaws.{line-ordered, line-within}
 use Rattle.circuit_lines.proofs.HeaderLaws.{header_missing, header_bad, header_got}
 use Rattle.circuit_lines.proofs.take_header_numbers.Goals as goal

@@ -1,7 +1,4 @@
-use Prim.Native.Nat.{◌-◌}
-use lib.ListN.{length}
-use borrow.Author.Rules.{rules}
-use Rattle.circuit_lines.proofs.LiteralLaws.{Literals, literals-none, literals-more, literals_bad, literals-done}
+use Rattle.circuit_lines.proofs.LiteralLaws.{literals-none, literals-more, literals_bad, literals-done}
 use Rattle.circuit_lines.proofs.take_literals.Goals as goal
 
 pub loop-i-init : goal.loop-i-init

@@ -1,7 +1,6 @@
 use Prim.Native.Nat.{◌-◌}
 use lib.ListN.{length}
-use borrow.Author.Rules.{rules}
-use Rattle.circuit_lines.proofs.LiteralLaws.{Literals, literals-none, literals-more, literals_bad, literals-done}
+use Rattle.circuit_lines.proofs.LiteralLaws.{Literals}
 use Rattle.circuit_lines.proofs.take_literals.Given as goal
 
 abbrev pub invariant-loop-i : goal.invariant-loop-i

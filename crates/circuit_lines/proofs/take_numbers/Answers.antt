@@ -1,7 +1,4 @@
-use Prim.Native.Nat.{◌-◌}
-use lib.ListN.{length}
-use borrow.Author.Rules.{rules}
-use Rattle.circuit_lines.proofs.NumbersLaws.{Numbering, numbering-none, numbering-more, numbering_unreadable, numbering_missing, numbering-over, numbering-done}
+use Rattle.circuit_lines.proofs.NumbersLaws.{numbering-none, numbering-more, numbering_unreadable, numbering_missing, numbering-over, numbering-done}
 use Rattle.circuit_lines.proofs.take_numbers.Goals as goal
 
 pub loop-i-init : goal.loop-i-init

@@ -1,7 +1,6 @@
 use Prim.Native.Nat.{◌-◌}
 use lib.ListN.{length}
-use borrow.Author.Rules.{rules}
-use Rattle.circuit_lines.proofs.NumbersLaws.{Numbering, numbering-none, numbering-more, numbering_unreadable, numbering_missing, numbering-over, numbering-done}
+use Rattle.circuit_lines.proofs.NumbersLaws.{Numbering}
 use Rattle.circuit_lines.proofs.take_numbers.Given as goal
 
 abbrev pub invariant-loop-i : goal.invariant-loop-i

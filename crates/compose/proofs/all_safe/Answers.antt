@@ -1,8 +1,5 @@
 use borrow.Author.Rules.{rules}
-use Rattle.compose.proofs.CallLaws.{Safe, safe-none, safe-stop, safe-bads, safe-outputs, safe-end}
-use lib.ListN.{length}
-use Prim.Native.Nat.{◌-◌, ◌/◌}
-use mathlib.Core.Path.{◌≡◌}
+use Rattle.compose.proofs.CallLaws.{safe-none, safe-stop, safe-bads, safe-outputs, safe-end}
 use Rattle.compose.proofs.all_safe.Goals as goal
 
 pub loop-w-init : goal.loop-w-init

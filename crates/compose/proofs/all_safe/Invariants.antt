@@ -1,5 +1,4 @@
-use borrow.Author.Rules.{rules}
-use Rattle.compose.proofs.CallLaws.{Safe, safe-none, safe-stop, safe-bads, safe-outputs, safe-end}
+use Rattle.compose.proofs.CallLaws.{Safe}
 use lib.ListN.{length}
 use Prim.Native.Nat.{◌-◌, ◌/◌}
 use mathlib.Core.Path.{◌≡◌}

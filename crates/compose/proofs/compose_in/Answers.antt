@@ -1,4 +1,3 @@
-use borrow.Author.Rules.{rules}
 use Rattle.compose.proofs.TopLaws.{call_few, call_many, call_in_order, call_composed, call_apart}
 use Rattle.compose.proofs.compose_in.Goals as goal
 

@@ -1,4 +1,3 @@
-use borrow.Author.Rules.{rules}
 use Rattle.compose.proofs.TopLaws.{promised}
 use Rattle.compose.proofs.compose_safety_witnesses_v1.Goals as goal
 

@@ -1,4 +1,3 @@
-use borrow.Author.Rules.{rules}
 use Rattle.compose.proofs.TopLaws.{model-refused, model-some, model-composed}
 use Rattle.compose.proofs.compose_texts.Goals as goal
 

@@ -1,4 +1,3 @@
-use borrow.Author.Rules.{rules}
 use Rattle.compose.proofs.ChainLaws.{model_sums, witnesses_refused, witnesses_short, witnesses_fit, witnesses_listed, witnesses_composed}
 use Rattle.compose.proofs.compose_witnesses.Goals as goal
 

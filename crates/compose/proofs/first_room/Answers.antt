@@ -1,4 +1,3 @@
-use borrow.Author.Rules.{rules}
 use Rattle.compose.proofs.CallLaws.{room-none, room-some}
 use Rattle.compose.proofs.first_room.Goals as goal
 

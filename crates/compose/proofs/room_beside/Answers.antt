@@ -1,4 +1,3 @@
-use borrow.Author.Rules.{rules}
 use Rattle.compose.proofs.ChainLaws.{room-left}
 use Rattle.compose.proofs.room_beside.Goals as goal
 

@@ -1,4 +1,3 @@
-use borrow.Author.Rules.{rules}
 use Rattle.compose_gates.proofs.LatchLaws.{latch_known, latch_new}
 use Rattle.compose_gates.proofs.define_latch.Goals as goal
 

@@ -1,8 +1,6 @@
-use Prim.Native.Nat.{◌-◌}
-use mathlib.Core.Path.{◌≡◌, refl}
-use lib.ListN.{length}
+use mathlib.Core.Path.{refl}
 use borrow.Author.Rules.{rules}
-use Rattle.compose_gates.proofs.DefineLaws.{Defining, defining-none, defining-done, turn-slot, turn-storable, turn_differs, turn-agrees}
+use Rattle.compose_gates.proofs.DefineLaws.{defining-none, defining-done, turn-slot, turn-storable, turn_differs, turn-agrees}
 use Rattle.compose_gates.proofs.define_latches.Goals as goal
 
 pub loop-j-init : goal.loop-j-init

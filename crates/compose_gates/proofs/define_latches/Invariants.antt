@@ -1,8 +1,7 @@
 use Prim.Native.Nat.{◌-◌}
-use mathlib.Core.Path.{◌≡◌, refl}
+use mathlib.Core.Path.{◌≡◌}
 use lib.ListN.{length}
-use borrow.Author.Rules.{rules}
-use Rattle.compose_gates.proofs.DefineLaws.{Defining, defining-none, defining-done, turn-slot, turn-storable, turn_differs, turn-agrees}
+use Rattle.compose_gates.proofs.DefineLaws.{Defining}
 use Rattle.compose_gates.proofs.define_latches.Given as goal
 
 abbrev pub invariant-loop-j : goal.invariant-loop-j

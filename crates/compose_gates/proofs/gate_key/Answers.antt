@@ -1,4 +1,3 @@
-use borrow.Author.Rules.{rules}
 use Rattle.compose_gates.proofs.KeyLaws.{literal-small, key_read}
 use Rattle.compose_gates.proofs.gate_key.Goals as goal
 

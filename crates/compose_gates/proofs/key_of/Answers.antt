@@ -1,4 +1,3 @@
-use borrow.Author.Rules.{rules}
 use Rattle.compose_gates.proofs.KeyLaws.{key-first, key-second}
 use Rattle.compose_gates.proofs.key_of.Goals as goal
 

@@ -1,4 +1,3 @@
-use borrow.Author.Rules.{rules}
 use Rattle.compose_gates.proofs.KeptLaws.{found_in}
 use Rattle.compose_gates.proofs.number_of.Goals as goal
 

@@ -1,4 +1,3 @@
-use borrow.Author.Rules.{rules}
 use Rattle.compose_gates.proofs.LatchLaws.{pair_told, pair_differs}
 use Rattle.compose_gates.proofs.same_pair.Goals as goal
 

@@ -1,8 +1,7 @@
-use Prim.Native.Nat.{◌-◌}
-use mathlib.Core.Path.{◌≡◌, refl}
-use lib.ListN.{length, length-set}
+use mathlib.Core.Path.{refl}
+use lib.ListN.{length-set}
 use borrow.Author.Rules.{rules}
-use Rattle.compose_gates.proofs.TurnLaws.{Sharing, sharing-none, sharing-done, turn_keyable, turn-findable, turn_many, turn_more}
+use Rattle.compose_gates.proofs.TurnLaws.{sharing-none, sharing-done, turn_keyable, turn-findable, turn_many, turn_more}
 use Rattle.compose_gates.proofs.share_gates.Goals as goal
 
 pub loop-i-init : goal.loop-i-init

@@ -1,8 +1,7 @@
 use Prim.Native.Nat.{◌-◌}
-use mathlib.Core.Path.{◌≡◌, refl}
-use lib.ListN.{length, length-set}
-use borrow.Author.Rules.{rules}
-use Rattle.compose_gates.proofs.TurnLaws.{Sharing, sharing-none, sharing-done, turn_keyable, turn-findable, turn_many, turn_more}
+use mathlib.Core.Path.{◌≡◌}
+use lib.ListN.{length}
+use Rattle.compose_gates.proofs.TurnLaws.{Sharing}
 use Rattle.compose_gates.proofs.share_gates.Given as goal
 
 abbrev pub invariant-loop-i : goal.invariant-loop-i

@@ -1,5 +1,4 @@
 use native.Mathlib.Omega.{arith}
-use borrow.Author.Rules.{rules}
 use Rattle.compose_gates.proofs.KeyLaws.{literal_read, word_small}
 use Rattle.compose_gates.proofs.translate.Goals as goal
 

@@ -1,4 +1,3 @@
-use borrow.Author.Rules.{rules}
 use Rattle.compose_gather.proofs.CheckLaws.{added_is}
 use Rattle.compose_gather.proofs.add_counts.Goals as goal
 

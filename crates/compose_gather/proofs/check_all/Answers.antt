@@ -1,8 +1,5 @@
 use borrow.Author.Rules.{rules}
-use Rattle.compose_gather.proofs.CheckLaws.{Checking, checking-none, checking-can, checking-refused, checking-more, checking-end}
-use lib.ListN.{length}
-use Prim.Native.Nat.{◌-◌, ◌/◌}
-use mathlib.Core.Path.{◌≡◌}
+use Rattle.compose_gather.proofs.CheckLaws.{checking-none, checking-can, checking-refused, checking-more, checking-end}
 use Rattle.compose_gather.proofs.check_all.Goals as goal
 
 pub loop-w-init : goal.loop-w-init

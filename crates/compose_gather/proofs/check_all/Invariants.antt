@@ -1,5 +1,4 @@
-use borrow.Author.Rules.{rules}
-use Rattle.compose_gather.proofs.CheckLaws.{Checking, checking-none, checking-can, checking-refused, checking-more, checking-end}
+use Rattle.compose_gather.proofs.CheckLaws.{Checking}
 use lib.ListN.{length}
 use Prim.Native.Nat.{◌-◌, ◌/◌}
 use mathlib.Core.Path.{◌≡◌}

@@ -1,5 +1,4 @@
 use Rattle.compose_gather.proofs.CheckLaws.{one_refused, one_fits, one_read}
-use borrow.Author.Rules.{rules}
 use Rattle.compose_gather.proofs.check_one.Goals as goal
 
 pub add_counts-requires : goal.add_counts-requires

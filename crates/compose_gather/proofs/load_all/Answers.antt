@@ -1,8 +1,5 @@
 use borrow.Author.Rules.{rules}
-use Rattle.compose_gather.proofs.BlockLaws.{LoadingAll, loading-none, loading-loadable, loading-more, loading-end}
-use lib.ListN.{length}
-use Prim.Native.Nat.{◌-◌, ◌/◌}
-use mathlib.Core.Path.{◌≡◌}
+use Rattle.compose_gather.proofs.BlockLaws.{loading-none, loading-loadable, loading-more, loading-end}
 use Rattle.compose_gather.proofs.load_all.Goals as goal
 
 pub loop-w-init : goal.loop-w-init

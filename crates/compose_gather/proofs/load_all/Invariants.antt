@@ -1,5 +1,4 @@
-use borrow.Author.Rules.{rules}
-use Rattle.compose_gather.proofs.BlockLaws.{LoadingAll, loading-none, loading-loadable, loading-more, loading-end}
+use Rattle.compose_gather.proofs.BlockLaws.{LoadingAll}
 use lib.ListN.{length}
 use Prim.Native.Nat.{◌-◌, ◌/◌}
 use mathlib.Core.Path.{◌≡◌}

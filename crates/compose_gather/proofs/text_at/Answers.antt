@@ -1,4 +1,3 @@
-use borrow.Author.Rules.{rules}
 use Rattle.compose_gather.proofs.TextLaws.{text_ends, text_is_lem}
 use Rattle.compose_gather.proofs.text_at.Goals as goal
 

@@ -1,4 +1,3 @@
-use borrow.Author.Rules.{rules}
 use Rattle.compose_layout.proofs.LayLaws.{inputs-can, inputs_wrong, latches-can, latches_wrong, places_fit, laid_out}
 use Rattle.compose_layout.proofs.lay.Goals as goal
 

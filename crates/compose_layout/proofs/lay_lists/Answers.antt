@@ -10,25 +10,37 @@ pub gather-operands-requires : goal.gather-operands-requires
 gather-operands-requires c = record { can_gather = turn-can roomy-latches (λ mc. loaded c.load_all-latches.auto.work c.load_all-latches.ensures) c.requires.can_list; counts_listed = c.requires.counts_listed; right_totals = list_totals c.requires.can_list }
 
 pub gather-safety-requires : goal.gather-safety-requires
-gather-safety-requires c = record { can_gather = turn-can roomy-operands (λ mc.
+gather-safety-requires c = record {
+  can_gather = turn-can roomy-operands (λ mc.
       turn-next roomy-latches (loaded c.load_all-latches.auto.work c.load_all-latches.ensures) c.gather-operands.ensures)
-      c.requires.can_list; counts_listed = c.requires.counts_listed; right_totals = list_totals c.requires.can_list }
+      c.requires.can_list;
+  counts_listed = c.requires.counts_listed;
+  right_totals = list_totals c.requires.can_list;
+}
 
 pub gather-constraints-requires : goal.gather-constraints-requires
-gather-constraints-requires c = record { can_gather = turn-can roomy-safety (λ mc.
+gather-constraints-requires c = record {
+  can_gather = turn-can roomy-safety (λ mc.
       turn-next roomy-operands
       (turn-next roomy-latches (loaded c.load_all-latches.auto.work c.load_all-latches.ensures) c.gather-operands.ensures)
       c.gather-safety.ensures)
-      c.requires.can_list; counts_listed = c.requires.counts_listed; right_totals = list_totals c.requires.can_list }
+      c.requires.can_list;
+  counts_listed = c.requires.counts_listed;
+  right_totals = list_totals c.requires.can_list;
+}
 
 pub gather-end-requires : goal.gather-end-requires
-gather-end-requires c = record { can_gather = turn-can roomy-constraints (λ mc.
+gather-end-requires c = record {
+  can_gather = turn-can roomy-constraints (λ mc.
       turn-next roomy-safety
       (turn-next roomy-operands
       (turn-next roomy-latches (loaded c.load_all-latches.auto.work c.load_all-latches.ensures) c.gather-operands.ensures)
       c.gather-safety.ensures)
       c.gather-constraints.ensures)
-      c.requires.can_list; counts_listed = c.requires.counts_listed; right_totals = list_totals c.requires.can_list }
+      c.requires.can_list;
+  counts_listed = c.requires.counts_listed;
+  right_totals = list_totals c.requires.can_list;
+}
 
 pub returns : goal.returns
 returns c =

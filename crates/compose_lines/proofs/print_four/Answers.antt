@@ -1,6 +1,5 @@
 use native.Mathlib.Omega.{arith}
 use Rattle.compose_lines.proofs.HeaderLaws.{four_printed}
-use borrow.Author.Rules.{rules}
 use Rattle.compose_lines.proofs.print_four.Goals as goal
 
 pub returns : goal.returns

@@ -1,6 +1,5 @@
 use native.Mathlib.Omega.{arith}
 use Rattle.text_print.proofs.PrintsLaws.{prints_then}
-use borrow.Author.Rules.{rules}
 use Rattle.compose_lines.proofs.print_start.Goals as goal
 
 pub returns : goal.returns

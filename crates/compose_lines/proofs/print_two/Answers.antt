@@ -1,6 +1,5 @@
 use native.Mathlib.Omega.{arith}
 use Rattle.compose_lines.proofs.HeaderLaws.{two_printed}
-use borrow.Author.Rules.{rules}
 use Rattle.compose_lines.proofs.print_two.Goals as goal
 
 pub returns : goal.returns

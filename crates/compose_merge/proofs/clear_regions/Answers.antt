@@ -1,4 +1,3 @@
-use borrow.Author.Rules.{rules}
 use Rattle.compose_merge.proofs.ClearLaws.{regions-cleared}
 use Rattle.compose_merge.proofs.clear_regions.Goals as goal
 

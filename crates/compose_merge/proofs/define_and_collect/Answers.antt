@@ -1,4 +1,3 @@
-use borrow.Author.Rules.{rules}
 use native.Mathlib.Omega.{arith}
 use Rattle.compose_merge.proofs.BaseLaws.{step-some, step-goes}
 use Rattle.compose_merge.proofs.DefineLaws.{definitions-can, definitions_differ, definitions-step}

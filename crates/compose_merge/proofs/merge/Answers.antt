@@ -1,4 +1,3 @@
-use borrow.Author.Rules.{rules}
 use native.Mathlib.Omega.{arith}
 use Rattle.compose_merge.proofs.BaseLaws.{step-some, step-goes}
 use Rattle.compose_merge.proofs.ClearLaws.{sums_small, clear-can, clear_step}

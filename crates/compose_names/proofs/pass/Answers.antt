@@ -1,5 +1,4 @@
 use Rattle.compose_names.proofs.WitnessLaws.{passed_is}
-use borrow.Author.Rules.{rules}
 use Rattle.compose_names.proofs.pass.Goals as goal
 
 pub returns : goal.returns

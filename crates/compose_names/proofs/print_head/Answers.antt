@@ -1,6 +1,5 @@
 use native.Mathlib.Omega.{arith}
 use Rattle.compose_names.proofs.PieceLaws.{head-printed}
-use borrow.Author.Rules.{rules}
 use Rattle.compose_names.proofs.print_head.Goals as goal
 
 pub returns : goal.returns

@@ -1,7 +1,5 @@
-use Prim.Native.Nat.{◌-◌}
 use native.Mathlib.Omega.{arith}
-use Rattle.compose_names.specs.Inner.Symbols.{row_at}
-use Rattle.compose_names.proofs.WalkLaws.{Walk, walk_none, walk_old, walk_new, walk_end}
+use Rattle.compose_names.proofs.WalkLaws.{walk_none, walk_old, walk_new, walk_end}
 use Rattle.compose_names.proofs.WitnessLaws.{row_words}
 use borrow.Author.Rules.{rules}
 use Rattle.compose_names.proofs.print_names.Goals as goal

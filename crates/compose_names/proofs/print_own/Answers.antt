@@ -1,5 +1,4 @@
 use Rattle.compose_names.proofs.PieceLaws.{own_none, own_some}
-use borrow.Author.Rules.{rules}
 use Rattle.compose_names.proofs.print_own.Goals as goal
 
 pub returns-then-start-eq0 : goal.returns-then-start-eq0

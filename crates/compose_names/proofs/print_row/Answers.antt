@@ -1,5 +1,4 @@
 use Rattle.compose_names.proofs.WitnessLaws.{row_within, row-printed}
-use borrow.Author.Rules.{rules}
 use Rattle.compose_names.proofs.print_row.Goals as goal
 
 pub print_symbol-requires : goal.print_symbol-requires

@@ -1,7 +1,6 @@
 use Rattle.compose_names.specs.Inner.Names.{own_name, name_for}
 use native.Mathlib.Omega.{arith}
 use Rattle.compose_names.proofs.PieceLaws.{symbol-printed}
-use borrow.Author.Rules.{rules}
 use Rattle.compose_names.proofs.print_symbol.Goals as goal
 
 pub returns : goal.returns

@@ -1,8 +1,5 @@
-use Prim.Native.Nat.{◌-◌, ◌/◌}
-use mathlib.Core.Path.{◌≡◌}
 use native.Mathlib.Omega.{arith}
-use lib.ListN.{length}
-use Rattle.compose_names.proofs.SymbolLaws.{Walking, walking-none, walking-can, walking_pass, walking-more, walking-end}
+use Rattle.compose_names.proofs.SymbolLaws.{walking-none, walking-can, walking_pass, walking-more, walking-end}
 use borrow.Author.Rules.{rules}
 use Rattle.compose_names.proofs.print_symbols.Goals as goal
 

@@ -1,9 +1,7 @@
 use Prim.Native.Nat.{◌-◌, ◌/◌}
 use mathlib.Core.Path.{◌≡◌}
-use native.Mathlib.Omega.{arith}
 use lib.ListN.{length}
-use Rattle.compose_names.proofs.SymbolLaws.{Walking, walking-none, walking-can, walking_pass, walking-more, walking-end}
-use borrow.Author.Rules.{rules}
+use Rattle.compose_names.proofs.SymbolLaws.{Walking}
 use Rattle.compose_names.proofs.print_symbols.Given as goal
 
 abbrev pub invariant-loop-w : goal.invariant-loop-w

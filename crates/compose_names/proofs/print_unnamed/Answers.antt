@@ -1,5 +1,4 @@
 use Rattle.compose_names.proofs.PieceLaws.{unnamed_input, unnamed_latch}
-use borrow.Author.Rules.{rules}
 use Rattle.compose_names.proofs.print_unnamed.Goals as goal
 
 pub returns-in-Inputs : goal.returns-in-Inputs

@@ -1,5 +1,4 @@
 use Rattle.compose_names.proofs.WitnessLaws.{witness-can, witness-prints}
-use borrow.Author.Rules.{rules}
 use Rattle.compose_names.proofs.print_witness.Goals as goal
 
 pub print_names-requires : goal.print_names-requires

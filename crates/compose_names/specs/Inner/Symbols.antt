@@ -10,7 +10,6 @@ use Rattle.compose_spec.specs.Numbering.{numbered}
 use Rattle.compose_spec.specs.Printing.{symbol_line, symbol_lines}
 use Rattle.compose_spec.specs.Calling.{texts_in}
 use Rattle.compose_joint.specs.declared.Leaves.{Leaves}
-use Rattle.compose_joint.specs.declared.Leaves.TheVariants as leaf
 use Rattle.compose_joint.specs.Inner.Joint.{total_of, origins, entries_of}
 use Rattle.compose_gather.specs.Inner.Counts.{leaf_counts, names_before}
 use Rattle.compose_gather.specs.Inner.Gathered.{words_for, Blocks, word_total, Readable, leaf_count_of}

@@ -1,4 +1,3 @@
-use borrow.Author.Rules.{rules}
 use Rattle.compose_numbers.proofs.AddLaws.{literal_new, literal_old}
 use Rattle.compose_numbers.proofs.add_literal.Goals as goal
 

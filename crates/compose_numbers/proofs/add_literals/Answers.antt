@@ -1,8 +1,6 @@
-use Prim.Native.Nat.{◌-◌}
-use mathlib.Core.Path.{◌≡◌, refl}
-use lib.ListN.{length}
+use mathlib.Core.Path.{refl}
 use borrow.Author.Rules.{rules}
-use Rattle.compose_numbers.proofs.AddLaws.{Adding, adding-none, adding-done, turn-addable, turn_more}
+use Rattle.compose_numbers.proofs.AddLaws.{adding-none, adding-done, turn-addable, turn_more}
 use Rattle.compose_numbers.proofs.add_literals.Goals as goal
 
 pub loop-i-init : goal.loop-i-init

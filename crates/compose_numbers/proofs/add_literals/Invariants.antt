@@ -1,8 +1,7 @@
 use Prim.Native.Nat.{◌-◌}
-use mathlib.Core.Path.{◌≡◌, refl}
+use mathlib.Core.Path.{◌≡◌}
 use lib.ListN.{length}
-use borrow.Author.Rules.{rules}
-use Rattle.compose_numbers.proofs.AddLaws.{Adding, adding-none, adding-done, turn-addable, turn_more}
+use Rattle.compose_numbers.proofs.AddLaws.{Adding}
 use Rattle.compose_numbers.proofs.add_literals.Given as goal
 
 abbrev pub invariant-loop-i : goal.invariant-loop-i

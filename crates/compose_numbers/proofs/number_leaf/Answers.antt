@@ -1,4 +1,3 @@
-use borrow.Author.Rules.{rules}
 use Rattle.compose_numbers.proofs.NumberLaws.{one_new, one_listed, one_first, one_again}
 use Rattle.compose_numbers.proofs.number_leaf.Goals as goal
 

@@ -1,8 +1,6 @@
-use Prim.Native.Nat.{◌-◌}
-use mathlib.Core.Path.{◌≡◌, refl}
-use lib.ListN.{length}
+use mathlib.Core.Path.{refl}
 use borrow.Author.Rules.{rules}
-use Rattle.compose_numbers.proofs.NumberLaws.{Numbering, numbering-none, numbering-done, turn_numberable, turn_more}
+use Rattle.compose_numbers.proofs.NumberLaws.{numbering-none, numbering-done, turn_numberable, turn_more}
 use Rattle.compose_numbers.proofs.number_leaves.Goals as goal
 
 pub loop-i-init : goal.loop-i-init

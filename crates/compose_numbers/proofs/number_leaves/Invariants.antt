@@ -1,8 +1,7 @@
 use Prim.Native.Nat.{◌-◌}
-use mathlib.Core.Path.{◌≡◌, refl}
+use mathlib.Core.Path.{◌≡◌}
 use lib.ListN.{length}
-use borrow.Author.Rules.{rules}
-use Rattle.compose_numbers.proofs.NumberLaws.{Numbering, numbering-none, numbering-done, turn_numberable, turn_more}
+use Rattle.compose_numbers.proofs.NumberLaws.{Numbering}
 use Rattle.compose_numbers.proofs.number_leaves.Given as goal
 
 abbrev pub invariant-loop-i : goal.invariant-loop-i

@@ -1,4 +1,3 @@
-use borrow.Author.Rules.{rules}
 use Rattle.compose_numbers.proofs.StoreLaws.{cleared}
 use Rattle.compose_numbers.proofs.regions_clear.Goals as goal
 

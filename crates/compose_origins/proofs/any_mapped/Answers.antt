@@ -1,8 +1,5 @@
 use borrow.Author.Rules.{rules}
-use Rattle.compose_origins.proofs.LoopLaws.{Testing, testing-none, testing-says, testing-true, testing-more, testing-end}
-use lib.ListN.{length}
-use Prim.Native.Nat.{◌-◌, ◌/◌}
-use mathlib.Core.Path.{◌≡◌}
+use Rattle.compose_origins.proofs.LoopLaws.{testing-none, testing-says, testing-true, testing-more, testing-end}
 use Rattle.compose_origins.proofs.any_mapped.Goals as goal
 
 pub loop-i-init : goal.loop-i-init

@@ -1,5 +1,4 @@
-use borrow.Author.Rules.{rules}
-use Rattle.compose_origins.proofs.LoopLaws.{Testing, testing-none, testing-says, testing-true, testing-more, testing-end}
+use Rattle.compose_origins.proofs.LoopLaws.{Testing}
 use lib.ListN.{length}
 use Prim.Native.Nat.{◌-◌, ◌/◌}
 use mathlib.Core.Path.{◌≡◌}

@@ -1,4 +1,3 @@
-use borrow.Author.Rules.{rules}
 use Rattle.compose_origins.proofs.MappingLaws.{name-short, name-mapped, name_private}
 use Rattle.compose_origins.proofs.by_name.Goals as goal
 

@@ -1,4 +1,3 @@
-use borrow.Author.Rules.{rules}
 use Rattle.compose_origins.proofs.MappingLaws.{position_shared, position_private}
 use Rattle.compose_origins.proofs.by_position.Goals as goal
 

@@ -1,8 +1,5 @@
 use borrow.Author.Rules.{rules}
-use Rattle.compose_origins.proofs.AllLaws.{Mapping, mapping-none, mapping-behind, mapping-can, mapping_wrong, mapping-more, mapping-end}
-use lib.ListN.{length}
-use Prim.Native.Nat.{◌-◌, ◌/◌}
-use mathlib.Core.Path.{◌≡◌}
+use Rattle.compose_origins.proofs.AllLaws.{mapping-none, mapping-behind, mapping-can, mapping_wrong, mapping-more, mapping-end}
 use Rattle.compose_origins.proofs.gather_origins.Goals as goal
 
 pub loop-w-init : goal.loop-w-init

@@ -1,5 +1,4 @@
-use borrow.Author.Rules.{rules}
-use Rattle.compose_origins.proofs.AllLaws.{Mapping, mapping-none, mapping-behind, mapping-can, mapping_wrong, mapping-more, mapping-end}
+use Rattle.compose_origins.proofs.AllLaws.{Mapping}
 use lib.ListN.{length}
 use Prim.Native.Nat.{◌-◌, ◌/◌}
 use mathlib.Core.Path.{◌≡◌}

@@ -1,4 +1,3 @@
-use borrow.Author.Rules.{rules}
 use Rattle.compose_origins.proofs.NameLaws.{name-within, tests-none, tests-name}
 use Rattle.compose_origins.proofs.is_mapped.Goals as goal
 

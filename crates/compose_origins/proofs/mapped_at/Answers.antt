@@ -1,4 +1,3 @@
-use borrow.Author.Rules.{rules}
 use Rattle.compose_origins.proofs.NameLaws.{says_read, tests_read}
 use Rattle.compose_origins.proofs.mapped_at.Goals as goal
 

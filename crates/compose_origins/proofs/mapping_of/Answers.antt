@@ -1,4 +1,3 @@
-use borrow.Author.Rules.{rules}
 use Rattle.compose_origins.proofs.NameLaws.{name-within, maps_none, maps-name, maps_position}
 use Rattle.compose_origins.proofs.mapping_of.Goals as goal
 

@@ -1,4 +1,3 @@
-use borrow.Author.Rules.{rules}
 use Rattle.compose_origins.proofs.WitnessLaws.{witness-says, witness_tested}
 use Rattle.compose_origins.proofs.maps_by_name.Goals as goal
 

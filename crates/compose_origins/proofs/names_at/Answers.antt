@@ -1,6 +1,5 @@
 use native.Mathlib.Omega.{arith}
 use Rattle.compose_gather.proofs.CountLaws.{leaves-within}
-use borrow.Author.Rules.{rules}
 use Rattle.compose_origins.proofs.names_at.Goals as goal
 
 pub overflow_add-result : goal.overflow_add-result

@@ -1,4 +1,3 @@
-use borrow.Author.Rules.{rules}
 use Rattle.compose_origins.proofs.MappingLaws.{onto_odd, onto_before, onto_behind, onto_it}
 use Rattle.compose_origins.proofs.onto.Goals as goal
 

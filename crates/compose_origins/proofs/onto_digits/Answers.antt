@@ -1,4 +1,3 @@
-use borrow.Author.Rules.{rules}
 use Rattle.compose_origins.proofs.MappingLaws.{onto_unreadable, onto_readable}
 use Rattle.compose_origins.proofs.onto_digits.Goals as goal
 

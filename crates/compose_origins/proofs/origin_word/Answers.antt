@@ -1,4 +1,3 @@
-use borrow.Author.Rules.{rules}
 use Rattle.compose_origins.proofs.NameLaws.{private_word, wrong_word}
 use Rattle.compose_origins.proofs.origin_word.Goals as goal
 

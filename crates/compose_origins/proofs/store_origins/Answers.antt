@@ -1,6 +1,5 @@
 use borrow.Author.Rules.{rules}
-use Rattle.compose_origins.proofs.LoopLaws.{Storing, storing-none, storing-says, storing_wrong, storing-more, storing-end}
-use Prim.Native.Nat.{◌-◌}
+use Rattle.compose_origins.proofs.LoopLaws.{storing-none, storing-says, storing_wrong, storing-more, storing-end}
 use Rattle.compose_origins.proofs.store_origins.Goals as goal
 
 pub loop-k-init : goal.loop-k-init

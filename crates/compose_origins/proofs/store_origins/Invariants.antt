@@ -1,5 +1,4 @@
-use borrow.Author.Rules.{rules}
-use Rattle.compose_origins.proofs.LoopLaws.{Storing, storing-none, storing-says, storing_wrong, storing-more, storing-end}
+use Rattle.compose_origins.proofs.LoopLaws.{Storing}
 use Prim.Native.Nat.{◌-◌}
 use Rattle.compose_origins.proofs.store_origins.Given as goal
 

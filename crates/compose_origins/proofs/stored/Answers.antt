@@ -1,4 +1,3 @@
-use borrow.Author.Rules.{rules}
 use Rattle.compose_origins.proofs.WitnessLaws.{stored-true, stored-false}
 use Rattle.compose_origins.proofs.stored.Goals as goal
 

@@ -1,4 +1,3 @@
-use borrow.Author.Rules.{rules}
 use Rattle.compose_origins.proofs.WitnessLaws.{witness_test, witness-can, witness-mapped}
 use Rattle.compose_origins.proofs.witness_origins.Goals as goal
 

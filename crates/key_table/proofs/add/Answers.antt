@@ -1,6 +1,5 @@
 use native.Mathlib.Omega.{arith}
 use lib.ListN.{length-set}
-use borrow.Author.Rules.{rules}
 use Rattle.key_table.proofs.AddLaws.{node_stored}
 use Rattle.key_table.proofs.add.Goals as goal
 

@@ -3,7 +3,6 @@ use native.Mathlib.Omega.{arith}
 use lib.ListN.{length}
 use Rattle.key_table.proofs.HeldLaws.{comes-within}
 use Rattle.key_table.proofs.AddLaws.{finds-known, finds_new}
-use borrow.Author.Rules.{rules}
 use Rattle.key_table.proofs.find_or_add.Goals as goal
 use Rattle.key_table.proofs.find_or_add.Goals.{After-walk-at}
 

@@ -3,7 +3,6 @@ use mathlib.Core.Path.{ap}
 use native.Mathlib.Omega.{arith}
 use Rattle.key_table.specs.Inner.Table.{head_of}
 use Rattle.key_table.proofs.HashLaws.{product_fits}
-use borrow.Author.Rules.{rules}
 use Rattle.key_table.proofs.head.Goals as goal
 
 pub overflow_mul-result : goal.overflow_mul-result

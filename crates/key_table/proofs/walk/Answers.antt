@@ -1,9 +1,7 @@
-use Prim.Native.Nat.{◌-◌, ◌<◌}
+use Prim.Native.Nat.{◌<◌}
 use native.Mathlib.Omega.{arith}
 use lib.ListN.{length}
-use Rattle.key_table.specs.Inner.Table.{Comes}
 use Rattle.key_table.proofs.HeldLaws.{Ahead, comes-none, comes-within, comes-ahead, comes-more, walked_none, walked-found}
-use borrow.Author.Rules.{rules}
 use Rattle.key_table.proofs.walk.Goals as goal
 use Rattle.key_table.proofs.walk.Goals.{At-loop-heads, Else-x-eq0}
 

@@ -1,9 +1,6 @@
-use Prim.Native.Nat.{◌-◌, ◌<◌}
-use native.Mathlib.Omega.{arith}
+use Prim.Native.Nat.{◌-◌}
 use lib.ListN.{length}
 use Rattle.key_table.specs.Inner.Table.{Comes}
-use Rattle.key_table.proofs.HeldLaws.{Ahead, comes-none, comes-within, comes-ahead, comes-more, walked_none, walked-found}
-use borrow.Author.Rules.{rules}
 use Rattle.key_table.proofs.walk.Given as goal
 
 abbrev pub invariant-loop-heads : goal.invariant-loop-heads

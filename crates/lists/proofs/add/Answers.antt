@@ -1,4 +1,3 @@
-use borrow.Author.Rules.{rules}
 use Rattle.lists.proofs.BitSetLaws.{free_outside, mark_outside, free-bit, shifted_one}
 use Rattle.lists.specs.Sets.{with_bit}
 use Rattle.lists.proofs.add.Goals as goal

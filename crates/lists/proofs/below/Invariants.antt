@@ -1,11 +1,8 @@
 use Prim.Native.Nat.{◌-◌}
 use mathlib.Core.Path.{◌≡◌}
-use borrow.Author.Tests.{lt-ltb, le-ltb}
 use lib.Dec.{ltb}
 use lib.ListN.{length, drop}
 use Rattle.lists.specs.Tests.{all}
-use Rattle.lists.proofs.TestLaws.{all-stop, all_more, all_end}
-use borrow.Author.Rules.{rules}
 use Rattle.lists.proofs.below.Given as goal
 
 abbrev pub invariant-loop-i : goal.invariant-loop-i

@@ -1,7 +1,4 @@
-use Prim.Native.Nat.{◌-◌}
-use lib.ListN.{length}
-use borrow.Author.Rules.{rules}
-use Rattle.lists.proofs.ZeroLaws.{Clearing, clearing-none, clearing-more, clearing-done}
+use Rattle.lists.proofs.ZeroLaws.{clearing-none, clearing-more, clearing-done}
 use Rattle.lists.proofs.clear.Goals as goal
 
 pub loop-i-init : goal.loop-i-init

@@ -1,7 +1,6 @@
 use Prim.Native.Nat.{◌-◌}
 use lib.ListN.{length}
-use borrow.Author.Rules.{rules}
-use Rattle.lists.proofs.ZeroLaws.{Clearing, clearing-none, clearing-more, clearing-done}
+use Rattle.lists.proofs.ZeroLaws.{Clearing}
 use Rattle.lists.proofs.clear.Given as goal
 
 abbrev pub invariant-loop-i : goal.invariant-loop-i

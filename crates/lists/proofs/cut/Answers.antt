@@ -1,4 +1,3 @@
-use borrow.Author.Rules.{rules}
 use Rattle.lists.proofs.PartLaws.{cut_none, cut_past, cut_some}
 use Rattle.lists.proofs.cut.Goals as goal
 

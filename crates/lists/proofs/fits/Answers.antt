@@ -1,7 +1,6 @@
 use Prim.Native.Nat.{◌^◌}
 use mathlib.Core.Path.{sym}
 use native.Mathlib.Omega.{arith}
-use borrow.Author.Rules.{rules}
 use borrow.Author.Tests.{lt-ltb}
 use Rattle.lists.proofs.BitLaws.{fits_test}
 use Rattle.lists.proofs.fits.Goals as goal

@@ -1,8 +1,5 @@
 use borrow.Author.Rules.{rules}
-use Rattle.lists.proofs.PairLaws.{Ordering, ordering-none, ordering-stop, ordering-more, ordering-end}
-use lib.ListN.{length}
-use Prim.Native.Nat.{◌-◌, ◌/◌}
-use mathlib.Core.Path.{◌≡◌}
+use Rattle.lists.proofs.PairLaws.{ordering-none, ordering-stop, ordering-more, ordering-end}
 use Rattle.lists.proofs.in_order.Goals as goal
 
 pub loop-i-init : goal.loop-i-init

@@ -1,5 +1,4 @@
-use borrow.Author.Rules.{rules}
-use Rattle.lists.proofs.PairLaws.{Ordering, ordering-none, ordering-stop, ordering-more, ordering-end}
+use Rattle.lists.proofs.PairLaws.{Ordering}
 use lib.ListN.{length}
 use Prim.Native.Nat.{◌-◌, ◌/◌}
 use mathlib.Core.Path.{◌≡◌}

@@ -3,8 +3,6 @@ use mathlib.Core.Path.{◌≡◌}
 use lib.Dec.{leb}
 use lib.ListN.{drop}
 use Rattle.lists.specs.Words.{lengths}
-use Rattle.lists.proofs.PairLaws.{lengths-stop, lengths-more, lengths-end}
-use borrow.Author.Rules.{rules}
 use Rattle.lists.proofs.lengths_within.Given as goal
 
 abbrev pub invariant-loop-i : goal.invariant-loop-i

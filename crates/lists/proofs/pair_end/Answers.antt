@@ -1,4 +1,3 @@
-use borrow.Author.Rules.{rules}
 use Rattle.lists.proofs.PairLaws.{pair_ends}
 use Rattle.lists.proofs.pair_end.Goals as goal
 

@@ -1,4 +1,3 @@
-use borrow.Author.Rules.{rules}
 use Rattle.lists.proofs.PairLaws.{end_before, end_past, end-behind, end-within}
 use Rattle.lists.proofs.part_end.Goals as goal
 

@@ -1,10 +1,7 @@
-use Rattle.lists.proofs.RisingLaws.{numbers_fall, numbers_rise, rises-end}
 use Prim.Native.Nat.{◌-◌, ◌<◌}
 use mathlib.Core.Path.{◌≡◌}
-use native.Mathlib.Omega.{arith}
 use lib.ListN.{length, drop}
 use Rattle.lists.specs.Sets.{rising}
-use borrow.Author.Rules.{rules}
 use Rattle.lists.proofs.rises.Given as goal
 
 abbrev pub invariant-loop-i : goal.invariant-loop-i

@@ -1,6 +1,5 @@
 use mathlib.Core.Path.{sym}
 use native.Mathlib.Omega.{arith}
-use borrow.Author.Rules.{rules}
 use Rattle.model.proofs.CountLaws.{counted_fails, counted_sum}
 use Rattle.model.proofs.counts_hold.Goals as goal
 

@@ -1,5 +1,4 @@
 use native.Mathlib.Omega.{arith}
-use borrow.Author.Rules.{rules}
 use Rattle.model.proofs.DefineLaws.{defining-zero, defining-odd, defining_high, defining_said}
 use Rattle.model.proofs.define.Goals as goal
 

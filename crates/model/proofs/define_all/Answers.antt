@@ -1,10 +1,6 @@
-use Prim.Native.Nat.{◌-◌}
-use mathlib.Core.Bool.{true}
-use mathlib.Core.Path.{◌≡◌, refl}
-use lib.ListN.{length, take}
+use mathlib.Core.Path.{refl}
 use borrow.Author.Rules.{rules}
 use Rattle.model.proofs.MarkingLaws.{adds-start, adds-more, adds-stop, adds-end}
-use Rattle.model.specs.Inner.Marking.{AddsLeaves}
 use Rattle.model.proofs.define_all.Goals as goal
 
 pub loop-i-init : goal.loop-i-init

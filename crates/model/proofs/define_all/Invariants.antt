@@ -1,9 +1,7 @@
 use Prim.Native.Nat.{◌-◌}
 use mathlib.Core.Bool.{true}
-use mathlib.Core.Path.{◌≡◌, refl}
+use mathlib.Core.Path.{◌≡◌}
 use lib.ListN.{length, take}
-use borrow.Author.Rules.{rules}
-use Rattle.model.proofs.MarkingLaws.{adds-start, adds-more, adds-stop, adds-end}
 use Rattle.model.specs.Inner.Marking.{AddsLeaves}
 use Rattle.model.proofs.define_all.Given as goal
 

@@ -1,4 +1,3 @@
-use borrow.Author.Rules.{rules}
 use Rattle.model.proofs.MarkingLaws.{adds_disordered, adds-ordered}
 use Rattle.model.proofs.DefineLaws.{left-not_smaller, right-not_smaller, both_smaller}
 use Rattle.model.proofs.define_gate.Goals as goal

@@ -1,13 +1,8 @@
-use Prim.Native.Nat.{◌+◌, ◌-◌, ◌≤◌}
-use mathlib.Core.Bool.{true}
-use mathlib.Core.Path.{◌≡◌, refl}
+use Prim.Native.Nat.{◌+◌}
+use mathlib.Core.Path.{refl}
 use native.Mathlib.Omega.{arith}
-use lib.ListN.{length, take}
 use borrow.Author.Rules.{rules}
 use Rattle.model.proofs.MarkingLaws.{gates_undefined, gates-start, gates-more, gates-stop, gates-end}
-use Rattle.model.specs.Inner.Marking.{AddsGates}
-use Rattle.aiger.specs.Gates.{gate_from}
-use Rattle.lists.specs.Words.{triples_of}
 use Rattle.model.proofs.define_gates.Goals as goal
 
 pub returns-then-not-fine : goal.returns-then-not-fine

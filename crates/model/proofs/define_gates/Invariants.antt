@@ -1,10 +1,7 @@
-use Prim.Native.Nat.{◌+◌, ◌-◌, ◌≤◌}
+use Prim.Native.Nat.{◌-◌, ◌≤◌}
 use mathlib.Core.Bool.{true}
-use mathlib.Core.Path.{◌≡◌, refl}
-use native.Mathlib.Omega.{arith}
+use mathlib.Core.Path.{◌≡◌}
 use lib.ListN.{length, take}
-use borrow.Author.Rules.{rules}
-use Rattle.model.proofs.MarkingLaws.{gates_undefined, gates-start, gates-more, gates-stop, gates-end}
 use Rattle.model.specs.Inner.Marking.{AddsGates}
 use Rattle.aiger.specs.Gates.{gate_from}
 use Rattle.lists.specs.Words.{triples_of}

@@ -1,4 +1,3 @@
-use borrow.Author.Rules.{rules}
 use Rattle.model.proofs.CheckedLaws.{leaves-both, leaves_lost}
 use Rattle.model.proofs.define_leaves.Goals as goal
 

@@ -1,6 +1,5 @@
 use native.Mathlib.Omega.{arith}
 use lib.ListN.{length}
-use borrow.Author.Rules.{rules}
 use Rattle.model.proofs.CheckedLaws.{definitions-say}
 use Rattle.lists.proofs.ZeroLaws.{zeros-kept}
 use Rattle.model.proofs.definitions_hold.Goals as goal

@@ -1,5 +1,4 @@
 use Rattle.model.proofs.CheckedLaws.{too_little_work, counts_fail, too_few-inputs, too_few-outputs, too_few-gates, limits_hold, literals_fail}
-use borrow.Author.Rules.{rules}
 use Rattle.model.proofs.limits_hold.Goals as goal
 
 pub returns-then-room-counts : goal.returns-then-room-counts

@@ -1,4 +1,3 @@
-use borrow.Author.Rules.{rules}
 use Rattle.model.proofs.CheckedLaws.{literals-both, literals_lost}
 use Rattle.model.proofs.literals_hold.Goals as goal
 

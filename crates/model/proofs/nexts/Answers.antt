@@ -1,9 +1,6 @@
-use Prim.Native.Nat.{◌-◌}
-use mathlib.Core.List.{map}
 use mathlib.Core.Path.{◌≡◌}
 use native.Mathlib.Omega.{arith}
-use lib.ListN.{length-set, length, take}
-use borrow.Author.Rules.{rules}
+use lib.ListN.{length-set, length}
 use Rattle.model.specs.Circuit.{no_latch, next_of}
 use Rattle.lists.proofs.RestLaws.{map_more, map-end}
 use Rattle.model.proofs.nexts.Goals as goal

@@ -1,11 +1,8 @@
 use Prim.Native.Nat.{◌-◌}
 use mathlib.Core.List.{map}
 use mathlib.Core.Path.{◌≡◌}
-use native.Mathlib.Omega.{arith}
-use lib.ListN.{length-set, length, take}
-use borrow.Author.Rules.{rules}
-use Rattle.model.specs.Circuit.{no_latch, next_of}
-use Rattle.lists.proofs.RestLaws.{map_more, map-end}
+use lib.ListN.{length, take}
+use Rattle.model.specs.Circuit.{next_of}
 use Rattle.model.proofs.nexts.Given as goal
 
 abbrev pub invariant-loop-i : goal.invariant-loop-i

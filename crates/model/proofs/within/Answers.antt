@@ -1,12 +1,6 @@
-use Prim.Native.Nat.{◌-◌}
-use mathlib.Core.Path.{◌≡◌}
 use native.Mathlib.Omega.{arith}
-use lib.ListN.{length, drop}
-use borrow.Author.Rules.{rules}
 use Rattle.model.proofs.DefineLaws.{within-stop, within_more}
-use Rattle.aiger.specs.Defined.{literal}
 use Rattle.lists.proofs.TestLaws.{all_end}
-use Rattle.lists.specs.Tests.{all}
 use Rattle.model.proofs.within.Goals as goal
 
 pub returns-then-most-index : goal.returns-then-most-index

@@ -1,8 +1,6 @@
-use Prim.Native.Nat.{◌-◌}
-use mathlib.Core.Path.{◌≡◌, refl}
-use lib.ListN.{length}
+use mathlib.Core.Path.{refl}
 use borrow.Author.Rules.{rules}
-use Rattle.model_read.proofs.GateLaws.{Checking, checking-none, checking_bad, checking-more, checking-done}
+use Rattle.model_read.proofs.GateLaws.{checking-none, checking_bad, checking-more, checking-done}
 use Rattle.model_read.proofs.check_gates.Goals as goal
 
 pub loop-i-init : goal.loop-i-init

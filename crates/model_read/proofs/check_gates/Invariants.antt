@@ -1,8 +1,7 @@
 use Prim.Native.Nat.{◌-◌}
-use mathlib.Core.Path.{◌≡◌, refl}
+use mathlib.Core.Path.{◌≡◌}
 use lib.ListN.{length}
-use borrow.Author.Rules.{rules}
-use Rattle.model_read.proofs.GateLaws.{Checking, checking-none, checking_bad, checking-more, checking-done}
+use Rattle.model_read.proofs.GateLaws.{Checking}
 use Rattle.model_read.proofs.check_gates.Given as goal
 
 abbrev pub invariant-loop-i : goal.invariant-loop-i

@@ -1,4 +1,3 @@
-use borrow.Author.Rules.{rules}
 use Rattle.model_read.proofs.ModelLaws.{lines_bad, gates_undefined, literals_good, literals-above}
 use Rattle.model_read.proofs.check_model.Goals as goal
 

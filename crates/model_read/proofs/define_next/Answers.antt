@@ -1,4 +1,3 @@
-use borrow.Author.Rules.{rules}
 use Rattle.model_read.proofs.GateLaws.{next-after, next_lost}
 use Rattle.model_read.proofs.define_next.Goals as goal
 

@@ -1,4 +1,3 @@
-use borrow.Author.Rules.{rules}
 use Rattle.lists.proofs.ZeroLaws.{zeros_own}
 use Rattle.model_read.proofs.ReadLaws.{text_refused, header_bad, header_read}
 use Rattle.model_read.proofs.parse_ascii_aiger_transition.Goals as goal

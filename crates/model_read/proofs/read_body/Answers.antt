@@ -1,4 +1,3 @@
-use borrow.Author.Rules.{rules}
 use Rattle.model_read.proofs.ReadLaws.{body-counts, body-words, body-work, body-readable, body-model}
 use Rattle.model_read.proofs.read_body.Goals as goal
 

@@ -1,4 +1,3 @@
-use borrow.Author.Rules.{rules}
 use Rattle.model_read.proofs.ReadLaws.{refused_with}
 use Rattle.model_read.proofs.refuse.Goals as goal
 

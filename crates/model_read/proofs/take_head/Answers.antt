@@ -1,4 +1,3 @@
-use borrow.Author.Rules.{rules}
 use Rattle.model_read.proofs.StartLaws.{inputs_fit, outputs_fit, head_without_inputs, head_without_latches, head-taken}
 use Rattle.model_read.proofs.take_head.Goals as goal
 

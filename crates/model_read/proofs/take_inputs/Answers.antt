@@ -1,4 +1,3 @@
-use borrow.Author.Rules.{rules}
 use Rattle.model_read.proofs.StartLaws.{lent_length, taken-literals}
 use Rattle.model_read.proofs.take_inputs.Goals as goal
 

@@ -1,9 +1,8 @@
-use Prim.Native.Nat.{◌-◌}
-use mathlib.Core.Path.{◌≡◌, refl}
+use mathlib.Core.Path.{refl}
 use native.Mathlib.Omega.{arith}
-use lib.ListN.{length-set, length}
+use lib.ListN.{length-set}
 use borrow.Author.Rules.{rules}
-use Rattle.model_read.proofs.GateLaws.{Writing, writing-none, writing_bad, writing_more, writing-done}
+use Rattle.model_read.proofs.GateLaws.{writing-none, writing_bad, writing_more, writing-done}
 use Rattle.model_read.proofs.write_gates.Goals as goal
 
 pub loop-i-init : goal.loop-i-init

@@ -1,9 +1,7 @@
 use Prim.Native.Nat.{◌-◌}
-use mathlib.Core.Path.{◌≡◌, refl}
-use native.Mathlib.Omega.{arith}
-use lib.ListN.{length-set, length}
-use borrow.Author.Rules.{rules}
-use Rattle.model_read.proofs.GateLaws.{Writing, writing-none, writing_bad, writing_more, writing-done}
+use mathlib.Core.Path.{◌≡◌}
+use lib.ListN.{length}
+use Rattle.model_read.proofs.GateLaws.{Writing}
 use Rattle.model_read.proofs.write_gates.Given as goal
 
 abbrev pub invariant-loop-i : goal.invariant-loop-i

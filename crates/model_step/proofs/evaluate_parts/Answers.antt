@@ -4,7 +4,6 @@ use mathlib.Core.Path.{◌≡◌, sym, ◌∙◌}
 use native.Mathlib.Omega.{arith}
 use lib.ListN.{length, drop}
 use lib.Seq.{length-take-le, length_front}
-use borrow.Author.Rules.{rules}
 use Rattle.model_step.proofs.EvaluateLaws.{step_invalid, step_room, step_words, step-state, step-word, step-done, inputs-few}
 use Rattle.model_step.proofs.RunnableLaws.{IsModel, is-model, runnable}
 use Rattle.model.specs.Circuit.{record_from}

@@ -1,8 +1,8 @@
-use Prim.Native.Nat.{◌-◌, ◌<◌}
+use Prim.Native.Nat.{◌<◌}
 use native.Mathlib.Omega.{arith}
 use lib.ListN.{length}
 use borrow.Author.Rules.{rules}
-use Rattle.model_step.proofs.StepLaws.{Loading, loading-none, loading-inside, loading-more, loading-done}
+use Rattle.model_step.proofs.StepLaws.{loading-none, loading-inside, loading-more, loading-done}
 use Rattle.model_step.proofs.load.Goals as goal
 
 pub loop-k-init : goal.loop-k-init

@@ -1,8 +1,6 @@
-use Prim.Native.Nat.{◌-◌, ◌<◌}
-use native.Mathlib.Omega.{arith}
+use Prim.Native.Nat.{◌-◌}
 use lib.ListN.{length}
-use borrow.Author.Rules.{rules}
-use Rattle.model_step.proofs.StepLaws.{Loading, loading-none, loading-inside, loading-more, loading-done}
+use Rattle.model_step.proofs.StepLaws.{Loading}
 use Rattle.model_step.proofs.load.Given as goal
 
 abbrev pub invariant-loop-k : goal.invariant-loop-k

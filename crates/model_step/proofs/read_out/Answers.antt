@@ -1,4 +1,3 @@
-use borrow.Author.Rules.{rules}
 use Rattle.model_step.proofs.StepLaws.{read_low, read_all}
 use Rattle.model_step.proofs.read_out.Goals as goal
 

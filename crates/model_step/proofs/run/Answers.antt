@@ -1,6 +1,5 @@
 use mathlib.Core.Path.{◌≡◌, refl, ◌∙◌}
 use lib.ListN.{length}
-use borrow.Author.Rules.{rules}
 use Rattle.model_step.proofs.RunLaws.{run_currents, run_inputs, run_words, run_reads, run_outcome}
 use Rattle.model_step.proofs.run.Goals as goal
 use Rattle.model_step.proofs.run.Goals.{After-load, After-load-2, After-run_gates}

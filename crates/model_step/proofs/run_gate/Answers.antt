@@ -2,7 +2,6 @@ use Prim.Native.Nat.{◌*◌, ◌<◌}
 use native.Mathlib.Omega.{arith}
 use Rattle.lists.proofs.BitLaws.{product_lt}
 use Rattle.model_step.proofs.StepLaws.{gate_runs}
-use borrow.Author.Rules.{rules}
 use Rattle.model_step.proofs.run_gate.Goals as goal
 
 pub overflow_mul-vals : goal.overflow_mul-vals

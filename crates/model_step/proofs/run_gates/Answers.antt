@@ -1,5 +1,4 @@
-use Prim.Native.Nat.{◌-◌}
-use Rattle.model_step.proofs.StepLaws.{Running, running_none, running-inside, running_more, running-done}
+use Rattle.model_step.proofs.StepLaws.{running_none, running-inside, running_more, running-done}
 use borrow.Author.Rules.{rules}
 use Rattle.model_step.proofs.run_gates.Goals as goal
 

@@ -1,6 +1,5 @@
 use Prim.Native.Nat.{◌-◌}
-use Rattle.model_step.proofs.StepLaws.{Running, running_none, running-inside, running_more, running-done}
-use borrow.Author.Rules.{rules}
+use Rattle.model_step.proofs.StepLaws.{Running}
 use Rattle.model_step.proofs.run_gates.Given as goal
 
 abbrev pub invariant-loop-i : goal.invariant-loop-i

@@ -1,4 +1,3 @@
-use borrow.Author.Rules.{rules}
 use Rattle.model_step.proofs.StepLaws.{value-is}
 use Rattle.model_step.proofs.value_of.Goals as goal
 

@@ -1,7 +1,6 @@
 use Prim.Native.Nat.{◌+◌, ◌*◌, ◌<◌}
 use native.Mathlib.Omega.{arith}
-use borrow.Author.Rules.{rules}
-use Rattle.model_step.proofs.StepLaws.{Packing, packing-none, packing-inside, packing-room, packing-more, packing-done}
+use Rattle.model_step.proofs.StepLaws.{packing-none, packing-inside, packing-room, packing-more, packing-done}
 use Rattle.model_step.proofs.word.Goals as goal
 
 pub loop-k-init : goal.loop-k-init

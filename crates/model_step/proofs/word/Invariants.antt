@@ -1,7 +1,4 @@
-use Prim.Native.Nat.{◌+◌, ◌*◌, ◌<◌}
-use native.Mathlib.Omega.{arith}
-use borrow.Author.Rules.{rules}
-use Rattle.model_step.proofs.StepLaws.{Packing, packing-none, packing-inside, packing-room, packing-more, packing-done}
+use Rattle.model_step.proofs.StepLaws.{Packing}
 use Rattle.model_step.proofs.word.Given as goal
 
 abbrev pub invariant-loop-k : goal.invariant-loop-k

@@ -1,7 +1,6 @@
 use lib.ListN.{length, replicate, length-replicate}
 use Rattle.aiger.specs.Gates.{gate_from}
 use Rattle.model_step_records.proofs.BeginLaws.{begin_refused, begin_undefined, begin_valued, begin_computed, begin_checking}
-use borrow.Author.Rules.{rules}
 use Rattle.model_step_records.proofs.begin.Goals as goal
 
 pub returns-in-Refused : goal.returns-in-Refused

@@ -1,5 +1,4 @@
 use Rattle.model_step_records.proofs.BeginLaws.{few-latches, few-inputs, state_unfit, input_unfit, load-latches, load-inputs, computing}
-use borrow.Author.Rules.{rules}
 use Rattle.model_step_records.proofs.compute.Goals as goal
 
 pub fits-requires : goal.fits-requires

@@ -4,7 +4,7 @@ use lib.ListN.{length, get_or}
 use Rattle.lists.proofs.RestLaws.{here-same}
 use Rattle.aiger.specs.Gates.{gate_from}
 use Rattle.model.specs.RecordWords.{record_in}
-use Rattle.model_step_records.specs.Inner.Passing.{Taking, Ending}
+use Rattle.model_step_records.specs.Inner.Passing.{Taking}
 use Rattle.model_step_records.proofs.evaluate_records.Goals as goal
 use Rattle.model_step_records.proofs.evaluate_records.Goals.{After-take_gate-pass}
 

@@ -1,5 +1,4 @@
 use Rattle.model_step_records.proofs.TakeLaws.{finish_refused, finish_reads, finish_done}
-use borrow.Author.Rules.{rules}
 use Rattle.model_step_records.proofs.finish.Goals as goal
 
 pub returns-then-not-pass : goal.returns-then-not-pass

@@ -1,6 +1,5 @@
 use native.Mathlib.Omega.{arith}
 use Rattle.model_step_records.proofs.TakeLaws.{take-inside, take-computed, take_undefined, take-marked, take-valued, take_last}
-use borrow.Author.Rules.{rules}
 use Rattle.model_step_records.proofs.take_gate.Goals as goal
 
 pub run_gate-requires : goal.run_gate-requires

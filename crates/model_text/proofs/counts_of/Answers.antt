@@ -1,4 +1,3 @@
-use borrow.Author.Rules.{rules}
 use Rattle.model_text.proofs.HeaderLaws.{counts-are}
 use Rattle.model_text.proofs.counts_of.Goals as goal
 

@@ -1,4 +1,3 @@
-use borrow.Author.Rules.{rules}
 use Rattle.model_text.proofs.LatchLaws.{initializer-zero, initializer_one, initializer_unreadable, initializer-number}
 use Rattle.model_text.proofs.initializer_holds.Goals as goal
 

@@ -1,4 +1,3 @@
-use borrow.Author.Rules.{rules}
 use Rattle.model_text.proofs.LatchLaws.{end_none, end_more, end_one}
 use Rattle.text.proofs.FieldLaws.{field-ordered, field-within}
 use Rattle.model_text.proofs.latch_end.Goals as goal

@@ -1,4 +1,3 @@
-use borrow.Author.Rules.{rules}
 use Rattle.model_text.proofs.LatchLaws.{latch_missing, latch_unreadable, next_missing, next_unreadable, latch_some, latch_none}
 use Rattle.model_text.proofs.latch_line.Goals as goal
 

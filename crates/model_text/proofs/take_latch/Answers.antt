@@ -1,4 +1,3 @@
-use borrow.Author.Rules.{rules}
 use Rattle.model_text.proofs.LatchLaws.{no_latch_line, latch_bad, latch_got}
 use Rattle.text.proofs.LineLaws.{line-ordered, line-within}
 use Rattle.model_text.proofs.take_latch.Goals as goal

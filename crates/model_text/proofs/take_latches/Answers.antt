@@ -1,7 +1,5 @@
-use Prim.Native.Nat.{◌-◌}
 use native.Mathlib.Omega.{arith}
-use borrow.Author.Rules.{rules}
-use Rattle.model_text.proofs.StoringLaws.{Latches, latches-none, latches-more, latches_bad, latches-done}
+use Rattle.model_text.proofs.StoringLaws.{latches-none, latches-more, latches_bad, latches-done}
 use Rattle.model_text.proofs.take_latches.Goals as goal
 
 pub returns-then-n-gt8 : goal.returns-then-n-gt8

@@ -1,7 +1,5 @@
 use Prim.Native.Nat.{◌-◌}
-use native.Mathlib.Omega.{arith}
-use borrow.Author.Rules.{rules}
-use Rattle.model_text.proofs.StoringLaws.{Latches, latches-none, latches-more, latches_bad, latches-done}
+use Rattle.model_text.proofs.StoringLaws.{Latches}
 use Rattle.model_text.proofs.take_latches.Given as goal
 
 abbrev pub invariant-loop-i : goal.invariant-loop-i

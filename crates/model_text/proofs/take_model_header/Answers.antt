@@ -1,4 +1,3 @@
-use borrow.Author.Rules.{rules}
 use Rattle.model_text.proofs.HeaderLaws.{header_bad, header_got, header_other}
 use Rattle.model_text.proofs.take_model_header.Goals as goal
 

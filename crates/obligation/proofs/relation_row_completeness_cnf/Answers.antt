@@ -1,8 +1,7 @@
 use mathlib.Core.Path.{◌≡◌, sym}
-use lib.ListN.{length, length-map}
+use lib.ListN.{length}
 use Rattle.obligation.proofs.CallLaws.{relation_whole}
 use Rattle.obligation.specs.Promise.{buffers_of}
-use borrow.Author.Rules.{rules}
 use Rattle.obligation.proofs.relation_row_completeness_cnf.Goals as goal
 
 pub counts_of-n-requires : goal.counts_of-n-requires

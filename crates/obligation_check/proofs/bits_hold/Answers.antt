@@ -2,7 +2,6 @@ use mathlib.Core.Path.{◌∙◌}
 use native.Mathlib.Omega.{arith}
 use Rattle.obligation_check.proofs.OutcomeLaws.{low_fits}
 use Rattle.lists.proofs.BitLaws.{high_fits, high_beyond}
-use borrow.Author.Rules.{rules}
 use Rattle.obligation_check.proofs.bits_hold.Goals as goal
 
 pub returns-then-n-ge64 : goal.returns-then-n-ge64

@@ -1,7 +1,6 @@
 use Rattle.obligation_check.proofs.BoundaryLaws.{check_refused, check_valid, check_13}
 use Rattle.obligation_spec.specs.Calls.{Asked, asked_of}
 use Rattle.model.specs.Circuit.{record_from}
-use borrow.Author.Rules.{rules}
 use Rattle.obligation_check.proofs.check.Goals as goal
 use Rattle.obligation_check.proofs.check.Goals.{Start}
 

@@ -1,6 +1,5 @@
 use native.Mathlib.Omega.{arith}
 use Rattle.obligation_check.proofs.OutcomeLaws.{not-rising, not-outputs, too_many_outcomes, outcomes_not-rising, few-observed, outcomes_hold}
-use borrow.Author.Rules.{rules}
 use Rattle.obligation_check.proofs.outcomes_claimed.Goals as goal
 
 pub returns-then-not-rises : goal.returns-then-not-rises

@@ -1,11 +1,4 @@
-use Prim.Native.Nat.{◌-◌}
-use mathlib.Core.Path.{◌≡◌}
-use lib.ListN.{drop}
-use Rattle.lists.specs.Tests.{all}
-use Rattle.obligation_spec.specs.Lists.{outcomes_of}
-use Rattle.obligation_check.specs.Inner.Boundary.{outcome_fits}
 use Rattle.obligation_check.proofs.OutcomeLaws.{target-stop, bits-stop, fit_more, fit_end}
-use borrow.Author.Rules.{rules}
 use Rattle.obligation_check.proofs.outcomes_fit.Goals as goal
 
 pub returns-then-top-outcome : goal.returns-then-top-outcome

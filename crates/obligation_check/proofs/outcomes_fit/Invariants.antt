@@ -4,8 +4,6 @@ use lib.ListN.{drop}
 use Rattle.lists.specs.Tests.{all}
 use Rattle.obligation_spec.specs.Lists.{outcomes_of}
 use Rattle.obligation_check.specs.Inner.Boundary.{outcome_fits}
-use Rattle.obligation_check.proofs.OutcomeLaws.{target-stop, bits-stop, fit_more, fit_end}
-use borrow.Author.Rules.{rules}
 use Rattle.obligation_check.proofs.outcomes_fit.Given as goal
 
 abbrev pub invariant-loop-i : goal.invariant-loop-i

@@ -1,11 +1,8 @@
 use Prim.Native.Nat.{◌-◌, ◌<◌}
 use mathlib.Core.Path.{◌≡◌}
-use native.Mathlib.Omega.{arith}
 use lib.ListN.{drop}
 use Rattle.obligation_spec.specs.Lists.{outcomes_of}
 use Rattle.obligation_spec.specs.Limits.{rising_outcomes}
-use Rattle.obligation_check.proofs.OutcomeLaws.{outcomes_fall, outcomes_more, outcomes_end}
-use borrow.Author.Rules.{rules}
 use Rattle.obligation_check.proofs.outcomes_rise.Given as goal
 
 abbrev pub invariant-loop-i : goal.invariant-loop-i

@@ -1,7 +1,3 @@
-use Prim.Native.Nat.{◌-◌, ◌*◌}
-use mathlib.Core.Path.{◌≡◌}
-use lib.ListN.{drop}
-use Rattle.obligation_check.specs.Inner.Boundary.{predicate_holds}
 use Rattle.obligation_check.proofs.BoundaryLaws.{pair_stop, clause-starts, clause-within, clause-fits, clause-stop, clause-more, pairs-stop}
 use borrow.Author.Rules.{rules}
 use Rattle.obligation_check.proofs.predicate_holds.Goals as goal

@@ -1,5 +1,4 @@
 use Rattle.obligation_check.proofs.BoundaryLaws.{states_fall, states_rise}
-use borrow.Author.Rules.{rules}
 use Rattle.obligation_check.proofs.states_claimed.Goals as goal
 
 pub returns-then-rises : goal.returns-then-rises

@@ -1,6 +1,5 @@
 use native.Mathlib.Omega.{arith}
 use Rattle.obligation_check.proofs.BoundaryLaws.{too_many_relevant, not-rising, not-inputs, too_many_clauses, too_many_literals, bounds_hold}
-use borrow.Author.Rules.{rules}
 use Rattle.obligation_check.proofs.validate_boundary.Goals as goal
 
 pub returns-then-count-gt64 : goal.returns-then-count-gt64

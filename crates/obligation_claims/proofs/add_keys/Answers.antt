@@ -1,7 +1,3 @@
-use lib.ListN.{length}
-use Prim.Native.Nat.{◌-◌}
-use Rattle.lists.proofs.PartLaws.{Copied}
-use Rattle.obligation_claims.specs.Inner.Claims.{keys_from}
 use Rattle.obligation_claims.proofs.KeyLaws.{adding-none, adding-more, adding-done, literal-word}
 use borrow.Author.Rules.{rules}
 use Rattle.obligation_claims.proofs.add_keys.Goals as goal

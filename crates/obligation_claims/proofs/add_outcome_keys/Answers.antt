@@ -1,5 +1,4 @@
 use Rattle.obligation_claims.proofs.KeyLaws.{outcome-put}
-use borrow.Author.Rules.{rules}
 use Rattle.obligation_claims.proofs.add_outcome_keys.Goals as goal
 
 pub returns : goal.returns

@@ -1,5 +1,4 @@
 use Rattle.obligation_claims.proofs.PushLaws.{fits-few}
-use borrow.Author.Rules.{rules}
 use Rattle.obligation_claims.proofs.append_outcomes.Goals as goal
 
 pub push_outcomes-requires : goal.push_outcomes-requires

@@ -1,5 +1,4 @@
 use Rattle.obligation_claims.proofs.PushLaws.{fits-few}
-use borrow.Author.Rules.{rules}
 use Rattle.obligation_claims.proofs.append_states.Goals as goal
 
 pub push_states-requires : goal.push_states-requires

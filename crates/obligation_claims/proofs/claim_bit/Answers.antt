@@ -1,5 +1,4 @@
 use Rattle.obligation_claims.proofs.FillLaws.{bit_outside, bit-inside}
-use borrow.Author.Rules.{rules}
 use Rattle.obligation_claims.proofs.claim_bit.Goals as goal
 
 -- src/lib.rt:112:9

@@ -1,6 +1,5 @@
 use native.Mathlib.Omega.{arith}
 use Rattle.obligation_claims.proofs.FillLaws.{bit-low, literal_turned}
-use borrow.Author.Rules.{rules}
 use Rattle.obligation_claims.proofs.claim_literal.Goals as goal
 
 pub overflow_add-result : goal.overflow_add-result

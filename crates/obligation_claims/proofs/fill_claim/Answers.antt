@@ -1,8 +1,4 @@
-use lib.ListN.{length}
-use Prim.Native.Nat.{◌-◌}
-use Rattle.obligation_claims.specs.Inner.Claims.{claim_list}
-use Rattle.obligation_claims.proofs.FillLaws.{Filling, filling-none, claiming_true, claiming_false, claiming_word, claiming_done, key-low}
-use borrow.Author.Rules.{rules}
+use Rattle.obligation_claims.proofs.FillLaws.{filling-none, claiming_true, claiming_false, claiming_word, claiming_done, key-low}
 use Rattle.obligation_claims.proofs.fill_claim.Goals as goal
 
 pub loop-i-init : goal.loop-i-init

@@ -1,8 +1,7 @@
 use lib.ListN.{length}
 use Prim.Native.Nat.{◌-◌}
 use Rattle.obligation_claims.specs.Inner.Claims.{claim_list}
-use Rattle.obligation_claims.proofs.FillLaws.{Filling, filling-none, claiming_true, claiming_false, claiming_word, claiming_done, key-low}
-use borrow.Author.Rules.{rules}
+use Rattle.obligation_claims.proofs.FillLaws.{Filling}
 use Rattle.obligation_claims.proofs.fill_claim.Given as goal
 
 abbrev pub invariant-loop-i : goal.invariant-loop-i

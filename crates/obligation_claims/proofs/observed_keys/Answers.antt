@@ -1,6 +1,5 @@
 use native.Mathlib.Omega.{arith}
 use Rattle.obligation_claims.proofs.KeyLaws.{halves_few, halves_length, halves_low, halves_high, halves_put}
-use borrow.Author.Rules.{rules}
 use Rattle.obligation_claims.proofs.observed_keys.Goals as goal
 
 pub add_keys-requires : goal.add_keys-requires

@@ -1,8 +1,4 @@
-use lib.ListN.{length}
-use Prim.Native.Nat.{◌-◌}
-use Rattle.lists.proofs.PartLaws.{Copied}
-use Rattle.obligation_claims.proofs.KeyLaws.{picked, picking_none, picking_more, picking_done}
-use borrow.Author.Rules.{rules}
+use Rattle.obligation_claims.proofs.KeyLaws.{picking_none, picking_more, picking_done}
 use Rattle.obligation_claims.proofs.observed_literals.Goals as goal
 
 pub loop-i-init : goal.loop-i-init

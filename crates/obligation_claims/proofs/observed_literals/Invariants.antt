@@ -1,8 +1,7 @@
 use lib.ListN.{length}
 use Prim.Native.Nat.{◌-◌}
 use Rattle.lists.proofs.PartLaws.{Copied}
-use Rattle.obligation_claims.proofs.KeyLaws.{picked, picking_none, picking_more, picking_done}
-use borrow.Author.Rules.{rules}
+use Rattle.obligation_claims.proofs.KeyLaws.{picked}
 use Rattle.obligation_claims.proofs.observed_literals.Given as goal
 
 abbrev pub invariant-loop-i : goal.invariant-loop-i

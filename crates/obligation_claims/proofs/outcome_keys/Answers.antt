@@ -1,6 +1,5 @@
 use mathlib.Core.Path.{◌≡◌, refl}
 use Rattle.obligation_claims.proofs.KeyLaws.{picked, picked_back, picked_few, picked_lows, outcome-order}
-use borrow.Author.Rules.{rules}
 use Rattle.obligation_claims.proofs.outcome_keys.Goals as goal
 
 pub add_outcome_keys-requires : goal.add_outcome_keys-requires

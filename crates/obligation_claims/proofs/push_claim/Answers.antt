@@ -2,7 +2,6 @@ use native.Mathlib.Omega.{arith}
 use Rattle.cnf.specs.Inner.Appending.{Filled}
 use Rattle.obligation_claims.specs.Inner.Claims.{claim_list}
 use Rattle.obligation_claims.proofs.PushLaws.{claim_dropped, claim_words, words-narrow}
-use borrow.Author.Rules.{rules}
 use Rattle.obligation_claims.proofs.push_claim.Goals as goal
 
 pub push_few-requires : goal.push_few-requires

@@ -1,10 +1,5 @@
-use lib.ListN.{length}
-use Prim.Native.Nat.{◌-◌}
-use Rattle.lists.proofs.PartLaws.{Copied}
-use Rattle.obligation_claims.specs.Inner.Claims.{claim_list}
 use Rattle.obligation_claims.proofs.FillLaws.{key-low}
-use Rattle.obligation_claims.proofs.PushLaws.{three, few-none, few-more, few-done, few-narrow, few-appends}
-use borrow.Author.Rules.{rules}
+use Rattle.obligation_claims.proofs.PushLaws.{few-none, few-more, few-done, few-narrow, few-appends}
 use Rattle.obligation_claims.proofs.push_few.Goals as goal
 
 pub loop-i-init : goal.loop-i-init

@@ -2,9 +2,7 @@ use lib.ListN.{length}
 use Prim.Native.Nat.{◌-◌}
 use Rattle.lists.proofs.PartLaws.{Copied}
 use Rattle.obligation_claims.specs.Inner.Claims.{claim_list}
-use Rattle.obligation_claims.proofs.FillLaws.{key-low}
-use Rattle.obligation_claims.proofs.PushLaws.{three, few-none, few-more, few-done, few-narrow, few-appends}
-use borrow.Author.Rules.{rules}
+use Rattle.obligation_claims.proofs.PushLaws.{three}
 use Rattle.obligation_claims.proofs.push_few.Given as goal
 
 abbrev pub invariant-loop-i : goal.invariant-loop-i

@@ -1,7 +1,5 @@
-use Prim.Native.Nat.{◌-◌}
 use Rattle.obligation_claims.specs.Inner.Claims.{outcome_claims}
-use Rattle.obligation_claims.proofs.PushLaws.{Pushing, pushing-none, pushing-fits, pushing-more, pushing-done, pushing-space, outcomes_count, outcomes_at}
-use borrow.Author.Rules.{rules}
+use Rattle.obligation_claims.proofs.PushLaws.{pushing-none, pushing-fits, pushing-more, pushing-done, pushing-space, outcomes_count, outcomes_at}
 use Rattle.obligation_claims.proofs.push_outcomes.Goals as goal
 
 pub loop-i-init : goal.loop-i-init

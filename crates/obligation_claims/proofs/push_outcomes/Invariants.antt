@@ -1,7 +1,6 @@
 use Prim.Native.Nat.{◌-◌}
 use Rattle.obligation_claims.specs.Inner.Claims.{outcome_claims}
-use Rattle.obligation_claims.proofs.PushLaws.{Pushing, pushing-none, pushing-fits, pushing-more, pushing-done, pushing-space, outcomes_count, outcomes_at}
-use borrow.Author.Rules.{rules}
+use Rattle.obligation_claims.proofs.PushLaws.{Pushing}
 use Rattle.obligation_claims.proofs.push_outcomes.Given as goal
 
 abbrev pub invariant-loop-i : goal.invariant-loop-i

@@ -1,8 +1,5 @@
-use lib.ListN.{length}
-use Prim.Native.Nat.{◌-◌}
 use Rattle.obligation_claims.specs.Inner.Claims.{state_claims}
-use Rattle.obligation_claims.proofs.PushLaws.{Pushing, pushing-none, pushing-fits, pushing-more, pushing-done, pushing-space, states_count, states_at}
-use borrow.Author.Rules.{rules}
+use Rattle.obligation_claims.proofs.PushLaws.{pushing-none, pushing-fits, pushing-more, pushing-done, pushing-space, states_count, states_at}
 use Rattle.obligation_claims.proofs.push_states.Goals as goal
 
 pub loop-i-init : goal.loop-i-init

@@ -1,8 +1,7 @@
 use lib.ListN.{length}
 use Prim.Native.Nat.{◌-◌}
 use Rattle.obligation_claims.specs.Inner.Claims.{state_claims}
-use Rattle.obligation_claims.proofs.PushLaws.{Pushing, pushing-none, pushing-fits, pushing-more, pushing-done, pushing-space, states_count, states_at}
-use borrow.Author.Rules.{rules}
+use Rattle.obligation_claims.proofs.PushLaws.{Pushing}
 use Rattle.obligation_claims.proofs.push_states.Given as goal
 
 abbrev pub invariant-loop-i : goal.invariant-loop-i

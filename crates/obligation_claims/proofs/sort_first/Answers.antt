@@ -1,7 +1,6 @@
 use native.Mathlib.Omega.{arith}
 use lib.ListN.{length-take}
 use Rattle.obligation_claims.proofs.KeyLaws.{sorted_front, few_in_order}
-use borrow.Author.Rules.{rules}
 use Rattle.obligation_claims.proofs.sort_first.Goals as goal
 
 pub returns-then-n-lt2 : goal.returns-then-n-lt2

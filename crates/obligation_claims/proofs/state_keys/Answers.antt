@@ -1,7 +1,6 @@
 use native.Mathlib.Omega.{arith}
 use mathlib.Core.Path.{sym}
 use Rattle.obligation_claims.proofs.KeyLaws.{keys_length, in_order_lem}
-use borrow.Author.Rules.{rules}
 use Rattle.obligation_claims.proofs.state_keys.Goals as goal
 
 pub returns : goal.returns

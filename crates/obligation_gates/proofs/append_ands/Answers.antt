@@ -1,11 +1,4 @@
-use Prim.Native.Nat.{◌-◌, ◌≤◌}
-use mathlib.Core.Path.{◌≡◌}
-use lib.ListN.{length, take}
-use Rattle.lists.specs.Words.{triples_of, words_of}
-use Rattle.aiger.specs.Gates.{gate_from}
-use Rattle.cnf.specs.Inner.Appending.{Appends}
 use Rattle.cnf.proofs.AppendLaws.{appends-none}
-use Rattle.obligation_spec.specs.Lists.{gate_lists}
 use native.Mathlib.Omega.{arith}
 use Rattle.obligation_gates.proofs.GateLaws.{gate_low, gate_space, gate_next, gate_end}
 use borrow.Author.Rules.{rules}

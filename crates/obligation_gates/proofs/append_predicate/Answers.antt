@@ -1,5 +1,4 @@
 use Rattle.obligation_gates.proofs.ClauseLaws.{clauses-none}
-use borrow.Author.Rules.{rules}
 use Rattle.obligation_gates.proofs.append_predicate.Goals as goal
 
 pub returns-then-predicate_pairs-lt2 : goal.returns-then-predicate_pairs-lt2

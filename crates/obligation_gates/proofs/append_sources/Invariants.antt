@@ -1,12 +1,8 @@
-use Rattle.obligation_gates.proofs.PredicateLaws.{low-at}
 use Prim.Native.Nat.{◌-◌}
 use mathlib.Core.Path.{◌≡◌}
 use lib.ListN.{length, take}
 use Rattle.cnf.specs.Inner.Appending.{Appends}
-use Rattle.cnf.proofs.AppendLaws.{appends-none}
-use native.Mathlib.Omega.{arith}
-use Rattle.obligation_gates.proofs.SourceLaws.{sources, source-narrow, source-space, source-next, source-end}
-use borrow.Author.Rules.{rules}
+use Rattle.obligation_gates.proofs.SourceLaws.{sources}
 use Rattle.obligation_gates.proofs.append_sources.Given as goal
 
 abbrev pub invariant-loop-i : goal.invariant-loop-i

@@ -1,9 +1,7 @@
 use Prim.Native.Nat.{◌-◌, ◌≤◌}
 use mathlib.Core.Path.{◌≡◌}
-use native.Mathlib.Omega.{arith}
 use lib.ListN.{length}
-use Rattle.obligation_gates.proofs.RepeatLaws.{Keeping, keeping_none, word-indexed, keeping-some, keeping-more, keeping_seen, keeping-end}
-use borrow.Author.Rules.{rules}
+use Rattle.obligation_gates.proofs.RepeatLaws.{Keeping}
 use Rattle.obligation_gates.proofs.fill_clause.Given as goal
 
 abbrev pub invariant-loop-i : goal.invariant-loop-i

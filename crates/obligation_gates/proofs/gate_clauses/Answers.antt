@@ -1,5 +1,4 @@
 use Rattle.obligation_gates.proofs.GateLaws.{arrays_are}
-use borrow.Author.Rules.{rules}
 use Rattle.obligation_gates.proofs.gate_clauses.Goals as goal
 
 pub returns : goal.returns

@@ -1,5 +1,4 @@
 use Rattle.obligation_gates.proofs.PredicateLaws.{low-literal, indexed, positive, negative}
-use borrow.Author.Rules.{rules}
 use Rattle.obligation_gates.proofs.predicate_literal.Goals as goal
 
 pub returns-then-word-eq1 : goal.returns-then-word-eq1

@@ -2,10 +2,7 @@ use Prim.Native.Nat.{◌-◌}
 use mathlib.Core.Path.{◌≡◌}
 use lib.ListN.{length, take}
 use Rattle.cnf.specs.Inner.Appending.{Appends}
-use Rattle.cnf.proofs.AppendLaws.{appends-none}
-use native.Mathlib.Omega.{arith}
-use Rattle.obligation_gates.proofs.ClauseLaws.{clause_lists, clause-inside, clause-short, clause-clausal, clause-space, clause-next, clauses-end}
-use borrow.Author.Rules.{rules}
+use Rattle.obligation_gates.proofs.ClauseLaws.{clause_lists}
 use Rattle.obligation_gates.proofs.push_clauses.Given as goal
 
 abbrev pub invariant-loop-i : goal.invariant-loop-i

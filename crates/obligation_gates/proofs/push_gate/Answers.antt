@@ -1,7 +1,6 @@
 use Rattle.obligation_gates.proofs.GateLaws.{first-narrow, second-narrow, third-narrow, appends_gate, space_one_less}
 use Rattle.cnf.proofs.AppendLaws.{space-less}
 use native.Mathlib.Omega.{arith}
-use borrow.Author.Rules.{rules}
 use Rattle.obligation_gates.proofs.push_gate.Goals as goal
 
 pub push_short-one-requires : goal.push_short-one-requires

@@ -1,4 +1,3 @@
-use borrow.Author.Rules.{rules}
 use Rattle.obligation_gates.proofs.push_literal.Goals as goal
 
 pub returns : goal.returns

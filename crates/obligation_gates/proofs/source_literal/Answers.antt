@@ -1,5 +1,4 @@
 use Rattle.obligation_gates.proofs.SourceLaws.{source-set, source_clear}
-use borrow.Author.Rules.{rules}
 use Rattle.obligation_gates.proofs.source_literal.Goals as goal
 
 pub returns-then-source-i-eq1 : goal.returns-then-source-i-eq1

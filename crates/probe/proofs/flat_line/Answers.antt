@@ -1,4 +1,3 @@
-use borrow.Author.Rules.{rules}
 use Rattle.probe.proofs.flat_line.Goals as goal
 
 pub returns-in-At : goal.returns-in-At

@@ -1,4 +1,3 @@
-use borrow.Author.Rules.{rules}
 use Rattle.probe.proofs.flat_literal.Goals as goal
 
 pub returns-in-Got : goal.returns-in-Got

@@ -1,4 +1,3 @@
-use borrow.Author.Rules.{rules}
 use Rattle.probe.proofs.flat_number.Goals as goal
 
 pub returns-in-Value : goal.returns-in-Value

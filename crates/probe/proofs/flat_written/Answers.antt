@@ -1,4 +1,3 @@
-use borrow.Author.Rules.{rules}
 use Rattle.probe.proofs.flat_written.Goals as goal
 
 pub returns-in-Next : goal.returns-in-Next

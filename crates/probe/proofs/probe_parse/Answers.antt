@@ -1,4 +1,3 @@
-use borrow.Author.Rules.{rules}
 use Rattle.probe.proofs.probe_parse.Goals as goal
 
 pub returns : goal.returns

@@ -1,5 +1,4 @@
 use mathlib.Core.Path.{ap, ◌∙◌}
-use borrow.Author.Rules.{rules}
 use Rattle.probe.specs.Inner.Flat.{flat_written}
 use Rattle.probe.proofs.probe_write_decimal.Goals as goal
 

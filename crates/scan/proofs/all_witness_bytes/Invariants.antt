@@ -1,12 +1,8 @@
 use Prim.Native.Nat.{◌-◌}
 use mathlib.Core.Path.{◌≡◌}
-use native.Mathlib.Omega.{arith}
-use borrow.Author.Rules.{rules}
 use lib.ListN.{length, drop}
 use Rattle.lists.specs.Tests.{all}
-use Rattle.lists.proofs.TestLaws.{all_end}
 use Rattle.scan.specs.Allowed.{is_witness_byte}
-use Rattle.scan.proofs.BlockLaws.{block_more, block-stop}
 use Rattle.scan.proofs.all_witness_bytes.Given as goal
 
 abbrev pub invariant-loop-at : goal.invariant-loop-at

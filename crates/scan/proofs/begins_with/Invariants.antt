@@ -1,9 +1,7 @@
 use Prim.Native.Nat.{◌-◌}
 use mathlib.Core.Path.{◌≡◌}
-use borrow.Author.Rules.{rules}
 use lib.ListN.{length, drop}
 use Rattle.scan.specs.Same.{begins_with}
-use Rattle.scan.proofs.SameLaws.{begins-short, begins_differ, begins-again, begins-end}
 use Rattle.scan.proofs.begins_with.Given as goal
 
 abbrev pub invariant-loop-i : goal.invariant-loop-i

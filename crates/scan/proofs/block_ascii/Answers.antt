@@ -1,9 +1,7 @@
-use Prim.Native.Nat.{◌-◌}
 use mathlib.Core.Path.{refl}
 use borrow.Author.Rules.{rules}
-use lib.ListN.{length}
 use Rattle.scan.specs.Allowed.{is_ascii}
-use Rattle.scan.proofs.BlockLaws.{Highest, highest-none, highest-more, highest-end}
+use Rattle.scan.proofs.BlockLaws.{highest-none, highest-more, highest-end}
 use Rattle.scan.proofs.block_ascii.Goals as goal
 
 pub loop-i-init : goal.loop-i-init

@@ -1,11 +1,9 @@
-use Prim.Native.Nat.{◌-◌}
 use mathlib.Core.Bool.{cond}
 use borrow.Author.Rules.{rules}
 use lib.Dec.{eqb}
-use lib.ListN.{length}
 use Rattle.scan.proofs.AllowedLaws.{in_line_rank}
 use Rattle.scan.specs.Spans.{in_line}
-use Rattle.scan.proofs.BlockLaws.{Highest, highest-none, highest-more, highest-end}
+use Rattle.scan.proofs.BlockLaws.{highest-none, highest-more, highest-end}
 use Rattle.scan.proofs.block_in_line.Goals as goal
 
 pub loop-i-init : goal.loop-i-init

@@ -1,11 +1,9 @@
-use Prim.Native.Nat.{◌-◌}
 use mathlib.Core.Bool.{cond}
 use borrow.Author.Rules.{rules}
 use lib.Dec.{eqb}
-use lib.ListN.{length}
 use Rattle.scan.proofs.AllowedLaws.{witness_rank}
 use Rattle.scan.specs.Allowed.{is_witness_byte}
-use Rattle.scan.proofs.BlockLaws.{Highest, highest-none, highest-more, highest-end}
+use Rattle.scan.proofs.BlockLaws.{highest-none, highest-more, highest-end}
 use Rattle.scan.proofs.block_witness.Goals as goal
 
 pub loop-i-init : goal.loop-i-init

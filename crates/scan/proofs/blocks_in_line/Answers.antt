@@ -1,9 +1,5 @@
-use Prim.Native.Nat.{◌-◌, ◌+◌}
-use mathlib.Core.Path.{◌≡◌}
 use native.Mathlib.Omega.{arith}
-use borrow.Author.Rules.{rules}
-use lib.ListN.{length, drop}
-use Rattle.scan.specs.Spans.{span, in_line}
+use Rattle.scan.specs.Spans.{in_line}
 use Rattle.scan.proofs.BlockLaws.{span-block}
 use Rattle.scan.proofs.blocks_in_line.Goals as goal
 

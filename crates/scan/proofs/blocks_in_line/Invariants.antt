@@ -1,10 +1,7 @@
 use Prim.Native.Nat.{◌-◌, ◌+◌}
 use mathlib.Core.Path.{◌≡◌}
-use native.Mathlib.Omega.{arith}
-use borrow.Author.Rules.{rules}
 use lib.ListN.{length, drop}
 use Rattle.scan.specs.Spans.{span, in_line}
-use Rattle.scan.proofs.BlockLaws.{span-block}
 use Rattle.scan.proofs.blocks_in_line.Given as goal
 
 abbrev pub invariant-loop-i : goal.invariant-loop-i

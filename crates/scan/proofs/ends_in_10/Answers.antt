@@ -1,4 +1,3 @@
-use borrow.Author.Rules.{rules}
 use Rattle.scan.proofs.AllowedLaws.{ends-empty, ends_last}
 use Rattle.scan.proofs.ends_in_10.Goals as goal
 

@@ -1,8 +1,6 @@
 use Prim.Native.Nat.{◌+◌, ◌-◌}
 use mathlib.Core.Path.{◌≡◌}
-use borrow.Author.Rules.{rules}
 use lib.ListN.{length, drop}
-use Rattle.scan.proofs.SpanLaws.{line-goes, line-stops, span-again, span-stop, span-over}
 use Rattle.scan.specs.Spans.{span, in_line}
 use Rattle.scan.proofs.first_line_feed.Given as goal
 

@@ -1,8 +1,3 @@
-use Prim.Native.Nat.{◌+◌, ◌-◌}
-use mathlib.Core.Path.{◌≡◌}
-use lib.ListN.{length, drop}
-use borrow.Author.Rules.{rules}
-use Rattle.scan.specs.Spans.{span, between}
 use Rattle.scan.proofs.SpanLaws.{between_in, between-low, between_high, span-again, span-stop, span-over}
 use Rattle.scan.proofs.run_end.Goals as goal
 

@@ -1,8 +1,3 @@
-use Prim.Native.Nat.{◌-◌}
-use mathlib.Core.Path.{◌≡◌}
-use borrow.Author.Rules.{rules}
-use lib.ListN.{length, drop}
-use Rattle.scan.specs.Same.{same_bytes}
 use Rattle.scan.proofs.SameLaws.{same-short, same_differ, same-again, same_end}
 use Rattle.scan.proofs.same.Goals as goal
 

@@ -1,4 +1,3 @@
-use borrow.Author.Rules.{rules}
 use Rattle.text.proofs.LiteralLaws.{literal-none, literal_missing, literal_unreadable, literal-more, literal-got}
 use Rattle.text.proofs.LineLaws.{line-ordered, line-within}
 use Rattle.text.proofs.any_literal.Goals as goal

@@ -1,4 +1,3 @@
-use borrow.Author.Rules.{rules}
 use Rattle.text.proofs.LiteralLaws.{from-within, taken_unreadable, taken-got}
 use Rattle.text.proofs.any_number.Goals as goal
 

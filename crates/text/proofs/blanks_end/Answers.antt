@@ -1,10 +1,6 @@
-use Prim.Native.Nat.{◌+◌, ◌-◌}
-use mathlib.Core.Path.{◌≡◌}
-use lib.ListN.{length, drop}
 use borrow.Author.Rules.{rules}
 use Rattle.text.proofs.FieldLaws.{space-is_blank}
 use Rattle.text.specs.Fields.{is_blank}
-use Rattle.scan.specs.Spans.{span}
 use Rattle.scan.proofs.SpanLaws.{span-again, span-stop, span-over}
 use Rattle.lists.proofs.BoolLaws.{told}
 use Rattle.text.proofs.blanks_end.Goals as goal

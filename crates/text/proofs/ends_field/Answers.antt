@@ -1,4 +1,3 @@
-use borrow.Author.Rules.{rules}
 use Rattle.text.proofs.PlainLaws.{ends_blank, ends-line}
 use Rattle.text.proofs.ends_field.Goals as goal
 

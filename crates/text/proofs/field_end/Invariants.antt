@@ -1,9 +1,6 @@
 use Prim.Native.Nat.{◌+◌, ◌-◌}
 use mathlib.Core.Path.{◌≡◌}
-use borrow.Author.Rules.{rules}
 use lib.ListN.{length, drop}
-use Rattle.lists.proofs.BoolLaws.{told_true, told_false}
-use Rattle.scan.proofs.SpanLaws.{span-again, span-stop, span-over}
 use Rattle.scan.specs.Spans.{span}
 use Rattle.text.specs.Fields.{in_field}
 use Rattle.text.proofs.field_end.Given as goal

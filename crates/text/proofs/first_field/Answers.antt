@@ -1,4 +1,3 @@
-use borrow.Author.Rules.{rules}
 use Rattle.text.proofs.FieldLaws.{field-ordered, field-within, first_some, first-none}
 use Rattle.text.proofs.first_field.Goals as goal
 

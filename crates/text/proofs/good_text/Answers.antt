@@ -1,4 +1,3 @@
-use borrow.Author.Rules.{rules}
 use Rattle.text.proofs.TextLaws.{text_long, text_bytes, text_end}
 use Rattle.text.proofs.good_text.Goals as goal
 

@@ -1,4 +1,3 @@
-use borrow.Author.Rules.{rules}
 use Rattle.text.proofs.PlainLaws.{zero_past, zero-alone, zero-other}
 use Rattle.text.proofs.long_zero.Goals as goal
 

@@ -1,4 +1,3 @@
-use borrow.Author.Rules.{rules}
 use Rattle.text.proofs.FieldLaws.{field-some, field-none}
 use Rattle.text.proofs.next_field.Goals as goal
 

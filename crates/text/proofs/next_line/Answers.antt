@@ -1,4 +1,3 @@
-use borrow.Author.Rules.{rules}
 use Rattle.text.proofs.LineLaws.{line-none, line-more, line_last}
 use Rattle.text.proofs.next_line.Goals as goal
 

@@ -1,4 +1,3 @@
-use borrow.Author.Rules.{rules}
 use Rattle.text.proofs.PlainLaws.{taken_run}
 use Rattle.text.proofs.LiteralLaws.{taken_missing, taken-from}
 use Rattle.text.proofs.next_number.Goals as goal

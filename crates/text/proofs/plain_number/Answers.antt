@@ -1,4 +1,3 @@
-use borrow.Author.Rules.{rules}
 use Rattle.text.proofs.PlainLaws.{plain-got}
 use Rattle.text.proofs.plain_number.Goals as goal
 

@@ -1,4 +1,3 @@
-use borrow.Author.Rules.{rules}
 use Rattle.text.proofs.PlainLineLaws.{literal-plain}
 use Rattle.text.proofs.take_literal.Goals as goal
 

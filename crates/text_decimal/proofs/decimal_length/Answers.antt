@@ -1,6 +1,5 @@
 use native.Mathlib.Omega.{arith}
-use Rattle.text_decimal.proofs.FigureLaws.{Counting, counting-none, counting-few, counting_more, counting-done}
-use borrow.Author.Rules.{rules}
+use Rattle.text_decimal.proofs.FigureLaws.{counting-none, counting-few, counting_more, counting-done}
 use Rattle.text_decimal.proofs.decimal_length.Goals as goal
 
 pub loop-rest-init : goal.loop-rest-init

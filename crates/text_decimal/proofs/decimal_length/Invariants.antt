@@ -1,6 +1,4 @@
-use native.Mathlib.Omega.{arith}
-use Rattle.text_decimal.proofs.FigureLaws.{Counting, counting-none, counting-few, counting_more, counting-done}
-use borrow.Author.Rules.{rules}
+use Rattle.text_decimal.proofs.FigureLaws.{Counting}
 use Rattle.text_decimal.proofs.decimal_length.Given as goal
 
 abbrev pub invariant-loop-rest : goal.invariant-loop-rest

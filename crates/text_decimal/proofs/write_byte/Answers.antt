@@ -1,6 +1,5 @@
 use native.Mathlib.Omega.{arith}
 use Rattle.text_decimal.proofs.WritingLaws.{no_room, room_for_byte}
-use borrow.Author.Rules.{rules}
 use Rattle.text_decimal.proofs.write_byte.Goals as goal
 
 pub returns-then-out-at : goal.returns-then-out-at

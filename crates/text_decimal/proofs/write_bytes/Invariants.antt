@@ -1,10 +1,6 @@
 use Prim.Native.Nat.{◌-◌}
-use mathlib.Core.Path.{refl}
-use native.Mathlib.Omega.{arith}
 use lib.ListN.{length}
-use Rattle.text_decimal.proofs.WritingLaws.{no_room, room}
-use Rattle.lists.proofs.PartLaws.{Copied, copied_none, copied_more, copied-done}
-use borrow.Author.Rules.{rules}
+use Rattle.lists.proofs.PartLaws.{Copied}
 use Rattle.text_decimal.proofs.write_bytes.Given as goal
 
 abbrev pub invariant-loop-i : goal.invariant-loop-i

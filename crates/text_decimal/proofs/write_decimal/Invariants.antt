@@ -1,6 +1,4 @@
-use native.Mathlib.Omega.{arith}
-use Rattle.text_decimal.proofs.WritingLaws.{no_room, room, Writing, writing-none, writing_more, writing-done}
-use borrow.Author.Rules.{rules}
+use Rattle.text_decimal.proofs.WritingLaws.{Writing}
 use Rattle.text_decimal.proofs.write_decimal.Given as goal
 
 abbrev pub invariant-loop-left : goal.invariant-loop-left

@@ -1,7 +1,6 @@
 use native.Mathlib.Omega.{arith}
 use lib.ListN.{length}
 use Rattle.text_print.proofs.PrintsLaws.{Word, prints-kept, prints-wrote}
-use borrow.Author.Rules.{rules}
 use Rattle.text_print.proofs.print_byte.Goals as goal
 
 pub returns-in_default : goal.returns-in_default

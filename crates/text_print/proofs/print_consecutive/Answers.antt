@@ -1,11 +1,7 @@
-use Prim.Native.Nat.{◌+◌}
-use mathlib.Core.Path.{◌≡◌, refl}
+use mathlib.Core.Path.{refl}
 use native.Mathlib.Omega.{arith}
-use Rattle.text_decimal.specs.Printed.{text_of}
-use Rattle.text_print.specs.Inner.Lines.{literal_lines, literals_from}
-use Rattle.text_print.proofs.PrintsLaws.{Printing, printing-none, printing-more, printing-done}
+use Rattle.text_print.proofs.PrintsLaws.{printing-none, printing-more, printing-done}
 use Rattle.text_print.proofs.LineLaws.{literals-more, literals_end}
-use borrow.Author.Rules.{rules}
 use Rattle.text_print.proofs.print_consecutive.Goals as goal
 
 pub loop-left-init : goal.loop-left-init

@@ -1,11 +1,8 @@
 use Prim.Native.Nat.{◌+◌}
-use mathlib.Core.Path.{◌≡◌, refl}
-use native.Mathlib.Omega.{arith}
+use mathlib.Core.Path.{◌≡◌}
 use Rattle.text_decimal.specs.Printed.{text_of}
 use Rattle.text_print.specs.Inner.Lines.{literal_lines, literals_from}
-use Rattle.text_print.proofs.PrintsLaws.{Printing, printing-none, printing-more, printing-done}
-use Rattle.text_print.proofs.LineLaws.{literals-more, literals_end}
-use borrow.Author.Rules.{rules}
+use Rattle.text_print.proofs.PrintsLaws.{Printing}
 use Rattle.text_print.proofs.print_consecutive.Given as goal
 
 abbrev pub invariant-loop-left : goal.invariant-loop-left

@@ -1,12 +1,6 @@
-use Prim.Native.Nat.{◌+◌, ◌-◌, ◌*◌, ◌≤◌}
-use mathlib.Core.Path.{◌≡◌}
 use native.Mathlib.Omega.{arith}
-use lib.ListN.{length, drop}
-use Rattle.text_decimal.specs.Printed.{text_of}
-use Rattle.text_print.specs.Inner.Lines.{gate_lines}
-use Rattle.text_print.proofs.PrintsLaws.{Printing, printing-none, printing-more, printing-done}
+use Rattle.text_print.proofs.PrintsLaws.{printing-none, printing-more, printing-done}
 use Rattle.text_print.proofs.LineLaws.{gates-more, gates-end}
-use borrow.Author.Rules.{rules}
 use Rattle.text_print.proofs.print_gates_with.Goals as goal
 
 pub loop-i-init : goal.loop-i-init

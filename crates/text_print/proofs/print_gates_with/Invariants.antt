@@ -1,12 +1,9 @@
 use Prim.Native.Nat.{◌+◌, ◌-◌, ◌*◌, ◌≤◌}
 use mathlib.Core.Path.{◌≡◌}
-use native.Mathlib.Omega.{arith}
 use lib.ListN.{length, drop}
 use Rattle.text_decimal.specs.Printed.{text_of}
 use Rattle.text_print.specs.Inner.Lines.{gate_lines}
-use Rattle.text_print.proofs.PrintsLaws.{Printing, printing-none, printing-more, printing-done}
-use Rattle.text_print.proofs.LineLaws.{gates-more, gates-end}
-use borrow.Author.Rules.{rules}
+use Rattle.text_print.proofs.PrintsLaws.{Printing}
 use Rattle.text_print.proofs.print_gates_with.Given as goal
 
 abbrev pub invariant-loop-i : goal.invariant-loop-i

@@ -1,10 +1,8 @@
 use Prim.Native.Nat.{◌-◌}
-use native.Mathlib.Omega.{arith}
 use lib.ListN.{length}
 use Rattle.text_print.specs.Inner.Elements.{elements}
-use Rattle.text_print.proofs.PrintsLaws.{Printing, printing-more, printing-done}
-use Rattle.text_print.proofs.WordLaws.{lines_of, elements_from, set-none, set_more, set-end}
-use borrow.Author.Rules.{rules}
+use Rattle.text_print.proofs.PrintsLaws.{Printing}
+use Rattle.text_print.proofs.WordLaws.{lines_of, elements_from}
 use Rattle.text_print.proofs.print_set.Given as goal
 
 abbrev pub invariant-loop-j : goal.invariant-loop-j

@@ -1,6 +1,5 @@
 use mathlib.Core.Path.{refl}
 use Rattle.text_print.specs.Inner.DigitPairs.{digit_pairs}
-use borrow.Author.Rules.{rules}
 use Rattle.text_print.proofs.print_three.Goals as goal
 
 pub print_three_with-requires : goal.print_three_with-requires

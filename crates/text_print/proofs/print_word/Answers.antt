@@ -1,8 +1,5 @@
-use Prim.Native.Nat.{◌+◌, ◌*◌}
 use native.Mathlib.Omega.{arith}
-use Rattle.text_print.specs.Inner.Elements.{elements_in}
-use Rattle.text_print.proofs.WordLaws.{lines_of, InWord, word_none, word_room, word-room_eight, word_eight, word_one, word_print, word-done}
-use borrow.Author.Rules.{rules}
+use Rattle.text_print.proofs.WordLaws.{word_none, word_room, word-room_eight, word_eight, word_one, word_print, word-done}
 use Rattle.text_print.proofs.print_word.Goals as goal
 
 pub loop-rest-init : goal.loop-rest-init

@@ -1,8 +1,6 @@
 use Prim.Native.Nat.{◌+◌, ◌*◌}
-use native.Mathlib.Omega.{arith}
 use Rattle.text_print.specs.Inner.Elements.{elements_in}
-use Rattle.text_print.proofs.WordLaws.{lines_of, InWord, word_none, word_room, word-room_eight, word_eight, word_one, word_print, word-done}
-use borrow.Author.Rules.{rules}
+use Rattle.text_print.proofs.WordLaws.{lines_of, InWord}
 use Rattle.text_print.proofs.print_word.Given as goal
 
 abbrev pub invariant-loop-rest : goal.invariant-loop-rest

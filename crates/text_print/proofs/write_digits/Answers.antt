@@ -1,6 +1,6 @@
 use native.Mathlib.Omega.{arith}
 use lib.ListN.{length-set}
-use Rattle.text_decimal.proofs.WritingLaws.{Writing, writing-none, writing-done}
+use Rattle.text_decimal.proofs.WritingLaws.{writing-none, writing-done}
 use Rattle.text_print.proofs.WriteLaws.{writing_two, writing-first}
 use Rattle.text_print.proofs.DigitPairLaws.{pairs-length, tens_in, ones_in}
 use borrow.Author.Rules.{rules}

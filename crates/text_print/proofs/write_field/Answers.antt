@@ -1,5 +1,4 @@
 use Rattle.text_print.proofs.WriteLaws.{field_end}
-use borrow.Author.Rules.{rules}
 use Rattle.text_print.proofs.write_field.Goals as goal
 
 pub returns : goal.returns

@@ -1,6 +1,5 @@
 use native.Mathlib.Omega.{arith}
 use lib.ListN.{length-take}
-use borrow.Author.Rules.{rules}
 use Rattle.witness_load.proofs.TextLaws.{load-room, load_no_header, load_past, load-done}
 use Rattle.witness_load.proofs.load.Goals as goal
 

@@ -1,4 +1,3 @@
-use borrow.Author.Rules.{rules}
 use Rattle.witness_load.proofs.CallLaws.{call_refused, call_counted, call_no_room, call_loadable, call_loaded}
 use Rattle.witness_load.proofs.load_aag.Goals as goal
 

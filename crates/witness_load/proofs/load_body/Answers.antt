@@ -1,4 +1,3 @@
-use borrow.Author.Rules.{rules}
 use Rattle.witness_load.proofs.BodyLaws.{body_no_latches, body-loaded}
 use Rattle.witness_load.proofs.load_body.Goals as goal
 

@@ -1,8 +1,6 @@
-use Prim.Native.Nat.{◌-◌}
-use mathlib.Core.Path.{◌≡◌, refl}
-use lib.ListN.{length}
+use mathlib.Core.Path.{refl}
 use borrow.Author.Rules.{rules}
-use Rattle.witness_load.proofs.SectionLaws.{Gates, gates-none, gates-more, gates_bad, gates-done}
+use Rattle.witness_load.proofs.SectionLaws.{gates-none, gates-more, gates_bad, gates-done}
 use Rattle.witness_load.proofs.load_gates.Goals as goal
 
 pub loop-i-init : goal.loop-i-init

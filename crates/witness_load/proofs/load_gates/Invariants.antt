@@ -1,8 +1,7 @@
 use Prim.Native.Nat.{◌-◌}
-use mathlib.Core.Path.{◌≡◌, refl}
+use mathlib.Core.Path.{◌≡◌}
 use lib.ListN.{length}
-use borrow.Author.Rules.{rules}
-use Rattle.witness_load.proofs.SectionLaws.{Gates, gates-none, gates-more, gates_bad, gates-done}
+use Rattle.witness_load.proofs.SectionLaws.{Gates}
 use Rattle.witness_load.proofs.load_gates.Given as goal
 
 abbrev pub invariant-loop-i : goal.invariant-loop-i

@@ -1,8 +1,6 @@
-use Prim.Native.Nat.{◌-◌}
-use mathlib.Core.Path.{◌≡◌, refl}
-use lib.ListN.{length}
+use mathlib.Core.Path.{refl}
 use borrow.Author.Rules.{rules}
-use Rattle.witness_load.proofs.SectionLaws.{Latches, latches-none, latches-more, latches_bad, latches-done}
+use Rattle.witness_load.proofs.SectionLaws.{latches-none, latches-more, latches_bad, latches-done}
 use Rattle.witness_load.proofs.load_latches.Goals as goal
 
 pub loop-i-init : goal.loop-i-init

@@ -1,8 +1,7 @@
 use Prim.Native.Nat.{◌-◌}
-use mathlib.Core.Path.{◌≡◌, refl}
+use mathlib.Core.Path.{◌≡◌}
 use lib.ListN.{length}
-use borrow.Author.Rules.{rules}
-use Rattle.witness_load.proofs.SectionLaws.{Latches, latches-none, latches-more, latches_bad, latches-done}
+use Rattle.witness_load.proofs.SectionLaws.{Latches}
 use Rattle.witness_load.proofs.load_latches.Given as goal
 
 abbrev pub invariant-loop-i : goal.invariant-loop-i

@@ -1,4 +1,3 @@
-use borrow.Author.Rules.{rules}
 use Rattle.witness_load.proofs.SectionLaws.{literals-stored}
 use Rattle.witness_load.proofs.load_literals.Goals as goal
 

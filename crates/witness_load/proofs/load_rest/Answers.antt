@@ -1,4 +1,3 @@
-use borrow.Author.Rules.{rules}
 use Rattle.witness_load.proofs.BodyLaws.{rest_no_literals, rest_no_gates, rest-loaded}
 use Rattle.witness_load.proofs.load_rest.Goals as goal
 

@@ -1,9 +1,7 @@
-use Prim.Native.Nat.{◌-◌}
-use mathlib.Core.Path.{◌≡◌, refl}
-use lib.ListN.{length}
+use mathlib.Core.Path.{refl}
 use borrow.Author.Rules.{rules}
 use Rattle.text.proofs.LineLaws.{line-ordered, line-within, line-less}
-use Rattle.witness_load.proofs.NamingLaws.{Names, names-none, names-end, names-starts, names-stop, names-refused, names_more}
+use Rattle.witness_load.proofs.NamingLaws.{names-none, names-end, names-starts, names-stop, names-refused, names_more}
 use Rattle.witness_load.proofs.name_leaves.Goals as goal
 
 pub loop-start-init : goal.loop-start-init

@@ -1,9 +1,7 @@
 use Prim.Native.Nat.{◌-◌}
-use mathlib.Core.Path.{◌≡◌, refl}
+use mathlib.Core.Path.{◌≡◌}
 use lib.ListN.{length}
-use borrow.Author.Rules.{rules}
-use Rattle.text.proofs.LineLaws.{line-ordered, line-within, line-less}
-use Rattle.witness_load.proofs.NamingLaws.{Names, names-none, names-end, names-starts, names-stop, names-refused, names_more}
+use Rattle.witness_load.proofs.NamingLaws.{Names}
 use Rattle.witness_load.proofs.name_leaves.Given as goal
 
 abbrev pub invariant-loop-start : goal.invariant-loop-start

@@ -1,6 +1,4 @@
-use Prim.Native.Nat.{◌-◌}
-use borrow.Author.Rules.{rules}
-use Rattle.witness_load.proofs.LineLaws.{Passing, passing-none, passing-more, passing-end, passing-done}
+use Rattle.witness_load.proofs.LineLaws.{passing-none, passing-more, passing-end, passing-done}
 use Rattle.witness_load.proofs.pass_lines.Goals as goal
 
 pub loop-i-init : goal.loop-i-init

@@ -1,6 +1,5 @@
 use Prim.Native.Nat.{◌-◌}
-use borrow.Author.Rules.{rules}
-use Rattle.witness_load.proofs.LineLaws.{Passing, passing-none, passing-more, passing-end, passing-done}
+use Rattle.witness_load.proofs.LineLaws.{Passing}
 use Rattle.witness_load.proofs.pass_lines.Given as goal
 
 abbrev pub invariant-loop-i : goal.invariant-loop-i

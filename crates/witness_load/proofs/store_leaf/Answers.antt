@@ -1,7 +1,6 @@
 use Prim.Native.Nat.{◌+◌, ◌*◌, ◌<◌}
 use native.Mathlib.Omega.{arith}
 use lib.ListN.{length}
-use borrow.Author.Rules.{rules}
 use Rattle.witness_load.proofs.StoreLaws.{input-fits, latch_fits, input-stored, latch_stored, output-stays, bad_stays, constraint_stays}
 use Rattle.witness_load.proofs.store_leaf.Goals as goal
 

@@ -1,5 +1,4 @@
 use mathlib.Core.Path.{sym}
-use borrow.Author.Rules.{rules}
 use Rattle.lists.proofs.PartLaws.{put_two}
 use Rattle.witness_load.proofs.store_pair.Goals as goal
 

@@ -1,4 +1,3 @@
-use borrow.Author.Rules.{rules}
 use Rattle.witness_read.proofs.ReadLaws.{text_refused, header_refused, text_read_lem}
 use Rattle.witness_read.proofs.parse_aag.Goals as goal
 

@@ -1,4 +1,3 @@
-use borrow.Author.Rules.{rules}
 use Rattle.witness_read.proofs.ReadLaws.{counts_told, liveness_told, counts-refused, liveness_refused, body_read}
 use Rattle.witness_read.proofs.read_body.Goals as goal
 

@@ -1,4 +1,3 @@
-use borrow.Author.Rules.{rules}
 use Rattle.witness_read.proofs.ReadLaws.{sections_bad, symbols-refused, comments-refused, order-refused, sections_read}
 use Rattle.witness_read.proofs.read_sections.Goals as goal
 

@@ -1,4 +1,3 @@
-use borrow.Author.Rules.{rules}
 use Rattle.witness_text.proofs.HeaderLaws.{counts-are}
 use Rattle.witness_text.proofs.counts_of.Goals as goal
 

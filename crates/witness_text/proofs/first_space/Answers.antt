@@ -1,11 +1,6 @@
-use Prim.Native.Nat.{◌+◌, ◌-◌}
-use mathlib.Core.Path.{◌≡◌, sym}
+use mathlib.Core.Path.{sym}
 use native.Mathlib.Nat.{zero-add}
-use lib.ListN.{length, drop}
-use borrow.Author.Rules.{rules}
-use Rattle.scan.specs.Spans.{span}
 use Rattle.scan.proofs.SpanLaws.{span-again, span-stop, span-over}
-use Rattle.witness_text.specs.Symbols.{not_space, before_space}
 use Rattle.witness_text.proofs.SymbolLaws.{space-stops, space-goes}
 use Rattle.witness_text.proofs.first_space.Goals as goal
 

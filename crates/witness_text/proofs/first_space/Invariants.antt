@@ -1,12 +1,8 @@
 use Prim.Native.Nat.{◌+◌, ◌-◌}
-use mathlib.Core.Path.{◌≡◌, sym}
-use native.Mathlib.Nat.{zero-add}
+use mathlib.Core.Path.{◌≡◌}
 use lib.ListN.{length, drop}
-use borrow.Author.Rules.{rules}
 use Rattle.scan.specs.Spans.{span}
-use Rattle.scan.proofs.SpanLaws.{span-again, span-stop, span-over}
 use Rattle.witness_text.specs.Symbols.{not_space, before_space}
-use Rattle.witness_text.proofs.SymbolLaws.{space-stops, space-goes}
 use Rattle.witness_text.proofs.first_space.Given as goal
 
 abbrev pub invariant-loop-i : goal.invariant-loop-i

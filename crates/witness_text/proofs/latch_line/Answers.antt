@@ -1,4 +1,3 @@
-use borrow.Author.Rules.{rules}
 use Rattle.witness_text.proofs.LatchLaws.{latch_refused, latch_short, latch_some}
 use Rattle.witness_text.proofs.latch_line.Goals as goal
 

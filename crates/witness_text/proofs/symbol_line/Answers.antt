@@ -1,4 +1,3 @@
-use borrow.Author.Rules.{rules}
 use Rattle.witness_text.proofs.SymbolLaws.{no_space, no_kind, unknown_kind, unreadable_index, index_below, index_past}
 use Rattle.witness_text.proofs.symbol_line.Goals as goal
 

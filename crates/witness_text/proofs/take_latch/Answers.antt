@@ -1,4 +1,3 @@
-use borrow.Author.Rules.{rules}
 use Rattle.text.proofs.LineLaws.{line-ordered, line-within}
 use Rattle.witness_text.proofs.LatchLaws.{latch_missing, latch_bad, latch_got}
 use Rattle.witness_text.proofs.take_latch.Goals as goal

@@ -1,4 +1,3 @@
-use borrow.Author.Rules.{rules}
 use Rattle.witness_text.proofs.HeaderLaws.{header_bad, header_few, header_got}
 use Rattle.witness_text.proofs.take_witness_header.Goals as goal
 

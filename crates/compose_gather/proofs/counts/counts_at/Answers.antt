@@ -1,5 +1,4 @@
 use Rattle.compose_gather.proofs.CountLaws.{nine_read}
-use borrow.Author.Rules.{rules}
 use Rattle.compose_gather.proofs.counts.counts_at.Goals as goal
 
 pub returns : goal.returns

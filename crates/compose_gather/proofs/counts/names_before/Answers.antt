@@ -1,4 +1,3 @@
-use borrow.Author.Rules.{rules}
 use Rattle.compose_gather.proofs.CountLaws.{before-inputs, before-latches}
 use Rattle.compose_gather.proofs.counts.names_before.Goals as goal
 

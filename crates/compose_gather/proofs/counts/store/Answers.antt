@@ -1,5 +1,4 @@
 use Rattle.compose_gather.proofs.CountLaws.{nine_stored}
-use borrow.Author.Rules.{rules}
 use Rattle.compose_gather.proofs.counts.store.Goals as goal
 
 pub returns : goal.returns

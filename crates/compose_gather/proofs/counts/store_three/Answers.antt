@@ -1,7 +1,6 @@
 use lib.ListN.{length-set}
 use native.Mathlib.Omega.{arith}
 use Rattle.compose_gather.proofs.CountLaws.{three_stored}
-use borrow.Author.Rules.{rules}
 use Rattle.compose_gather.proofs.counts.store_three.Goals as goal
 
 pub bounds-out-at-2 : goal.bounds-out-at-2

@@ -1,11 +1,6 @@
 use borrow.Author.Rules.{rules}
-use Rattle.compose_gather.proofs.GatherLaws.{Gathering, gathering-none, gathering-end}
+use Rattle.compose_gather.proofs.GatherLaws.{gathering-none, gathering-end}
 use Rattle.compose_gather.proofs.TurnLaws.{gather-before, gather-behind, gather-can, gather-more}
-use lib.ListN.{length}
-use Prim.Native.Nat.{◌-◌, ◌/◌}
-use mathlib.Core.Path.{◌≡◌}
-use Rattle.compose_joint.specs.Inner.Joint.{joint_literals, list_of}
-use Rattle.compose_gather.specs.Inner.Gathered.{literal_count}
 use Rattle.compose_gather.proofs.literals.gather.Goals as goal
 
 pub loop-w-init : goal.loop-w-init

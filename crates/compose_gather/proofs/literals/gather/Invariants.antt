@@ -1,6 +1,4 @@
-use borrow.Author.Rules.{rules}
-use Rattle.compose_gather.proofs.GatherLaws.{Gathering, gathering-none, gathering-end}
-use Rattle.compose_gather.proofs.TurnLaws.{gather-before, gather-behind, gather-can, gather-more}
+use Rattle.compose_gather.proofs.GatherLaws.{Gathering}
 use lib.ListN.{length}
 use Prim.Native.Nat.{◌-◌, ◌/◌}
 use mathlib.Core.Path.{◌≡◌}

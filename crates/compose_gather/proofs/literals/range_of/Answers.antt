@@ -1,4 +1,3 @@
-use borrow.Author.Rules.{rules}
 use Rattle.compose_gather.proofs.ShiftLaws.{range-latches, range-outputs, range-bads, range-constraints, range-operands}
 use Rattle.compose_gather.proofs.literals.range_of.Goals as goal
 

@@ -1,4 +1,3 @@
-use borrow.Author.Rules.{rules}
 use Rattle.compose_gather.proofs.ShiftLaws.{shift_none, shift_input, shift_latch, shift_gate}
 use Rattle.compose_gather.proofs.literals.shift.Goals as goal
 

@@ -1,4 +1,3 @@
-use borrow.Author.Rules.{rules}
 use Rattle.compose_gather.proofs.ShiftLaws.{list_can, list_shifted}
 use Rattle.compose_gather.proofs.literals.shift_list.Goals as goal
 

@@ -1,4 +1,3 @@
-use borrow.Author.Rules.{rules}
 use Rattle.compose_gather.proofs.ShiftLaws.{half_shiftable, literal-shifted}
 use Rattle.compose_gather.proofs.literals.shift_literal.Goals as goal
 

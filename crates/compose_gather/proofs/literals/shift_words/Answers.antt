@@ -1,6 +1,5 @@
 use borrow.Author.Rules.{rules}
-use Rattle.compose_gather.proofs.ShiftLaws.{Shifting, shifting-none, shifting-small, shifting-more, shifting-end}
-use Prim.Native.Nat.{◌-◌}
+use Rattle.compose_gather.proofs.ShiftLaws.{shifting-none, shifting-small, shifting-more, shifting-end}
 use Rattle.compose_gather.proofs.literals.shift_words.Goals as goal
 
 pub loop-i-init : goal.loop-i-init

@@ -1,5 +1,4 @@
-use borrow.Author.Rules.{rules}
-use Rattle.compose_gather.proofs.ShiftLaws.{Shifting, shifting-none, shifting-small, shifting-more, shifting-end}
+use Rattle.compose_gather.proofs.ShiftLaws.{Shifting}
 use Prim.Native.Nat.{◌-◌}
 use Rattle.compose_gather.proofs.literals.shift_words.Given as goal
 

@@ -1,4 +1,3 @@
-use borrow.Author.Rules.{rules}
 use Rattle.model.proofs.WordsLaws.{counts-from}
 use Rattle.model.proofs.words.counts.Goals as goal
 

@@ -1,4 +1,3 @@
-use borrow.Author.Rules.{rules}
 use Rattle.model.proofs.WordsLaws.{latch_from_lem}
 use Rattle.model.proofs.words.latch.Goals as goal
 

@@ -1,4 +1,3 @@
-use borrow.Author.Rules.{rules}
 use Rattle.model.proofs.WordsLaws.{latches_cut, latches-whole}
 use Rattle.model.proofs.words.latch_count.Goals as goal
 

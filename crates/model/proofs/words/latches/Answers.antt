@@ -1,10 +1,6 @@
-use Prim.Native.Nat.{◌-◌}
-use mathlib.Core.Path.{◌≡◌}
 use native.Mathlib.Omega.{arith}
-use lib.ListN.{length, take, length-set}
-use borrow.Author.Rules.{rules}
+use lib.ListN.{length-set}
 use Rattle.model.proofs.WordsLaws.{latches-more, latches-end}
-use Rattle.model.specs.RecordWords.{latches_in}
 use Rattle.model.proofs.words.latches.Goals as goal
 
 pub loop-i-preserved : goal.loop-i-preserved

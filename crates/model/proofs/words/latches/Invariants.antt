@@ -1,9 +1,6 @@
 use Prim.Native.Nat.{◌-◌}
 use mathlib.Core.Path.{◌≡◌}
-use native.Mathlib.Omega.{arith}
-use lib.ListN.{length, take, length-set}
-use borrow.Author.Rules.{rules}
-use Rattle.model.proofs.WordsLaws.{latches-more, latches-end}
+use lib.ListN.{length, take}
 use Rattle.model.specs.RecordWords.{latches_in}
 use Rattle.model.proofs.words.latches.Given as goal
 

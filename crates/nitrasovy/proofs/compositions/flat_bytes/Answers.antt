@@ -1,4 +1,3 @@
-use borrow.Author.Rules.{rules}
 use Rattle.nitrasovy.proofs.compositions.flat_bytes.Goals as goal
 
 pub returns-in-Got : goal.returns-in-Got

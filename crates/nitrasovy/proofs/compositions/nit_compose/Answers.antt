@@ -1,5 +1,4 @@
 use Rattle.nitrasovy.proofs.ComposedLaws.{composes_flat}
-use borrow.Author.Rules.{rules}
 use Rattle.nitrasovy.proofs.compositions.nit_compose.Goals as goal
 
 pub returns : goal.returns

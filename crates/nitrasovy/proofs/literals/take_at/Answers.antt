@@ -1,5 +1,4 @@
 use mathlib.Core.Path.{ap, ◌∙◌}
-use borrow.Author.Rules.{rules}
 use Rattle.nitrasovy.specs.Inner.FlatEnums.{flat_moved}
 use Rattle.nitrasovy.proofs.literals.take_at.Goals as goal
 

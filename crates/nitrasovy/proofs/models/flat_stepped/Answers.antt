@@ -1,4 +1,3 @@
-use borrow.Author.Rules.{rules}
 use Rattle.nitrasovy.proofs.models.flat_stepped.Goals as goal
 
 pub returns-in-Done : goal.returns-in-Done

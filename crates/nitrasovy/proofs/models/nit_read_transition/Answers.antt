@@ -1,5 +1,4 @@
 use Rattle.nitrasovy.proofs.ModelLaws.{reads_flat}
-use borrow.Author.Rules.{rules}
 use Rattle.nitrasovy.proofs.models.nit_read_transition.Goals as goal
 
 pub returns : goal.returns

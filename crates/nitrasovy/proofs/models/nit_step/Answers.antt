@@ -1,5 +1,4 @@
 use Rattle.nitrasovy.proofs.ModelLaws.{words_stepped}
-use borrow.Author.Rules.{rules}
 use Rattle.nitrasovy.proofs.models.nit_step.Goals as goal
 
 pub returns : goal.returns

@@ -1,4 +1,3 @@
-use borrow.Author.Rules.{rules}
 use Rattle.nitrasovy.proofs.obligations.flat_made.Goals as goal
 
 pub returns-in-Clauses : goal.returns-in-Clauses

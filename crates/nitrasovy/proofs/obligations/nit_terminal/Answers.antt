@@ -1,5 +1,4 @@
 use Rattle.nitrasovy.proofs.MadeLaws.{words_terminal}
-use borrow.Author.Rules.{rules}
 use Rattle.nitrasovy.proofs.obligations.nit_terminal.Goals as goal
 
 pub returns : goal.returns

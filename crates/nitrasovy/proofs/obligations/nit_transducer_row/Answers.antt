@@ -1,5 +1,4 @@
 use Rattle.nitrasovy.proofs.MadeLaws.{words_transducer}
-use borrow.Author.Rules.{rules}
 use Rattle.nitrasovy.proofs.obligations.nit_transducer_row.Goals as goal
 
 pub returns : goal.returns

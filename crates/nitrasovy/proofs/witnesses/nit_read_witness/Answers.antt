@@ -1,5 +1,4 @@
 use Rattle.nitrasovy.proofs.WitnessLaws.{counts_flat}
-use borrow.Author.Rules.{rules}
 use Rattle.nitrasovy.proofs.witnesses.nit_read_witness.Goals as goal
 
 pub returns : goal.returns

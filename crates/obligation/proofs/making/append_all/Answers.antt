@@ -1,6 +1,5 @@
 use Rattle.obligation.specs.Inner.Appended.{claimed_of}
 use Rattle.obligation.proofs.MakingLaws.{claims-space, last_space, claims-few, all-appends}
-use borrow.Author.Rules.{rules}
 use Rattle.obligation.proofs.making.append_all.Goals as goal
 
 pub append_front-front-requires : goal.append_front-front-requires

@@ -1,6 +1,5 @@
 use native.Mathlib.Omega.{arith}
 use Rattle.obligation.proofs.MakingLaws.{states_space, outcomes_space, claims-wide, claims-narrow}
-use borrow.Author.Rules.{rules}
 use Rattle.obligation.proofs.making.append_claims.Goals as goal
 
 pub append_outcomes-requires : goal.append_outcomes-requires

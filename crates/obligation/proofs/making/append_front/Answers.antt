@@ -1,6 +1,5 @@
 use native.Mathlib.Omega.{arith}
 use Rattle.obligation.proofs.MakingLaws.{sources_space, clauses-space, gates-space, front-appends}
-use borrow.Author.Rules.{rules}
 use Rattle.obligation.proofs.making.append_front.Goals as goal
 
 pub append_sources-sources-requires : goal.append_sources-sources-requires

@@ -1,4 +1,3 @@
-use borrow.Author.Rules.{rules}
 use Rattle.obligation.proofs.RoomLaws.{roomy-asks, made_roomy}
 use Rattle.obligation.proofs.making.make.Goals as goal
 

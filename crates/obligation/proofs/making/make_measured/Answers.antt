@@ -1,6 +1,5 @@
 use Rattle.cnf.proofs.AppendLaws.{appends-start}
 use Rattle.obligation.proofs.PromiseLaws.{no_pairs, no_words, made_all}
-use borrow.Author.Rules.{rules}
 use Rattle.obligation.proofs.making.make_measured.Goals as goal
 
 pub append_all-size-requires : goal.append_all-size-requires

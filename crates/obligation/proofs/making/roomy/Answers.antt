@@ -1,5 +1,4 @@
 use mathlib.Core.Path.{refl}
-use borrow.Author.Rules.{rules}
 use Rattle.lists.proofs.BoolLaws.{true-false}
 use Rattle.obligation.proofs.making.roomy.Goals as goal
 

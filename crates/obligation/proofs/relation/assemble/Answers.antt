@@ -3,7 +3,6 @@ use Rattle.model.proofs.ValueLaws.{Sized}
 use Rattle.model.specs.Circuit.{record_from}
 use Rattle.obligation_spec.specs.Calls.{Asked, asked_of}
 use Rattle.obligation.proofs.AssembleLaws.{in_order_lem, currents_list, nexts_list, low_list, few_list, relation_ready, relation_made}
-use borrow.Author.Rules.{rules}
 use Rattle.obligation.proofs.relation.assemble.Goals as goal
 use Rattle.obligation.proofs.relation.assemble.Goals.{Start}
 

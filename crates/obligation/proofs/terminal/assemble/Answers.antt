@@ -3,7 +3,6 @@ use Rattle.model.proofs.ValueLaws.{Sized}
 use Rattle.model.specs.Circuit.{record_from}
 use Rattle.obligation_spec.specs.Calls.{Asked, asked_of}
 use Rattle.obligation.proofs.AssembleLaws.{in_order_lem, currents_list, low_list_now, few_list_now, terminal_list_ready, terminal_made, output-low, bad_output}
-use borrow.Author.Rules.{rules}
 use Rattle.obligation.proofs.terminal.assemble.Goals as goal
 use Rattle.obligation.proofs.terminal.assemble.Goals.{Start}
 

@@ -3,7 +3,6 @@ use Rattle.obligation.proofs.ClaimLaws.{states_hold, terminal_no_output, termina
 use Rattle.obligation_spec.specs.Calls.{Asked, asked_of}
 use Rattle.model.specs.Circuit.{record_from}
 use Rattle.model.proofs.ValueLaws.{Sized}
-use borrow.Author.Rules.{rules}
 use Rattle.obligation.proofs.terminal.check_claims.Goals as goal
 use Rattle.obligation.proofs.terminal.check_claims.Goals.{Start}
 

@@ -3,7 +3,6 @@ use Rattle.obligation.proofs.CallLaws.{asks, terminal_refused, terminal_continue
 use Rattle.obligation_spec.specs.Calls.{Asked, asked_of}
 use Rattle.model.specs.Circuit.{record_from}
 use Rattle.model.proofs.ValueLaws.{Sized}
-use borrow.Author.Rules.{rules}
 use Rattle.obligation.proofs.terminal.list_parts.Goals as goal
 use Rattle.obligation.proofs.terminal.list_parts.Goals.{Start}
 

@@ -4,7 +4,6 @@ use Rattle.model.specs.Circuit.{record_from}
 use Rattle.obligation_spec.specs.Calls.{Asked, asked_of}
 use Rattle.obligation.proofs.AssembleLaws.{in_order_lem, currents_list, nexts_list, low_list, few_list, low_list_out, transducer_ready, transducer_made}
 use Rattle.obligation.proofs.ReadyLaws.{few-observed}
-use borrow.Author.Rules.{rules}
 use Rattle.obligation.proofs.transducer.assemble.Goals as goal
 use Rattle.obligation.proofs.transducer.assemble.Goals.{Start}
 

@@ -3,7 +3,6 @@ use Rattle.obligation.proofs.ClaimLaws.{outcomes_hold, transducer_no_source, tra
 use Rattle.obligation_spec.specs.Calls.{Asked, asked_of}
 use Rattle.model.specs.Circuit.{record_from}
 use Rattle.model.proofs.ValueLaws.{Sized}
-use borrow.Author.Rules.{rules}
 use Rattle.obligation.proofs.transducer.check_claims.Goals as goal
 use Rattle.obligation.proofs.transducer.check_claims.Goals.{Start}
 

@@ -3,7 +3,6 @@ use Rattle.obligation.proofs.CallLaws.{asks, transducer_refused, transducer_cont
 use Rattle.obligation_spec.specs.Calls.{Asked, asked_of}
 use Rattle.model.specs.Circuit.{record_from}
 use Rattle.model.proofs.ValueLaws.{Sized}
-use borrow.Author.Rules.{rules}
 use Rattle.obligation.proofs.transducer.row_parts.Goals as goal
 use Rattle.obligation.proofs.transducer.row_parts.Goals.{Start}
 

@@ -1,4 +1,3 @@
-use borrow.Author.Rules.{rules}
 use Rattle.probe.proofs.LoadLaws.{loads_flat}
 use Rattle.probe.proofs.witnesses.probe_load_witness.Goals as goal
 

@@ -1,9 +1,6 @@
-use Prim.Native.Nat.{◌-◌, ◌<◌, ◌^◌}
-use mathlib.Core.Path.{sym, ◌≡◌}
-use lib.ListN.{length, drop}
+use mathlib.Core.Path.{sym}
 use borrow.Author.Rules.{rules}
 use Rattle.text.proofs.DigitLaws.{at_low, at_high, at-over, at-end, at_digit, digits-start-at, digits-none}
-use Rattle.text.specs.Numbers.{digits_of, digits_after}
 use Rattle.text.proofs.numbers.digits.Goals as goal
 
 pub returns-then-f-at : goal.returns-then-f-at

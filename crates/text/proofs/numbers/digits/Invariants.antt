@@ -1,8 +1,6 @@
 use Prim.Native.Nat.{◌-◌, ◌<◌, ◌^◌}
-use mathlib.Core.Path.{sym, ◌≡◌}
+use mathlib.Core.Path.{◌≡◌}
 use lib.ListN.{length, drop}
-use borrow.Author.Rules.{rules}
-use Rattle.text.proofs.DigitLaws.{at_low, at_high, at-over, at-end, at_digit, digits-start-at, digits-none}
 use Rattle.text.specs.Numbers.{digits_of, digits_after}
 use Rattle.text.proofs.numbers.digits.Given as goal
 

@@ -1,4 +1,3 @@
-use borrow.Author.Rules.{rules}
 use Rattle.text.proofs.NumberLaws.{number_transition, number-witness}
 use Rattle.text.proofs.numbers.parse_for.Goals as goal
 

@@ -1,4 +1,3 @@
-use borrow.Author.Rules.{rules}
 use Rattle.text.proofs.NumberLaws.{number_short, number-zero, number_long}
 use Rattle.text.proofs.numbers.parse_number.Goals as goal
 

@@ -1,4 +1,3 @@
-use borrow.Author.Rules.{rules}
 use Rattle.text.proofs.NumberLaws.{usize-digits}
 use Rattle.text.proofs.numbers.parse_usize.Goals as goal
 

@@ -1,4 +1,3 @@
-use borrow.Author.Rules.{rules}
 use Rattle.text.proofs.NumberLaws.{sign_none, sign_plus, sign_plain}
 use Rattle.text.proofs.numbers.sign_end.Goals as goal
 

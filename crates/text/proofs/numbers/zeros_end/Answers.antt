@@ -1,4 +1,3 @@
-use borrow.Author.Rules.{rules}
 use Rattle.text.proofs.DigitLaws.{zeros-passed}
 use Rattle.text.proofs.numbers.zeros_end.Goals as goal
 

@@ -1,4 +1,3 @@
-use borrow.Author.Rules.{rules}
 use Rattle.witness_text.proofs.CountLaws.{counts_fit, counts-gates}
 use Rattle.witness_read.proofs.BodyLaws.{leaves_bad, properties_bad, gates_bad, body-done}
 use Rattle.witness_read.proofs.body.check_body.Goals as goal

@@ -1,11 +1,4 @@
-use Prim.Native.Nat.{◌+◌, ◌-◌}
-use borrow.Author.Rules.{rules}
 use Rattle.witness_read.proofs.NumberedLaws.{gates-none, gates-more, gates_bad, gates-done}
-use Rattle.witness_read.proofs.CheckingLaws.{Checking}
-use Rattle.text.specs.declared.Reader.TheVariants.{Witness}
-use Rattle.circuit_lines.specs.SectionLines.{gate_line}
-use Rattle.lists.specs.Tests.{all_from}
-use Rattle.witness_read.specs.Order.{gate_numbered}
 use Rattle.witness_read.proofs.body.check_gates.Goals as goal
 
 pub loop-i-init : goal.loop-i-init

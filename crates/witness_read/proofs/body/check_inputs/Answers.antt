@@ -1,11 +1,4 @@
-use Prim.Native.Nat.{◌-◌}
-use borrow.Author.Rules.{rules}
 use Rattle.witness_read.proofs.NumberedLaws.{inputs-none, inputs-more, inputs_bad, inputs-done}
-use Rattle.witness_read.proofs.CheckingLaws.{Checking}
-use Rattle.text.specs.declared.Reader.TheVariants.{Witness}
-use Rattle.circuit_lines.specs.SectionLines.{literal_line}
-use Rattle.lists.specs.Tests.{all_from}
-use Rattle.witness_read.specs.Order.{defines}
 use Rattle.witness_read.proofs.body.check_inputs.Goals as goal
 
 pub loop-i-init : goal.loop-i-init

@@ -1,6 +1,4 @@
 use Prim.Native.Nat.{◌-◌}
-use borrow.Author.Rules.{rules}
-use Rattle.witness_read.proofs.NumberedLaws.{inputs-none, inputs-more, inputs_bad, inputs-done}
 use Rattle.witness_read.proofs.CheckingLaws.{Checking}
 use Rattle.text.specs.declared.Reader.TheVariants.{Witness}
 use Rattle.circuit_lines.specs.SectionLines.{literal_line}

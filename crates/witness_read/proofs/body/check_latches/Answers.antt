@@ -1,10 +1,4 @@
-use Prim.Native.Nat.{◌+◌, ◌-◌}
-use borrow.Author.Rules.{rules}
 use Rattle.witness_read.proofs.NumberedLaws.{latches-none, latches-more, latches_bad, latches-done}
-use Rattle.witness_read.proofs.CheckingLaws.{Checking}
-use Rattle.witness_text.specs.LatchLines.{latch_line}
-use Rattle.lists.specs.Tests.{all_from}
-use Rattle.witness_read.specs.Order.{latch_numbered}
 use Rattle.witness_read.proofs.body.check_latches.Goals as goal
 
 pub loop-i-init : goal.loop-i-init

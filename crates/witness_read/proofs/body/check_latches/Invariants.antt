@@ -1,6 +1,4 @@
 use Prim.Native.Nat.{◌+◌, ◌-◌}
-use borrow.Author.Rules.{rules}
-use Rattle.witness_read.proofs.NumberedLaws.{latches-none, latches-more, latches_bad, latches-done}
 use Rattle.witness_read.proofs.CheckingLaws.{Checking}
 use Rattle.witness_text.specs.LatchLines.{latch_line}
 use Rattle.lists.specs.Tests.{all_from}

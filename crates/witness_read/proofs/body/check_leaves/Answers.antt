@@ -1,4 +1,3 @@
-use borrow.Author.Rules.{rules}
 use Rattle.witness_text.proofs.CountLaws.{counts-inputs, counts-leaves, counts-most}
 use Rattle.witness_read.proofs.BodyLaws.{inputs_bad, latches_bad, leaves-done}
 use Rattle.witness_read.proofs.body.check_leaves.Goals as goal

@@ -1,11 +1,4 @@
-use Prim.Native.Nat.{◌-◌}
-use borrow.Author.Rules.{rules}
 use Rattle.witness_read.proofs.NumberedLaws.{literals-none, literals-more, literals_bad, literals-done}
-use Rattle.witness_read.proofs.CheckingLaws.{Checking}
-use Rattle.text.specs.declared.Reader.TheVariants.{Witness}
-use Rattle.circuit_lines.specs.SectionLines.{literal_line}
-use Rattle.lists.specs.Tests.{all}
-use Rattle.aiger.specs.Defined.{literal}
 use Rattle.witness_read.proofs.body.check_literals.Goals as goal
 
 pub loop-i-init : goal.loop-i-init

@@ -1,4 +1,3 @@
-use borrow.Author.Rules.{rules}
 use Rattle.witness_text.proofs.CountLaws.{counts-most}
 use Rattle.witness_read.proofs.BodyLaws.{outputs_bad, bads_bad, constraints_bad, properties-done}
 use Rattle.witness_read.proofs.body.check_properties.Goals as goal

@@ -1,4 +1,3 @@
-use borrow.Author.Rules.{rules}
 use Rattle.witness_read.proofs.NumberedLaws.{gate_elsewhere, gate_left, gate_right}
 use Rattle.witness_read.proofs.body.gate_numbered.Goals as goal
 

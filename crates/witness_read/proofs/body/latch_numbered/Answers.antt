@@ -1,4 +1,3 @@
-use borrow.Author.Rules.{rules}
 use Rattle.witness_read.proofs.NumberedLaws.{latch_elsewhere, latch_next, latch_reset}
 use Rattle.witness_read.proofs.body.latch_numbered.Goals as goal
 

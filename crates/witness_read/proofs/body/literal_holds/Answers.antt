@@ -1,4 +1,3 @@
-use borrow.Author.Rules.{rules}
 use Rattle.witness_read.proofs.NumberedLaws.{literal-is}
 use Rattle.witness_read.proofs.body.literal_holds.Goals as goal
 

@@ -1,4 +1,3 @@
-use borrow.Author.Rules.{rules}
 use Rattle.witness_text.proofs.CountLaws.{counts-leaves, counts_fit}
 use Rattle.witness_read.proofs.tail.check_marked.Goals as goal
 

@@ -1,8 +1,6 @@
-use Prim.Native.Nat.{◌-◌}
-use mathlib.Core.Path.{◌≡◌, refl}
-use lib.ListN.{length}
+use mathlib.Core.Path.{refl}
 use borrow.Author.Rules.{rules}
-use Rattle.witness_read.proofs.TailLaws.{Naming, naming-none, naming-end, index_below, symbol-less, naming-more, naming-again}
+use Rattle.witness_read.proofs.TailLaws.{naming-none, naming-end, index_below, symbol-less, naming-more, naming-again}
 use Rattle.witness_read.proofs.tail.check_symbols.Goals as goal
 
 pub loop-end-init : goal.loop-end-init

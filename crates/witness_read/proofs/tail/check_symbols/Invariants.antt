@@ -1,8 +1,7 @@
 use Prim.Native.Nat.{◌-◌}
-use mathlib.Core.Path.{◌≡◌, refl}
+use mathlib.Core.Path.{◌≡◌}
 use lib.ListN.{length}
-use borrow.Author.Rules.{rules}
-use Rattle.witness_read.proofs.TailLaws.{Naming, naming-none, naming-end, index_below, symbol-less, naming-more, naming-again}
+use Rattle.witness_read.proofs.TailLaws.{Naming}
 use Rattle.witness_read.proofs.tail.check_symbols.Given as goal
 
 abbrev pub invariant-loop-end : goal.invariant-loop-end

@@ -1,7 +1,4 @@
-use Prim.Native.Nat.{◌-◌}
-use lib.ListN.{length}
-use borrow.Author.Rules.{rules}
-use Rattle.witness_read.proofs.RisingLaws.{InOrder, order-none, order-end, input-fits, latch_fits, order-input, order_latch, order-output, order_bad, order_constraint}
+use Rattle.witness_read.proofs.RisingLaws.{order-none, order-end, input-fits, latch_fits, order-input, order_latch, order-output, order_bad, order_constraint}
 use Rattle.witness_read.proofs.TailLaws.{symbol-less}
 use Rattle.witness_read.proofs.tail.check_tail.Goals as goal
 

@@ -1,8 +1,6 @@
 use Prim.Native.Nat.{◌-◌}
 use lib.ListN.{length}
-use borrow.Author.Rules.{rules}
-use Rattle.witness_read.proofs.RisingLaws.{InOrder, order-none, order-end, input-fits, latch_fits, order-input, order_latch, order-output, order_bad, order_constraint}
-use Rattle.witness_read.proofs.TailLaws.{symbol-less}
+use Rattle.witness_read.proofs.RisingLaws.{InOrder}
 use Rattle.witness_read.proofs.tail.check_tail.Given as goal
 
 abbrev pub invariant-loop-end : goal.invariant-loop-end

@@ -1,4 +1,3 @@
-use borrow.Author.Rules.{rules}
 use Rattle.witness_read.proofs.SymbolSetLaws.{slot-fits, marks-input, marks_latch, marks-output, marks_bad, marks_constraint}
 use Rattle.witness_read.proofs.tail.name_first.Goals as goal
 

@@ -1,4 +1,3 @@
-use borrow.Author.Rules.{rules}
 use Rattle.text.proofs.LineLaws.{line-ordered, line-within}
 use Rattle.witness_read.proofs.TailLaws.{symbol-none, symbol-comments, symbol_bad, symbol-more}
 use Rattle.witness_read.proofs.tail.next_symbol.Goals as goal

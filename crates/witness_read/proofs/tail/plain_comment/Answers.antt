@@ -1,4 +1,3 @@
-use borrow.Author.Rules.{rules}
 use Rattle.witness_read.proofs.CommentLaws.{maps, intervenes}
 use Rattle.witness_read.proofs.tail.plain_comment.Goals as goal
 

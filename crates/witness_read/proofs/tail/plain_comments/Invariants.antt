@@ -1,10 +1,7 @@
 use Prim.Native.Nat.{◌-◌}
-use mathlib.Core.Path.{◌≡◌, refl}
+use mathlib.Core.Path.{◌≡◌}
 use lib.ListN.{length}
-use borrow.Author.Rules.{rules}
-use Rattle.witness_read.proofs.CommentLaws.{model-comments, comments-end, comments-stop, comments-more}
 use Rattle.witness_read.specs.Comments.{plain_comment}
-use Rattle.text.proofs.LineLaws.{line-ordered, line-within, line-less}
 use Rattle.circuit_lines.specs.Inner.Takes.{lines_from}
 use Rattle.lists.specs.Tests.{all}
 use Rattle.witness_read.proofs.tail.plain_comments.Given as goal
