@@ -3,10 +3,10 @@ use Rattle.compose.proofs.ChainLaws.{fitting_wrong, fitting_laid, fitting-compos
 use Rattle.compose.proofs.compose_fitting.Goals as goal
 
 pub lay-laid-requires : goal.lay-laid-requires
-lay-laid-requires c = (search rules, search rules)
+lay-laid-requires c = record { can_lay = search rules; counts_listed = search rules }
 
 pub compose_laid-requires : goal.compose_laid-requires
-compose_laid-requires c = (search fitting_laid, search rules)
+compose_laid-requires c = record { laid_some = search fitting_laid; counts_listed = search rules }
 
 pub returns-in-Wrong : goal.returns-in-Wrong
 returns-in-Wrong c = search fitting_wrong

@@ -6,10 +6,10 @@ pub merge-merged-requires : goal.merge-merged-requires
 merge-merged-requires c = search laid_can
 
 pub all_safe-requires : goal.all_safe-requires
-all_safe-requires c = (search laid_pairs, search rules)
+all_safe-requires c = record { few_in_order = search laid_pairs; counts_listed = search rules }
 
 pub write_merged-requires : goal.write_merged-requires
-write_merged-requires c = (search laid_printable, search rules)
+write_merged-requires c = record { printable_some = search laid_printable; counts_listed = search rules }
 
 pub returns-then-all_safe : goal.returns-then-all_safe
 returns-then-all_safe c = search laid_written

@@ -9,7 +9,7 @@ pub returns-then-t-eq0 : goal.returns-then-t-eq0
 returns-then-t-eq0 c = search witnesses_short
 
 pub compose_fitting-requires : goal.compose_fitting-requires
-compose_fitting-requires c = (search witnesses_fit, search witnesses_listed)
+compose_fitting-requires c = record { can_lay = search witnesses_fit; counts_listed = search witnesses_listed }
 
 pub returns-in-Refused : goal.returns-in-Refused
 returns-in-Refused c = search witnesses_refused

@@ -3,14 +3,14 @@ use Rattle.compose_layout.proofs.LayLaws.{inputs-can, inputs_wrong, latches-can,
 use Rattle.compose_layout.proofs.lay.Goals as goal
 
 pub gather_origins-requires : goal.gather_origins-requires
-gather_origins-requires c = (inputs-can (c.lay_lists-lists.ensures _) c.requires.0, c.requires.1)
+gather_origins-requires c = record { can_map_all = inputs-can (c.lay_lists-lists.ensures _) c.requires.can_lay; counts_listed = c.requires.counts_listed }
 
 -- 16 because of an input
 pub returns-in_default : goal.returns-in_default
 returns-in_default c = inputs_wrong (c.lay_lists-lists.ensures _) _ _ c.gather_origins.ensures c.in_default.is
 
 pub gather_origins-requires-2 : goal.gather_origins-requires-2
-gather_origins-requires-2 c = (latches-can (c.lay_lists-lists.ensures _) _ _ c.gather_origins.ensures c.in-Next.is c.requires.0, c.requires.1)
+gather_origins-requires-2 c = record { can_map_all = latches-can (c.lay_lists-lists.ensures _) _ _ c.gather_origins.ensures c.in-Next.is c.requires.can_lay; counts_listed = c.requires.counts_listed }
 
 -- 16 because of a latch
 pub returns-in_default-gather_origins : goal.returns-in_default-gather_origins
@@ -21,7 +21,7 @@ returns-in_default-gather_origins c =
 pub place_regions-requires : goal.place_regions-requires
 place_regions-requires c =
     places_fit (c.lay_lists-lists.ensures _) _ _ c.gather_origins.ensures c.in-Next.is
-    _ _ c.gather_origins-2.ensures c.in-Next-gather_origins.is c.requires.0
+    _ _ c.gather_origins-2.ensures c.in-Next-gather_origins.is c.requires.can_lay
 
 pub returns : goal.returns
 returns c =

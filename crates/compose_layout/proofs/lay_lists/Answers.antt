@@ -4,43 +4,31 @@ use Rattle.compose_layout.proofs.StageLaws.{roomy-latches, roomy-operands, roomy
 use Rattle.compose_layout.proofs.lay_lists.Goals as goal
 
 pub load_all-latches-requires : goal.load_all-latches-requires
-load_all-latches-requires c = (search list_load, search rules)
+load_all-latches-requires c = record { can_load = search list_load; counts_listed = search rules }
 
 pub gather-operands-requires : goal.gather-operands-requires
-gather-operands-requires c = (
-  turn-can roomy-latches (λ mc. loaded c.load_all-latches.auto.work c.load_all-latches.ensures) c.requires.0,
-  (c.requires.1, list_totals c.requires.0),
-)
+gather-operands-requires c = record { can_gather = turn-can roomy-latches (λ mc. loaded c.load_all-latches.auto.work c.load_all-latches.ensures) c.requires.can_list; counts_listed = c.requires.counts_listed; right_totals = list_totals c.requires.can_list }
 
 pub gather-safety-requires : goal.gather-safety-requires
-gather-safety-requires c = (
-  turn-can roomy-operands (λ mc.
+gather-safety-requires c = record { can_gather = turn-can roomy-operands (λ mc.
       turn-next roomy-latches (loaded c.load_all-latches.auto.work c.load_all-latches.ensures) c.gather-operands.ensures)
-      c.requires.0,
-  (c.requires.1, list_totals c.requires.0),
-)
+      c.requires.can_list; counts_listed = c.requires.counts_listed; right_totals = list_totals c.requires.can_list }
 
 pub gather-constraints-requires : goal.gather-constraints-requires
-gather-constraints-requires c = (
-  turn-can roomy-safety (λ mc.
+gather-constraints-requires c = record { can_gather = turn-can roomy-safety (λ mc.
       turn-next roomy-operands
       (turn-next roomy-latches (loaded c.load_all-latches.auto.work c.load_all-latches.ensures) c.gather-operands.ensures)
       c.gather-safety.ensures)
-      c.requires.0,
-  (c.requires.1, list_totals c.requires.0),
-)
+      c.requires.can_list; counts_listed = c.requires.counts_listed; right_totals = list_totals c.requires.can_list }
 
 pub gather-end-requires : goal.gather-end-requires
-gather-end-requires c = (
-  turn-can roomy-constraints (λ mc.
+gather-end-requires c = record { can_gather = turn-can roomy-constraints (λ mc.
       turn-next roomy-safety
       (turn-next roomy-operands
       (turn-next roomy-latches (loaded c.load_all-latches.auto.work c.load_all-latches.ensures) c.gather-operands.ensures)
       c.gather-safety.ensures)
       c.gather-constraints.ensures)
-      c.requires.0,
-  (c.requires.1, list_totals c.requires.0),
-)
+      c.requires.can_list; counts_listed = c.requires.counts_listed; right_totals = list_totals c.requires.can_list }
 
 pub returns : goal.returns
 returns c =

@@ -16,7 +16,7 @@ pub pass-p-requires : goal.pass-p-requires
 pass-p-requires c = search walking_pass
 
 pub loop-w-preserved : goal.loop-w-preserved
-loop-w-preserved c = (walking-more _ _ _ _ _ _ _ _ _ _ _ _ _ _ c.loop-w.invariant.0 c.loop-w.invariant.1 (omega (arith, c.loop-w-test)) _ c.text_at-text.ensures _ c.requires.1 _ c.counts_at-n.ensures _ _ (omega (arith, c.print_witness-done.auto.out)) c.print_witness-done.ensures _ c.pass-p.ensures, search rules)
+loop-w-preserved c = (walking-more _ _ _ _ _ _ _ _ _ _ _ _ _ _ c.loop-w.invariant.0 c.loop-w.invariant.1 (omega (arith, c.loop-w-test)) _ c.text_at-text.ensures _ c.requires.counts_listed _ c.counts_at-n.ensures _ _ (omega (arith, c.print_witness-done.auto.out)) c.print_witness-done.ensures _ c.pass-p.ensures, search rules)
 
 pub returns : goal.returns
 returns c = search walking-end

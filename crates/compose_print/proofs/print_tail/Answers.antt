@@ -6,10 +6,10 @@ use Rattle.compose_print.proofs.WriteLaws.{input-symbols, latch_symbols_lem, inp
 use Rattle.compose_print.proofs.print_tail.Goals as goal
 
 pub print_symbols-latch_names-requires : goal.print_symbols-latch_names-requires
-print_symbols-latch_names-requires c = (input-symbols c.requires.0, c.requires.1)
+print_symbols-latch_names-requires c = record { can_print_symbols = input-symbols c.requires.printable_some; counts_listed = c.requires.counts_listed }
 
 pub print_symbols-closing-requires : goal.print_symbols-closing-requires
-print_symbols-closing-requires c = (latch_symbols_lem c.requires.0, c.requires.1)
+print_symbols-closing-requires c = record { can_print_symbols = latch_symbols_lem c.requires.printable_some; counts_listed = c.requires.counts_listed }
 
 pub returns : goal.returns
 returns c =

@@ -10,7 +10,7 @@ counts_of-n-requires c = tt
 
 pub slice_bounds-row_parts-end-2 : goal.slice_bounds-row_parts-end-2
 slice_bounds-row_parts-end-2 c =
-    let n : length c.args.model.outputs ≡ 128 = simp length-map at c.well_formed.0.1.1.1.1.1.1.1.1.0.1.0.1 in
+    let n : length c.args.model.outputs ≡ 128 = c.well_formed.0.1.1.1.1.1.1.1.1.0.1.0.1 in
     sym n
 
 pub row_parts-requires : goal.row_parts-requires

@@ -1,0 +1,10 @@
+use Rattle.lists.specs.Words.{words_of}
+use Rattle.aiger.specs.Gates.{gate_words}
+use Rattle.model.specs.RecordWords.{record_in}
+use Rattle.nitrasovy.proofs.ModelLaws.{steps_flat}
+use Rattle.nitrasovy.proofs.gate_records.nit_step_records.Goals as goal
+
+pub returns : goal.returns
+returns c =
+    steps_flat (record_in c.args.model.now) (words_of gate_words c.args.gates.now) c.args.work.now c.args.state c.args.input c.evaluate_records-stepped.result
+    c.evaluate_records-stepped.ensures.0 c.evaluate_records-stepped.new.work c.evaluate_records-stepped.ensures.1 c.flat_stepped.result c.flat_stepped.ensures
