@@ -2,75 +2,91 @@
 #![tactic(auto)]
 
 use compose::Composed;
-use libc::STDOUT_FILENO;
+use std::io;
 use text_decimal::Written;
 
 // Prints `refused`, the number and byte 10.
-fn print_refused(reason: u64) {
+fn print_refused(rt: &impl Print, reason: u64) -> io::Result<()> {
     let mut line = [0u8; 32];
-    io::write_all(STDOUT_FILENO, b"refused ");
+    rt.write_all(b"refused ")?;
     let Written::Next(size) = text_decimal::write_decimal(&mut line, 0, reason) else {
-        return;
+        return Ok(());
     };
     if size <= 32 {
-        io::write_all(STDOUT_FILENO, &line[..size]);
+        rt.write_all(&line[..size])?;
     }
-    io::write_all(STDOUT_FILENO, b"\n");
+    rt.write_all(b"\n")
 }
 
 // Prints the composition of the witness texts that pairs say, or the number of the reason.
-fn show(model: &[u8], witnesses: &[u8], pairs: &[u64], work: &mut [u64], out: &mut [u8]) {
+fn show(
+    rt: &impl Print,
+    model: &[u8],
+    witnesses: &[u8],
+    pairs: &[u64],
+    work: &mut [u64],
+    out: &mut [u8],
+) -> io::Result<()> {
     let composed = compose::compose_safety_witnesses_v1(model, witnesses, pairs, work, out);
     match composed {
         Composed::Got(size) => {
             if size <= out.len() {
-                io::write_all(STDOUT_FILENO, &out[..size]);
+                rt.write_all(&out[..size])?;
             }
+            Ok(())
         }
-        Composed::Refused(reason) => print_refused(reason),
+        Composed::Refused(reason) => print_refused(rt, reason),
     }
 }
 
 // R14.7: the model and two witnesses of 20 bytes each; so many work words and result bytes are lent.
-fn show_case(pairs: &[u64], work: &mut [u64], words: usize, out: &mut [u8], room: usize) {
+fn show_case(
+    rt: &impl Print,
+    pairs: &[u64],
+    work: &mut [u64],
+    words: usize,
+    out: &mut [u8],
+    room: usize,
+) -> io::Result<()> {
     if work.len() < words {
-        return;
+        return Ok(());
     }
     if out.len() < room {
-        return;
+        return Ok(());
     }
     show(
+        rt,
         b"aag 1 0 1 0 0\n2 2\n",
         b"aag 1 0 1 1 0\n2 2\n2\naag 1 0 1 1 0\n2 2\n3\n",
         pairs,
         &mut work[..words],
         &mut out[..room],
-    );
+    )
 }
 
 // With exactly the words and bytes that are needed, and with one fewer of each.
-fn amounts(work: &mut [u64], out: &mut [u8]) {
+fn amounts(rt: &impl Print, work: &mut [u64], out: &mut [u8]) -> io::Result<()> {
     let pairs: [u64; 4] = [0, 20, 20, 20];
-    show_case(&pairs, work, 1104, out, 82);
-    show_case(&pairs, work, 1103, out, 82);
-    show_case(&pairs, work, 1104, out, 81);
+    show_case(rt, &pairs, work, 1104, out, 82)?;
+    show_case(rt, &pairs, work, 1103, out, 82)?;
+    show_case(rt, &pairs, work, 1104, out, 81)
 }
 
 // One witness, parts that overlap or run past the buffer, half a pair more.
-fn parts(work: &mut [u64], out: &mut [u8]) {
+fn parts(rt: &impl Print, work: &mut [u64], out: &mut [u8]) -> io::Result<()> {
     let one: [u64; 2] = [0, 20];
     let overlapping: [u64; 4] = [0, 20, 19, 20];
     let past: [u64; 4] = [0, 20, 20, 21];
     let half: [u64; 5] = [0, 20, 20, 20, 7];
-    show_case(&one, work, 1104, out, 82);
-    show_case(&overlapping, work, 1104, out, 82);
-    show_case(&past, work, 1104, out, 82);
-    show_case(&half, work, 1104, out, 82);
+    show_case(rt, &one, work, 1104, out, 82)?;
+    show_case(rt, &overlapping, work, 1104, out, 82)?;
+    show_case(rt, &past, work, 1104, out, 82)?;
+    show_case(rt, &half, work, 1104, out, 82)
 }
 
-fn main() {
+fn main(rt: HostRuntime) -> io::Result<()> {
     let mut work = [0u64; 2048];
     let mut out = [0u8; 256];
-    amounts(&mut work, &mut out);
-    parts(&mut work, &mut out);
+    amounts(&rt, &mut work, &mut out)?;
+    parts(&rt, &mut work, &mut out)
 }

@@ -2,9 +2,12 @@
 // What the published Rust answered is in the file `stdout`; README.md says how it was made.
 #![tactic(auto)]
 
-use libc::{STDIN_FILENO, STDOUT_FILENO};
+ghost use Rattle.std.specs.Prelude.{◌≤◌, length, IfOk};
+
 use replay_text::form::Count;
 use replay_text::{form, show};
+use std::io;
+use std::io::Read;
 
 mod models;
 mod obligations;
@@ -92,23 +95,36 @@ fn replay(input: &[u8], out: &mut [u8]) -> usize {
     to
 }
 
+// Reads until the buffer is full or the input ends, and says how many bytes stand in front.
+fn read_full<R: Read>(reader: &mut R, buffer: &mut [u8]) -> io::Result<usize>
+    ensures { IfOk result (λ n. n ≤ length buffer.new) }
+{
+    let mut done = 0;
+    while done < buffer.len() {
+        let n = reader.read(&mut buffer[done..])?;
+        if n == 0 {
+            break;
+        }
+        done += n;
+    }
+    Ok(done)
+}
+
 // Prints the answers to standard input, by way of lent buffers. More than there is room for is malformed.
-fn answers(input: &mut [u8], out: &mut [u8]) {
-    let n = io::read_full(STDIN_FILENO, input);
+fn answers(rt: &(impl Input + Print), input: &mut [u8], out: &mut [u8]) -> io::Result<()> {
+    let n = read_full(&mut rt.reader(), input)?;
     if n == input.len() {
-        io::write_all(STDOUT_FILENO, b"malformed\n");
-        return;
+        return rt.write_all(b"malformed\n");
     }
     let size = replay(&input[..n], out);
     if out.len() < size {
-        io::write_all(STDOUT_FILENO, b"malformed\n");
-        return;
+        return rt.write_all(b"malformed\n");
     }
-    io::write_all(STDOUT_FILENO, &out[..size]);
+    rt.write_all(&out[..size])
 }
 
-fn main() {
+fn main(rt: HostRuntime) -> io::Result<()> {
     let mut input = [0u8; 1000000];
     let mut out = [0u8; 1000000];
-    answers(&mut input, &mut out);
+    answers(&rt, &mut input, &mut out)
 }

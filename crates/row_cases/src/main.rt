@@ -1,174 +1,176 @@
 // Runs `row_text::row` on inputs that show each answer and each limit; what they must print is in the file `stdout`.
 #![tactic(auto)]
 
-use libc::STDOUT_FILENO;
+use std::io;
 
 // Prints what the row program prints for an input.
-fn show(input: &[u8], out: &mut [u8]) {
+fn show(rt: &impl Print, input: &[u8], out: &mut [u8]) -> io::Result<()> {
     let size = row_text::row(input, out);
-    io::write_all(STDOUT_FILENO, &out[..size]);
+    rt.write_all(&out[..size])
 }
 
 // Accepted: R14.6, no claims, both states, a sign and a zero in front, lines after the gates.
-fn rows(out: &mut [u8]) {
-    show(b"1 1\naag 3 1 1 1 1\n2\n4 6\n6\n6 4 2\n", out);
-    show(b"0 0\naag 3 1 1 1 1\n2\n4 6\n6\n6 4 2\n", out);
-    show(b"1\naag 3 1 1 1 1\n2\n4 6\n6\n6 4 2\n", out);
-    show(b"0 0 1\naag 3 1 1 1 1\n2\n4 6\n6\n6 4 2\n", out);
-    show(b"+1 01\naag 3 1 1 1 1\n2\n4 6\n6\n6 4 2\n", out);
-    show(b"1 1\naag 3 1 1 1 1\n2\n4 6\n6\n6 4 2\nmore\n", out);
+fn rows(rt: &impl Print, out: &mut [u8]) -> io::Result<()> {
+    show(rt, b"1 1\naag 3 1 1 1 1\n2\n4 6\n6\n6 4 2\n", out)?;
+    show(rt, b"0 0\naag 3 1 1 1 1\n2\n4 6\n6\n6 4 2\n", out)?;
+    show(rt, b"1\naag 3 1 1 1 1\n2\n4 6\n6\n6 4 2\n", out)?;
+    show(rt, b"0 0 1\naag 3 1 1 1 1\n2\n4 6\n6\n6 4 2\n", out)?;
+    show(rt, b"+1 01\naag 3 1 1 1 1\n2\n4 6\n6\n6 4 2\n", out)?;
+    show(rt, b"1 1\naag 3 1 1 1 1\n2\n4 6\n6\n6 4 2\nmore\n", out)
 }
 
 // The other models of R13, the last line without byte 10, and gates out of order.
-fn models(out: &mut [u8]) {
-    show(b"0 0\naag 1 0 1 0 0\n2 0\n", out);
-    show(b"1 1\naag 3 0 1 1 2\n2 6\n6\n6 4 4\n4 2 2\n", out);
-    show(b"0 0\naag 1 0 1 0 0\n2 0", out);
-    show(b"1 0\naag 1 0 1 0 0\n2 3\n", out);
-    show(b"2 1 3\naag 2 0 2 0 0\n2 4\n4 2\n", out);
+fn models(rt: &impl Print, out: &mut [u8]) -> io::Result<()> {
+    show(rt, b"0 0\naag 1 0 1 0 0\n2 0\n", out)?;
+    show(rt, b"1 1\naag 3 0 1 1 2\n2 6\n6\n6 4 4\n4 2 2\n", out)?;
+    show(rt, b"0 0\naag 1 0 1 0 0\n2 0", out)?;
+    show(rt, b"1 0\naag 1 0 1 0 0\n2 3\n", out)?;
+    show(rt, b"2 1 3\naag 2 0 2 0 0\n2 4\n4 2\n", out)
 }
 
 // Constants: dropped clauses, the empty clause, a variable in both signs.
-fn constants(out: &mut [u8]) {
-    show(b"1 1\naag 3 0 1 0 2\n2 1\n4 1 2\n6 0 4\n", out);
-    show(b"1 0\naag 3 0 1 0 2\n2 1\n4 1 2\n6 0 4\n", out);
-    show(b"0\naag 2 0 1 0 1\n2 2\n4 2 3\n", out);
-    show(b"0 0 1 2 3\naag 2 0 2 0 0\n2 2\n4 3\n", out);
+fn constants(rt: &impl Print, out: &mut [u8]) -> io::Result<()> {
+    show(rt, b"1 1\naag 3 0 1 0 2\n2 1\n4 1 2\n6 0 4\n", out)?;
+    show(rt, b"1 0\naag 3 0 1 0 2\n2 1\n4 1 2\n6 0 4\n", out)?;
+    show(rt, b"0\naag 2 0 1 0 1\n2 2\n4 2 3\n", out)?;
+    show(rt, b"0 0 1 2 3\naag 2 0 2 0 0\n2 2\n4 3\n", out)
 }
 
 // 14: first lines of another form.
-fn forms(out: &mut [u8]) {
-    show(b"", out);
-    show(b"\naag 3 1 1 1 1\n2\n4 6\n6\n6 4 2\n", out);
-    show(b"1  1\naag 3 1 1 1 1\n2\n4 6\n6\n6 4 2\n", out);
-    show(b"1 1 \naag 3 1 1 1 1\n2\n4 6\n6\n6 4 2\n", out);
-    show(b" 1 1\naag 3 1 1 1 1\n2\n4 6\n6\n6 4 2\n", out);
-    show(b"1\t1\naag 3 1 1 1 1\n2\n4 6\n6\n6 4 2\n", out);
+fn forms(rt: &impl Print, out: &mut [u8]) -> io::Result<()> {
+    show(rt, b"", out)?;
+    show(rt, b"\naag 3 1 1 1 1\n2\n4 6\n6\n6 4 2\n", out)?;
+    show(rt, b"1  1\naag 3 1 1 1 1\n2\n4 6\n6\n6 4 2\n", out)?;
+    show(rt, b"1 1 \naag 3 1 1 1 1\n2\n4 6\n6\n6 4 2\n", out)?;
+    show(rt, b" 1 1\naag 3 1 1 1 1\n2\n4 6\n6\n6 4 2\n", out)?;
+    show(rt, b"1\t1\naag 3 1 1 1 1\n2\n4 6\n6\n6 4 2\n", out)
 }
 
 // 14: byte 13, a letter, a sign, a byte above 127, 2^64.
-fn bad_numbers(out: &mut [u8]) {
-    show(b"1 1\r\naag 3 1 1 1 1\n2\n4 6\n6\n6 4 2\n", out);
-    show(b"1 x\naag 3 1 1 1 1\n2\n4 6\n6\n6 4 2\n", out);
-    show(b"-1 1\naag 3 1 1 1 1\n2\n4 6\n6\n6 4 2\n", out);
-    show(b"1 \xff\naag 3 1 1 1 1\n2\n4 6\n6\n6 4 2\n", out);
+fn bad_numbers(rt: &impl Print, out: &mut [u8]) -> io::Result<()> {
+    show(rt, b"1 1\r\naag 3 1 1 1 1\n2\n4 6\n6\n6 4 2\n", out)?;
+    show(rt, b"1 x\naag 3 1 1 1 1\n2\n4 6\n6\n6 4 2\n", out)?;
+    show(rt, b"-1 1\naag 3 1 1 1 1\n2\n4 6\n6\n6 4 2\n", out)?;
+    show(rt, b"1 \xff\naag 3 1 1 1 1\n2\n4 6\n6\n6 4 2\n", out)?;
     show(
+        rt,
         b"18446744073709551616\naag 3 1 1 1 1\n2\n4 6\n6\n6 4 2\n",
         out,
-    );
-    show(b"1 18446744073709551616\naig\n", out);
+    )?;
+    show(rt, b"1 18446744073709551616\naig\n", out)
 }
 
 // 14: a state that the model has not, targets that do not rise.
-fn states(out: &mut [u8]) {
-    show(b"2 1\naag 3 1 1 1 1\n2\n4 6\n6\n6 4 2\n", out);
-    show(b"1 2\naag 3 1 1 1 1\n2\n4 6\n6\n6 4 2\n", out);
-    show(b"1 1 1\naag 3 1 1 1 1\n2\n4 6\n6\n6 4 2\n", out);
-    show(b"1 1 0\naag 3 1 1 1 1\n2\n4 6\n6\n6 4 2\n", out);
+fn states(rt: &impl Print, out: &mut [u8]) -> io::Result<()> {
+    show(rt, b"2 1\naag 3 1 1 1 1\n2\n4 6\n6\n6 4 2\n", out)?;
+    show(rt, b"1 2\naag 3 1 1 1 1\n2\n4 6\n6\n6 4 2\n", out)?;
+    show(rt, b"1 1 1\naag 3 1 1 1 1\n2\n4 6\n6\n6 4 2\n", out)?;
+    show(rt, b"1 1 0\naag 3 1 1 1 1\n2\n4 6\n6\n6 4 2\n", out)?;
     show(
+        rt,
         b"18446744073709551615\naag 3 1 1 1 1\n2\n4 6\n6\n6 4 2\n",
         out,
-    );
+    )
 }
 
 // The form comes before the model, and the model before the states; 3 for a byte above 127.
-fn orders(out: &mut [u8]) {
-    show(b"1 1 \naig\n", out);
-    show(b"2 1\naig\n", out);
-    show(b"1 1\naag 3 1 1 1 1\n2\n4 6\n6\n6 4 2\n\xff\n", out);
-    show(b"2 1\naag 3 1 1 1 1\n2\n4 6\n6\n6 4\n", out);
+fn orders(rt: &impl Print, out: &mut [u8]) -> io::Result<()> {
+    show(rt, b"1 1 \naig\n", out)?;
+    show(rt, b"2 1\naig\n", out)?;
+    show(rt, b"1 1\naag 3 1 1 1 1\n2\n4 6\n6\n6 4 2\n\xff\n", out)?;
+    show(rt, b"2 1\naag 3 1 1 1 1\n2\n4 6\n6\n6 4\n", out)
 }
 
 // 4: no model, another word, four and six counts, an unreadable one.
-fn headers(out: &mut [u8]) {
-    show(b"1 1", out);
-    show(b"1 1\n", out);
-    show(b"1 1\naig 3 1 1 1 1\n", out);
-    show(b"1 1\naag 3 1 1 1\n", out);
-    show(b"1 1\naag 3 1 1 1 1 0\n", out);
-    show(b"1 1\naag 3 1 1 x 1\n", out);
+fn headers(rt: &impl Print, out: &mut [u8]) -> io::Result<()> {
+    show(rt, b"1 1", out)?;
+    show(rt, b"1 1\n", out)?;
+    show(rt, b"1 1\naig 3 1 1 1 1\n", out)?;
+    show(rt, b"1 1\naag 3 1 1 1\n", out)?;
+    show(rt, b"1 1\naag 3 1 1 1 1 0\n", out)?;
+    show(rt, b"1 1\naag 3 1 1 x 1\n", out)
 }
 
 // 5: the sum, no latch, 9 latches, 65 inputs, 129 outputs.
-fn counts(out: &mut [u8]) {
-    show(b"0\naag 4 1 1 1 1\n", out);
-    show(b"0\naag 1 1 0 0 0\n2\n", out);
-    show(b"0\naag 9 0 9 0 0\n", out);
-    show(b"0\naag 66 65 1 0 0\n", out);
-    show(b"0\naag 1 0 1 129 0\n2 2\n", out);
+fn counts(rt: &impl Print, out: &mut [u8]) -> io::Result<()> {
+    show(rt, b"0\naag 4 1 1 1 1\n", out)?;
+    show(rt, b"0\naag 1 1 0 0 0\n2\n", out)?;
+    show(rt, b"0\naag 9 0 9 0 0\n", out)?;
+    show(rt, b"0\naag 66 65 1 0 0\n", out)?;
+    show(rt, b"0\naag 1 0 1 129 0\n2 2\n", out)
 }
 
 // The same at the limit, without the lines: 8. Then 2,001 gates: 7.
-fn limits(out: &mut [u8]) {
-    show(b"0\naag 8 0 8 0 0\n", out);
-    show(b"0\naag 65 64 1 0 0\n", out);
-    show(b"0\naag 1 0 1 128 0\n2 2\n", out);
-    show(b"0\naag 2001 0 1 0 2000\n2 2\n", out);
-    show(b"0\naag 2002 0 1 0 2001\n2 2\n", out);
+fn limits(rt: &impl Print, out: &mut [u8]) -> io::Result<()> {
+    show(rt, b"0\naag 8 0 8 0 0\n", out)?;
+    show(rt, b"0\naag 65 64 1 0 0\n", out)?;
+    show(rt, b"0\naag 1 0 1 128 0\n2 2\n", out)?;
+    show(rt, b"0\naag 2001 0 1 0 2000\n2 2\n", out)?;
+    show(rt, b"0\naag 2002 0 1 0 2001\n2 2\n", out)
 }
 
 // 8: lines that are missing or have another form.
-fn sections(out: &mut [u8]) {
-    show(b"1 1\naag 3 1 1 1 1\n2\n4 6\n6\n", out);
-    show(b"1 1\naag 3 1 1 1 1\n2 2\n4 6\n6\n6 4 2\n", out);
-    show(b"1 1\naag 3 1 1 1 1\n2\n4\n6\n6 4 2\n", out);
-    show(b"1 1\naag 3 1 1 1 1\n2\n4 6 2\n6\n6 4 2\n", out);
-    show(b"1 1\naag 3 1 1 1 1\n2\n4 6\nx\n6 4 2\n", out);
+fn sections(rt: &impl Print, out: &mut [u8]) -> io::Result<()> {
+    show(rt, b"1 1\naag 3 1 1 1 1\n2\n4 6\n6\n", out)?;
+    show(rt, b"1 1\naag 3 1 1 1 1\n2 2\n4 6\n6\n6 4 2\n", out)?;
+    show(rt, b"1 1\naag 3 1 1 1 1\n2\n4\n6\n6 4 2\n", out)?;
+    show(rt, b"1 1\naag 3 1 1 1 1\n2\n4 6 2\n6\n6 4 2\n", out)?;
+    show(rt, b"1 1\naag 3 1 1 1 1\n2\n4 6\nx\n6 4 2\n", out)
 }
 
 // 11: an odd definition, one made twice, an operand that is not smaller, literals out of range.
-fn definitions(out: &mut [u8]) {
-    show(b"1 1\naag 3 1 1 1 1\n3\n4 6\n6\n6 4 2\n", out);
-    show(b"1 1\naag 3 1 1 1 1\n4\n4 6\n6\n6 4 2\n", out);
-    show(b"1 1\naag 3 1 1 1 1\n2\n4 6\n6\n6 6 2\n", out);
-    show(b"1 1\naag 3 1 1 1 1\n2\n4 8\n6\n6 4 2\n", out);
-    show(b"1 1\naag 3 1 1 1 1\n2\n4 6\n8\n6 4 2\n", out);
+fn definitions(rt: &impl Print, out: &mut [u8]) -> io::Result<()> {
+    show(rt, b"1 1\naag 3 1 1 1 1\n3\n4 6\n6\n6 4 2\n", out)?;
+    show(rt, b"1 1\naag 3 1 1 1 1\n4\n4 6\n6\n6 4 2\n", out)?;
+    show(rt, b"1 1\naag 3 1 1 1 1\n2\n4 6\n6\n6 6 2\n", out)?;
+    show(rt, b"1 1\naag 3 1 1 1 1\n2\n4 8\n6\n6 4 2\n", out)?;
+    show(rt, b"1 1\naag 3 1 1 1 1\n2\n4 6\n8\n6 4 2\n", out)
 }
 
 // An input of 16,384 bytes is taken.
-fn at_the_limit(out: &mut [u8]) {
+fn at_the_limit(rt: &impl Print, out: &mut [u8]) -> io::Result<()> {
     let mut long = [120u8; 16384];
     text_decimal::write_bytes(&mut long, 0, b"1 1\naag 3 1 1 1 1\n2\n4 6\n6\n6 4 2\n");
-    show(&long, out);
+    show(rt, &long, out)
 }
 
 // One byte more is 3.
-fn past_the_limit(out: &mut [u8]) {
+fn past_the_limit(rt: &impl Print, out: &mut [u8]) -> io::Result<()> {
     let mut long = [120u8; 16385];
     text_decimal::write_bytes(&mut long, 0, b"1 1\naag 3 1 1 1 1\n2\n4 6\n6\n6 4 2\n");
-    show(&long, out);
+    show(rt, &long, out)
 }
 
-fn accepted_and_forms(out: &mut [u8]) {
-    rows(out);
-    models(out);
-    constants(out);
-    forms(out);
-    bad_numbers(out);
+fn accepted_and_forms(rt: &impl Print, out: &mut [u8]) -> io::Result<()> {
+    rows(rt, out)?;
+    models(rt, out)?;
+    constants(rt, out)?;
+    forms(rt, out)?;
+    bad_numbers(rt, out)
 }
 
-fn models_refused(out: &mut [u8]) {
-    states(out);
-    orders(out);
-    headers(out);
-    counts(out);
+fn models_refused(rt: &impl Print, out: &mut [u8]) -> io::Result<()> {
+    states(rt, out)?;
+    orders(rt, out)?;
+    headers(rt, out)?;
+    counts(rt, out)
 }
 
-fn limits_and_lines(out: &mut [u8]) {
-    limits(out);
-    sections(out);
-    definitions(out);
-    at_the_limit(out);
-    past_the_limit(out);
+fn limits_and_lines(rt: &impl Print, out: &mut [u8]) -> io::Result<()> {
+    limits(rt, out)?;
+    sections(rt, out)?;
+    definitions(rt, out)?;
+    at_the_limit(rt, out)?;
+    past_the_limit(rt, out)
 }
 
-fn all(out: &mut [u8]) {
-    accepted_and_forms(out);
-    models_refused(out);
-    limits_and_lines(out);
+fn all(rt: &impl Print, out: &mut [u8]) -> io::Result<()> {
+    accepted_and_forms(rt, out)?;
+    models_refused(rt, out)?;
+    limits_and_lines(rt, out)
 }
 
-fn main() {
+fn main(rt: HostRuntime) -> io::Result<()> {
     let mut out = [0u8; 700000];
-    all(&mut out);
+    all(&rt, &mut out)
 }

@@ -8,7 +8,7 @@ use borrow.Author.Tests.{leb-true}
 use lib.Dec.{leb}
 use lib.ListN.{length, drop, length-append}
 use Rattle.lists.specs.Answer.{Answer, got, refused, unless, and_then}
-use Rattle.lists.specs.Parts.{Bytes, front}
+use Rattle.lists.specs.Parts.{Bytes}
 use Rattle.model.specs.Circuit.{Circuit}
 use Rattle.cnf.specs.declared.ClauseCounts.{ClauseCounts}
 use Rattle.cnf.specs.Clauses.{Clause, literals_of, pairs_from, returned}

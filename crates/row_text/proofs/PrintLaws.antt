@@ -187,6 +187,8 @@ module _ (cs : List Clause) (count : ℕ) (pairs words : List ℕ) (o₀ : Bytes
       listing-more o' to w =
           let f : offset ≡ k.off = omega (arith, offset_is) in
           let twice : 2 * (i + 1) ≡ 2 * i + 2 = omega arith in
+          let same : clause_bytes offset (part words offset (offset + size)) ≡ clause_bytes k.off n.c =
+          ap (clause_bytes offset) here ∙ ap (λ (x : ℕ). clause_bytes x n.c) f in
           record {
             rest = n.others;
             off = k.off + length n.c;
@@ -202,7 +204,7 @@ module _ (cs : List Clause) (count : ℕ) (pairs words : List ℕ) (o₀ : Bytes
             on =
                 onward-more o₀ at₀ (clauses_bytes 0 cs) o at (clauses_bytes k.off k.rest) (clause_bytes offset (part words offset (offset + size)))
                 (clauses_bytes (k.off + length n.c) n.others) o' to k.on
-                (ap (clauses_bytes k.off) n.is ∙ rw (here, f))
+                (ap (clauses_bytes k.off) n.is ∙ ap (λ (x : Bytes). x ++ clauses_bytes (k.off + length n.c) n.others) (sym same))
                 w.wrote;
             few = omega (arith, k.few, w.few, size_is, ap numbers_in n.is);
             room = k.room;

@@ -1,5 +1,4 @@
 use Rattle.replay.proofs.RepeatLaws.{repeated}
-use borrow.Author.Rules.{rules}
 use Rattle.replay.proofs.main.Goals as goal
 
 pub slice_bounds-answers-end : goal.slice_bounds-answers-end

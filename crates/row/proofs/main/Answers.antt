@@ -1,6 +1,5 @@
 use mathlib.Core.Path.{sym}
 use Rattle.lists.proofs.ZeroLaws.{zeros-length}
-use borrow.Author.Rules.{rules}
 use Rattle.row.proofs.main.Goals as goal
 
 pub slice_bounds-answer-end : goal.slice_bounds-answer-end

@@ -1,6 +1,5 @@
 use mathlib.Core.Path.{sym}
 use Rattle.lists.proofs.ZeroLaws.{zeros-length}
-use borrow.Author.Rules.{rules}
 use Rattle.row_cases.proofs.main.Goals as goal
 
 pub slice_bounds-all-end : goal.slice_bounds-all-end

@@ -1,5 +1,4 @@
 use Rattle.row_text.proofs.RowLaws.{after-some, after_none}
-use borrow.Author.Rules.{rules}
 use Rattle.row_text.proofs.after_line.Goals as goal
 
 pub returns-then-end-input : goal.returns-then-end-input

@@ -2,10 +2,7 @@ use Prim.Native.Nat.{◌+◌, ◌-◌}
 use mathlib.Core.Path.{◌≡◌}
 use lib.ListN.{length, drop}
 use Rattle.scan.specs.Spans.{span}
-use Rattle.scan.proofs.SpanLaws.{span-again, span-stop, span-over}
 use Rattle.row_text.specs.Inner.Steps.{in_piece}
-use Rattle.row_text.proofs.PieceLaws.{piece_goes, piece_stops}
-use borrow.Author.Rules.{rules}
 use Rattle.row_text.proofs.piece_end.Given as goal
 
 abbrev pub invariant-loop-i : goal.invariant-loop-i

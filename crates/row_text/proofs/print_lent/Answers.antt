@@ -1,5 +1,4 @@
 use Rattle.row_text.proofs.RowLaws.{lent-printed}
-use borrow.Author.Rules.{rules}
 use Rattle.row_text.proofs.print_lent.Goals as goal
 
 pub returns : goal.returns

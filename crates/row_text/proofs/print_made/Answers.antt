@@ -1,5 +1,4 @@
 use Rattle.row_text.proofs.MadeLaws.{rows-front, rows-room, rows_text, refused_text}
-use borrow.Author.Rules.{rules}
 use Rattle.row_text.proofs.print_made.Goals as goal
 
 pub write_rows-requires : goal.write_rows-requires

@@ -1,8 +1,5 @@
 use native.Mathlib.Omega.{arith}
-use Prim.Native.Nat.{◌+◌, ◌-◌}
-use lib.ListN.{length}
-use Rattle.row_text.proofs.PieceLaws.{Taking, taking-none, piece_within, taking-more, taking_bad, taking-done}
-use borrow.Author.Rules.{rules}
+use Rattle.row_text.proofs.PieceLaws.{taking-none, piece_within, taking-more, taking_bad, taking-done}
 use Rattle.row_text.proofs.read_numbers.Goals as goal
 
 pub loop-at-init : goal.loop-at-init

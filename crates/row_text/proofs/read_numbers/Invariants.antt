@@ -1,8 +1,6 @@
-use native.Mathlib.Omega.{arith}
 use Prim.Native.Nat.{◌+◌, ◌-◌}
 use lib.ListN.{length}
-use Rattle.row_text.proofs.PieceLaws.{Taking, taking-none, piece_within, taking-more, taking_bad, taking-done}
-use borrow.Author.Rules.{rules}
+use Rattle.row_text.proofs.PieceLaws.{Taking}
 use Rattle.row_text.proofs.read_numbers.Given as goal
 
 abbrev pub invariant-loop-at : goal.invariant-loop-at

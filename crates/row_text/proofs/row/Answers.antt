@@ -1,5 +1,4 @@
 use Rattle.row_text.proofs.RowLaws.{row-none, row-some}
-use borrow.Author.Rules.{rules}
 use Rattle.row_text.proofs.row.Goals as goal
 
 pub returns-then-out-lt700000 : goal.returns-then-out-lt700000

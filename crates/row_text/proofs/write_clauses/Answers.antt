@@ -1,9 +1,6 @@
 use native.Mathlib.Omega.{arith}
 use mathlib.Core.Path.{refl}
-use Prim.Native.Nat.{◌-◌}
-use Rattle.cnf.specs.Clauses.{returned}
-use Rattle.row_text.proofs.PrintLaws.{Listing, listing_none, listing-within, listing-room, listing-more, listing-done}
-use borrow.Author.Rules.{rules}
+use Rattle.row_text.proofs.PrintLaws.{listing_none, listing-within, listing-room, listing-more, listing-done}
 use Rattle.row_text.proofs.write_clauses.Goals as goal
 
 pub loop-i-init : goal.loop-i-init

@@ -1,9 +1,6 @@
-use native.Mathlib.Omega.{arith}
-use mathlib.Core.Path.{refl}
 use Prim.Native.Nat.{◌-◌}
 use Rattle.cnf.specs.Clauses.{returned}
-use Rattle.row_text.proofs.PrintLaws.{Listing, listing_none, listing-within, listing-room, listing-more, listing-done}
-use borrow.Author.Rules.{rules}
+use Rattle.row_text.proofs.PrintLaws.{Listing}
 use Rattle.row_text.proofs.write_clauses.Given as goal
 
 abbrev pub invariant-loop-i : goal.invariant-loop-i

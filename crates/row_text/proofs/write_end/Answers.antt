@@ -1,5 +1,4 @@
 use Rattle.row_text.proofs.OnwardLaws.{byte_no_room, byte_written}
-use borrow.Author.Rules.{rules}
 use Rattle.row_text.proofs.write_end.Goals as goal
 
 pub returns-in_default : goal.returns-in_default

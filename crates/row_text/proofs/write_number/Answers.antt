@@ -1,5 +1,4 @@
 use Rattle.row_text.proofs.OnwardLaws.{number_no_bytes, number_no_digits, number-written}
-use borrow.Author.Rules.{rules}
 use Rattle.row_text.proofs.write_number.Goals as goal
 
 pub returns-in_default : goal.returns-in_default

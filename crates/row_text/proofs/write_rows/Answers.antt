@@ -1,5 +1,4 @@
 use Rattle.row_text.proofs.PrintLaws.{rows-printed}
-use borrow.Author.Rules.{rules}
 use Rattle.row_text.proofs.write_rows.Goals as goal
 
 pub returns : goal.returns

@@ -1,7 +1,4 @@
-use Prim.Native.Nat.{◌-◌}
-use lib.ListN.{length}
-use Rattle.row_text.proofs.PrintLaws.{Spacing, spacing-none, spacing-room, spacing-more, spacing-done}
-use borrow.Author.Rules.{rules}
+use Rattle.row_text.proofs.PrintLaws.{spacing-none, spacing-room, spacing-more, spacing-done}
 use Rattle.row_text.proofs.write_words.Goals as goal
 
 pub loop-i-init : goal.loop-i-init

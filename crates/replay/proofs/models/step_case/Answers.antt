@@ -1,4 +1,3 @@
-use borrow.Author.Rules.{rules}
 use Rattle.replay.proofs.RepeatLaws.{repeated}
 use Rattle.replay.proofs.models.step_case.Goals as goal
 
