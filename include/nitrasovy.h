@@ -1,4 +1,4 @@
-/* The calls of the proved library libnitrasovy.a (`rt staticlib nitrasovy`) for C and C++.
+/* The calls of the proved library libnitrasovy.a (`tools/archive nitrasovy`) for C and C++.
  *
  * Every call takes any bytes, numbers and lengths. It answers with `reason` 0, or with the number of the first reason below that applies; then
  * every other field is 0. A slice is a pointer and a length in elements: the pointer is to that many readable elements, aligned, and not

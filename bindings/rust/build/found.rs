@@ -6,7 +6,7 @@ use std::fs;
 use std::path::{Path, PathBuf};
 
 const LIBRARY_VARIABLE: &str = "NITRASOVY_LIB";
-/// Where `rt staticlib` writes an archive, and where a package has it.
+/// Where `tools/archive` writes an archive, and where a package has it.
 const LIBRARY_DEFAULTS: [&str; 2] = ["target/staticlib", "lib"];
 const SOURCE_VARIABLE: &str = "NITRASOVY_RUST_SOURCE";
 const SOURCE_DEFAULT: &str = "../shared/docs/src/src";
@@ -46,7 +46,7 @@ pub fn link(root: &Path, libraries: &[&str]) {
             println!("cargo::rustc-link-lib=static={library}");
         } else {
             println!(
-                "cargo::error={} is absent: make it with 'rt staticlib {library}' at the repository's \
+                "cargo::error={} is absent: make it with 'tools/archive {library}' at the repository's \
                  root, where a package has lib/{file} instead, or name the folder of {file} in \
                  {LIBRARY_VARIABLE}",
                 archive.display()

@@ -2,6 +2,9 @@
 
 #![cfg(unix)]
 
+mod apart;
+
+use apart::Apart;
 use std::fs;
 use std::io::{BufRead, BufReader};
 use std::os::unix::fs::{PermissionsExt, symlink};
@@ -10,14 +13,19 @@ use std::process::{Command, Stdio};
 use std::sync::{Mutex, MutexGuard, PoisonError};
 
 /// What the gate and the scripts of a trial may call besides: nothing else is on the path.
-const TOOLS: [&str; 9] = [
-    "bash", "sh", "cat", "dirname", "mktemp", "rm", "sleep", "tail", "tee",
+const TOOLS: [&str; 12] = [
+    "bash", "sh", "cat", "cp", "dirname", "mkdir", "mktemp", "mv", "rm", "sleep", "tail", "tee",
 ];
 
+/// What `rt ci` says before its last line where all is well.
+const OK: &str = "rt: ok; handles allowed: none; must-fail edits: 55 refused, 10 of them only by a limit; \
+                  every proof and must-fail edit was done in this run";
+
 const RT: &str = r#"
-echo "rt $*" >>"$CALLS"
-[ "$1" = staticlib ] && echo 'the archive is made'
-[ "$1" = ci ] && echo 'first line' && echo 'second line' >&2 && echo '91 passed, 0 failed'
+[ -d .ci ] && folder=top || folder=${PWD##*/}
+echo "rt $* in $folder" >>"$CALLS"
+[ "$1" = lib ] && mkdir -p out && echo 'proved' >out/libnitrasovy_c.a && echo 'all is proved'
+[ "$1" = ci ] && echo 'first line' && echo 'second line' >&2 && echo "$OK" && echo '91 passed, 0 failed'
 exit 0"#;
 
 const CARGO: &str = r#"
@@ -31,9 +39,9 @@ const TESTS: &str =
 /// run until that program has begun.
 static TURN: Mutex<()> = Mutex::new(());
 
-/// A repository with nothing but the gate and two checks.
+/// A repository with nothing but the gate, what it makes the archive by, and two checks.
 struct Trial {
-    folder: PathBuf,
+    folder: Apart,
     _turn: MutexGuard<'static, ()>,
 }
 
@@ -51,12 +59,16 @@ impl Trial {
             return None;
         }
         let turn = TURN.lock().unwrap_or_else(PoisonError::into_inner);
-        let folder = Path::new(env!("CARGO_TARGET_TMPDIR")).join(format!("gate-{name}"));
-        let _ = fs::remove_dir_all(&folder);
-        for part in [".ci", "checks", "bin", "elsewhere"] {
+        let folder = Apart::new(&format!("gate {name}"));
+        for part in ["bin", "elsewhere", "crates/nitrasovy_c/src"] {
             fs::create_dir_all(folder.join(part)).unwrap();
         }
-        fs::copy(root.join(".ci/run"), folder.join(".ci/run")).unwrap();
+        for part in [".ci", "checks", "tools"] {
+            fs::create_dir(folder.join(part)).unwrap();
+        }
+        for script in [".ci/run", "tools/archive"] {
+            fs::copy(root.join(script), folder.join(script)).unwrap();
+        }
         for tool in TOOLS {
             symlink(found(tool), folder.join("bin").join(tool)).unwrap();
         }
@@ -82,6 +94,7 @@ impl Trial {
         gate.current_dir(self.folder.join("elsewhere"))
             .env("PATH", self.folder.join("bin"))
             .env("CALLS", self.folder.join("calls"))
+            .env("OK", OK)
             .env("NITRASOVY_LIB", "another");
         gate
     }
@@ -138,13 +151,14 @@ fn all_steps_run_and_the_tally_is_the_last_line() {
     let ran = trial.run();
     ran.ends(0, "91 passed, 0 failed");
     assert_eq!(
-        ran.lines[..3],
-        ["first line", "second line", "91 passed, 0 failed"]
+        ran.lines[..4],
+        ["first line", "second line", OK, "91 passed, 0 failed"]
     );
     ran.says(&[
-        "host: rt staticlib nitrasovy ..",
-        "the archive is made",
-        "host: rt staticlib nitrasovy passed (",
+        "host: tools/archive nitrasovy ..",
+        "all is proved",
+        "the archive is target/staticlib/libnitrasovy.a",
+        "host: tools/archive nitrasovy passed (",
         "host: the tests of the Rust crate and the command ..",
         "test result: ok. 12 passed; 0 failed",
         "host: the tests of the Rust crate and the command passed (",
@@ -157,8 +171,10 @@ fn all_steps_run_and_the_tally_is_the_last_line() {
     ]);
     assert_eq!(
         ran.calls,
-        format!("rt ci\nrt staticlib nitrasovy\n{TESTS} lib=none\n")
+        format!("rt ci in top\nrt lib in nitrasovy_c\n{TESTS} lib=none\n")
     );
+    let archive = trial.folder.join("target/staticlib/libnitrasovy.a");
+    assert_eq!(fs::read_to_string(archive).unwrap(), "proved\n");
 }
 
 #[test]
@@ -181,8 +197,9 @@ fn what_the_proofs_say_is_shown_at_once() {
         return;
     };
     // Waits for the reader of its first line, at most about ten seconds.
-    let rt = "echo 'first line'\nturns=0\nuntil [ -e \"$CALLS\" ] || [ $turns -ge 100 ]; do sleep 0.1; turns=$((turns + 1)); done\n\
-              [ -e \"$CALLS\" ] || exit 4\necho '91 passed, 0 failed'";
+    let rt = "[ \"$1\" = ci ] || { mkdir out; echo proved >out/libnitrasovy_c.a; exit; }\n\
+              echo 'first line'\nturns=0\nuntil [ -e \"$CALLS\" ] || [ $turns -ge 100 ]; do sleep 0.1; turns=$((turns + 1)); done\n\
+              [ -e \"$CALLS\" ] || exit 4\necho \"$OK\"\necho '91 passed, 0 failed'";
     trial.script("bin/rt", rt);
     let mut gate = trial.gate().stdout(Stdio::piped()).spawn().unwrap();
     let mut lines = BufReader::new(gate.stdout.take().unwrap()).lines();
@@ -216,6 +233,61 @@ fn another_last_line_is_no_pass() {
             "gate: rt ci ended with status 0 and not in 'N passed, 0 failed'",
         );
         assert_eq!(ran.calls, "rt ci\n");
+    }
+}
+
+/// An edit that cannot be applied or read shows nothing, and fails nothing in `rt ci`.
+#[test]
+fn a_bad_edit_fails_the_run() {
+    let bad = "gate: rt ci has bad must-fail edits, which no contract refuses";
+    let unread = "gate: rt ci ended with status 0 and has no line 'rt: ok', which tells of bad must-fail edits";
+    for (name, ok, last) in [
+        (
+            "one",
+            "rt: ok; handles allowed: none; must-fail edits: 54 refused, 1 bad; every proof",
+            bad,
+        ),
+        (
+            "many",
+            "rt: ok; handles allowed: none; must-fail edits: 40 refused, 3 of them only by a limit, 15 bad; \
+             done in this run: 2 of the 60 proofs (of crates and of their tests)",
+            bad,
+        ),
+        (
+            "all",
+            "rt: ok; handles allowed: none; must-fail edits: 0 refused, 100 bad",
+            bad,
+        ),
+        ("no-line", "rt: FAILED: text", unread),
+    ] {
+        let Some(trial) = Trial::new(&format!("bad {name}")) else {
+            return;
+        };
+        let rt = format!("echo \"rt $*\" >>\"$CALLS\"\necho '{ok}'\necho '91 passed, 0 failed'");
+        trial.script("bin/rt", &rt);
+        let ran = trial.run();
+        ran.ends(1, last);
+        assert_eq!(ran.calls, "rt ci\n");
+    }
+}
+
+#[test]
+fn no_bad_edit_passes() {
+    for (name, ok) in [
+        (
+            "none",
+            "rt: ok; handles allowed: none; every proof was done in this run",
+        ),
+        (
+            "zero",
+            "rt: ok; handles allowed: none; must-fail edits: 55 refused, 0 bad; every proof was done in this run",
+        ),
+    ] {
+        let Some(trial) = Trial::new(&format!("good {name}")) else {
+            return;
+        };
+        trial.script("bin/rt", &RT.replace("\"$OK\"", &format!("'{ok}'")));
+        trial.run().ends(0, "91 passed, 0 failed");
     }
 }
 
@@ -261,13 +333,13 @@ fn without_the_archive_the_run_fails() {
     let rt = format!("[ \"$1\" = ci ] || exit 2\n{RT}");
     trial.script("bin/rt", &rt);
     let ran = trial.run();
-    ran.ends(1, "host: rt staticlib nitrasovy failed");
+    ran.ends(1, "host: tools/archive nitrasovy failed");
     ran.says(&[
         "host: the tests of the Rust crate and the command: not run, since there is no archive",
         "first ran",
         "second ran",
     ]);
-    assert_eq!(ran.calls, "rt ci\n");
+    assert_eq!(ran.calls, "rt ci in top\n");
 }
 
 #[test]

@@ -1,4 +1,4 @@
--- Laws of `gateLine`, for the code that takes a gate.
+-- Laws of `gate_line`, for the code that takes a gate.
 use Prim.Native.Nat.{ℕ}
 use mathlib.Core.List.{List, [], ◌∷◌}
 use mathlib.Core.Option.{Option, some, none}

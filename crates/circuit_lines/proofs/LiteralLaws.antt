@@ -1,4 +1,4 @@
--- Laws of `literalLine`, for the functions that take a literal or a section of them.
+-- Laws of `literal_line`, for the functions that take a literal or a section of them.
 use Prim.Native.Nat.{ℕ, ◌+◌, ◌≤◌, ◌<◌}
 use mathlib.Core.List.{List, [], ◌∷◌}
 use mathlib.Core.Path.{◌≡◌, refl, ap, ◌∙◌}

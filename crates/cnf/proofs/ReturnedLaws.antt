@@ -1,4 +1,4 @@
--- Laws of `pairsFrom` and `literalsOf`, and: the clauses that stand in the buffers are the clauses.
+-- Laws of `pairs_from` and `literals_of`, and: the clauses that stand in the buffers are the clauses.
 use Prim.Native.Nat.{ℕ, ◌+◌, ◌*◌}
 use mathlib.Core.Path.{◌≡◌, refl, ap, ◌∙◌}
 use mathlib.Core.List.{List, [], ◌∷◌, ◌++◌, append_assoc, append-nil}

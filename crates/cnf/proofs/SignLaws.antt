@@ -1,4 +1,4 @@
--- Laws of `opposite`, `bothSigns`, `cnfWord` and `withoutFalse`.
+-- Laws of `opposite`, `both_signs`, `cnf_word` and `without_false`.
 use Prim.Native.Nat.{ℕ, ◌+◌, ◌-◌, ◌*◌, ◌/◌, ◌%◌, ◌≤◌, ◌<◌}
 use mathlib.Core.Path.{◌≡◌, refl, sym, ap, ◌∙◌}
 use mathlib.Core.Bool.{Bool, true, false, not, ◌||◌, ◌&&◌, cond, or_self_left, or-false}

@@ -1,4 +1,4 @@
--- Laws of `shareGates` and of 17: gates are only added, so one that is too many stays too many.
+-- Laws of `share_gates` and of 17: gates are only added, so one that is too many stays too many.
 use Prim.Native.Nat.{ℕ, ◌+◌, ◌≤◌, ◌<◌}
 use mathlib.Core.Bool.{true, false}
 use mathlib.Core.List.{List, [], ◌∷◌}

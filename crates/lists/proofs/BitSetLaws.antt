@@ -1,4 +1,4 @@
--- Laws of `holds` and `withBit`: sets of numbers kept as bits, 64 in each word.
+-- Laws of `holds` and `with_bit`: sets of numbers kept as bits, 64 in each word.
 use Prim.Native.Nat.{ℕ, suc, ◌+◌, ◌-◌, ◌*◌, ◌/◌, ◌%◌, ◌^◌, ◌≤◌, ◌<◌}
 use mathlib.Core.Path.{◌≡◌, refl, sym, ap, ◌∙◌}
 use mathlib.Core.Bool.{Bool, true, false, not, ◌||◌, or-true, or-false}

@@ -1,4 +1,4 @@
--- Laws of `lengths` and `inOrder`: the loops over pairs of offset and length.
+-- Laws of `lengths` and `in_order`: the loops over pairs of offset and length.
 use Prim.Native.Nat.{ℕ, ◌+◌, ◌-◌, ◌*◌, ◌/◌, ◌≤◌, ◌<◌}
 use mathlib.Core.Bool.{Bool, true, false, cond, ◌&&◌, and-false}
 use mathlib.Core.List.{List, [], ◌∷◌}

@@ -1,4 +1,4 @@
--- Laws of `pairsOf`, `triplesOf` and `words_of`, and the loops over flat words.
+-- Laws of `pairs_of`, `triples_of` and `words_of`, and the loops over flat words.
 use Prim.Native.Nat.{ℕ, zero, suc, ◌+◌, ◌*◌, ◌/◌, ◌%◌, ◌≤◌, ◌<◌}
 use mathlib.Core.Path.{◌≡◌, refl, sym, ap, ◌∙◌}
 use mathlib.Core.Bool.{Bool}

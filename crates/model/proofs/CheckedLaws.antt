@@ -1,4 +1,4 @@
--- Laws of `wellDefined` and `checked`, as the code goes through their tests.
+-- Laws of `well_defined` and `checked`, as the code goes through their tests.
 use Prim.Native.Nat.{ℕ, ◌*◌, ◌/◌, ◌<◌, ◌≤◌}
 use mathlib.Core.Bool.{Bool, true, false, not, ◌&&◌, and-true}
 use mathlib.Core.List.{List, [], ◌++◌, map}

@@ -34,7 +34,7 @@ use Rattle.model.proofs.CountLaws.{counted_facts}
 abbrev pub Literals : ℕ → List ℕ → Type 0
 Literals most ls = Each (λ l. l ≤ 2 * most + 1) ls
 
--- what `wellDefined` says
+-- what `well_defined` says
 pub record WellDefined (c : Circuit) : Type 0 where
   pub once : defined c.variables (leaves_of c) c.gates ≡ true
   pub nexts : Literals c.variables (nexts_of c)

@@ -1,4 +1,4 @@
--- Laws of `headerOf`, for the code that takes the header.
+-- Laws of `header_of`, for the code that takes the header.
 use Prim.Native.Nat.{ℕ}
 use mathlib.Core.List.{List, [], ◌∷◌}
 use mathlib.Core.Option.{Option, some, none}

@@ -1,4 +1,4 @@
--- Laws of `initializer` and `latchLine`, for the code that takes a latch.
+-- Laws of `initializer` and `latch_line`, for the code that takes a latch.
 use Prim.Native.Nat.{ℕ}
 use mathlib.Core.Bool.{Bool, true, false}
 use mathlib.Core.List.{List, [], ◌∷◌}

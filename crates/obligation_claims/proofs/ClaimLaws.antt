@@ -88,7 +88,7 @@ module _ (keys ls : List ℕ) (h : length ls ≤ 64) (e : keys ≡ sorted (keys_
 
 -- ---- outcomes
 
--- the literals of an outcome, as `outcomeList` of crate `obligation_spec` has them
+-- the literals of an outcome, as `outcome_list` of crate `obligation_spec` has them
 abbrev pub differing_outcome : List ℕ → List ℕ → Outcome → List ℕ
 differing_outcome nexts observed o = differing nexts (bits (length nexts) o.target) ++ differing observed (output_bits o)
 

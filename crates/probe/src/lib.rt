@@ -12,8 +12,8 @@ ghost use Rattle.text_decimal.specs.Decimal.{decimal};
 ghost use Rattle.text_decimal.specs.Inner.Writing.{written, written_at};
 ghost use Rattle.probe.specs.Inner.Flat.{reader_of, flat_number, flat_literal, flat_line, flat_field, flat_written, cursor_at};
 
-mod models;
-mod witnesses;
+pub mod models;
+pub mod witnesses;
 
 use text::{Cursor, Field, Line, Literal, Number, Reader};
 use text_decimal::Written;

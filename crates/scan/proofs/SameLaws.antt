@@ -1,4 +1,4 @@
--- Laws of `sameBytes` and `beginsWith`: the loops that compare (n is what the invariant says of i), and what the answers mean.
+-- Laws of `same_bytes` and `begins_with`: the loops that compare (n is what the invariant says of i), and what the answers mean.
 use Prim.Native.Nat.{ℕ, ◌+◌, ◌≤◌, ◌<◌}
 use mathlib.Core.Path.{◌≡◌, refl, ap}
 use mathlib.Core.List.{List, [], ◌∷◌, ◌++◌}
@@ -28,7 +28,7 @@ module _ (a b : List ℕ) (i : ℕ) (n : Bool) (k : n ≡ same_bytes (drop i a) 
   pub same_end : length a ≤ i → leb (length b) i ≡ n
   same_end h = all h (leb (length b) i) refl
 
--- `beginsWith` in the same way
+-- `begins_with` in the same way
 module _ (s w : List ℕ) (i : ℕ) (n : Bool) (k : n ≡ begins_with (drop i s) (drop i w)) where
   pub begins-short : i < length w → length s ≤ i → false ≡ n
   begins-short h g = rw (k, drop-cons w i 0 h, drop_of_length-le s g)

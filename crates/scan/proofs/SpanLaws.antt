@@ -40,7 +40,7 @@ module _ (p : ℕ → Bool) (s : List ℕ) (i n : ℕ) where
   pub span-over : n ≡ i + span p (drop i s) → length s ≤ i → i ≡ n
   span-over k h = sym (k ∙ span-end p s i h)
 
--- what a test of the code says of `inLine`
+-- what a test of the code says of `in_line`
 pub line-goes : (b : ℕ) → (b ≡ 10 → ⊥) → in_line b ≡ true
 line-goes b h = simp (ne_eqb b 10 h)
 

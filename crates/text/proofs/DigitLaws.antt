@@ -1,4 +1,4 @@
--- `digitsAfter` at a position of a field: one step of the loop that reads it.
+-- `digits_after` at a position of a field: one step of the loop that reads it.
 use Prim.Native.Nat.{ℕ, suc, ◌+◌, ◌-◌, ◌*◌, ◌/◌, ◌^◌, ◌≤◌, ◌<◌}
 use mathlib.Core.Path.{◌≡◌, refl, ap, sym, ◌∙◌}
 use mathlib.Core.List.{List, [], ◌∷◌}

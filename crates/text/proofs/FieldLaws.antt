@@ -1,4 +1,4 @@
--- Laws of `isBlank` and `field_at`: their cases for the code that finds fields, and what `field_at` says of `fields_of`.
+-- Laws of `is_blank` and `field_at`: their cases for the code that finds fields, and what `field_at` says of `fields_of`.
 use Prim.Native.Nat.{ℕ, ◌+◌, ◌≤◌, ◌<◌}
 use mathlib.Core.Path.{◌≡◌, refl, ap, sym, ◌∙◌}
 use mathlib.Core.Bool.{and-false, or-false, Bool, true, false}

@@ -1,4 +1,4 @@
--- Laws of `takenAt` and `literalAt`: their cases for the code, and what they say of the numbers of a line and of the lines of a text.
+-- Laws of `taken_at` and `literal_at`: their cases for the code, and what they say of the numbers of a line and of the lines of a text.
 use Prim.Native.Nat.{ℕ, ◌+◌, ◌≤◌, ◌<◌}
 use mathlib.Core.List.{List, [], ◌∷◌}
 use mathlib.Core.Option.{Option, some, none}

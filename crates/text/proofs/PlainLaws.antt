@@ -1,4 +1,4 @@
--- Laws of `IsRun`: the loop that reads plain digits, the tests behind it, and what they say of `takenAt` and of a plain number.
+-- Laws of `IsRun`: the loop that reads plain digits, the tests behind it, and what they say of `taken_at` and of a plain number.
 use Prim.Native.Nat.{ℕ, zero, suc, ◌+◌, ◌-◌, ◌*◌, ◌^◌, ◌≤◌, ◌<◌, min}
 use mathlib.Core.Path.{◌≡◌, refl, ap, sym, ◌∙◌}
 use mathlib.Core.Bool.{Bool, true, false}

@@ -1,4 +1,4 @@
--- Lines of plain numbers: what plain numbers that stand one after the other say of the lines and of `literalAt`.
+-- Lines of plain numbers: what plain numbers that stand one after the other say of the lines and of `literal_at`.
 use Prim.Native.Nat.{ℕ, ◌+◌, ◌≤◌, ◌<◌}
 use mathlib.Core.Path.{◌≡◌, refl, ap, sym, ◌∙◌}
 use mathlib.Core.Bool.{Bool, true}

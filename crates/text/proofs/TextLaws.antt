@@ -1,4 +1,4 @@
--- Laws of `goodText`: its cases for the code, and with and without limits.
+-- Laws of `good_text`: its cases for the code, and with and without limits.
 use Prim.Native.Nat.{◌≤◌, ◌<◌}
 use mathlib.Core.Path.{◌≡◌, sym}
 use mathlib.Core.List.{[], ◌∷◌}

@@ -1,4 +1,4 @@
--- Laws of `plainComment` and `plainComments`, for the code that looks at the comment lines.
+-- Laws of `plain_comment` and `plain_comments`, for the code that looks at the comment lines.
 use Prim.Native.Nat.{ℕ}
 use mathlib.Core.Bool.{Bool, true, false, not}
 use mathlib.Core.Path.{◌≡◌, sym, ap, ◌∙◌}

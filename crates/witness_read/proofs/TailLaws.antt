@@ -1,4 +1,4 @@
--- Laws of `tailOf` and `symbolsOf`, for the loop that takes the symbol lines one at a time.
+-- Laws of `tail_of` and `symbols_of`, for the loop that takes the symbol lines one at a time.
 use Prim.Native.Nat.{ℕ, suc, ◌-◌, ◌<◌}
 use mathlib.Core.Bool.{Bool, true, false}
 use mathlib.Core.List.{List, [], ◌∷◌, ◌++◌, append_assoc, append-nil}

@@ -1,4 +1,4 @@
--- Laws of `latchLine`, for the code that takes a latch.
+-- Laws of `latch_line`, for the code that takes a latch.
 use Prim.Native.Nat.{ℕ, ◌≤◌, ◌<◌}
 use mathlib.Core.List.{List, [], ◌∷◌}
 use mathlib.Core.Option.{Option, some, none}

@@ -1,4 +1,4 @@
--- Laws of `kind_of`, `beforeSpace` and `symbol_of`, for the code that takes a symbol line apart, and for its callers.
+-- Laws of `kind_of`, `before_space` and `symbol_of`, for the code that takes a symbol line apart, and for its callers.
 use Prim.Native.Nat.{ℕ, zero, suc, ◌+◌, ◌-◌, ◌≤◌, ◌<◌}
 use mathlib.Core.Bool.{true, false}
 use mathlib.Core.List.{[], ◌∷◌}

@@ -16,7 +16,7 @@ fn an_import_from_an_inner_is_found() {
         "believed",
         "inner-import",
         "crates/model/specs/Circuit.antt",
-        "use Rattle·model·specs.specs.Inner.Marking.{marked}",
+        "use Rattle.model.specs.Inner.Marking.{marked}",
         "crates/model/specs/Circuit.antt",
     );
 }
@@ -26,9 +26,10 @@ fn an_export_that_names_an_inner_definition_is_found() {
     finds(
         "believed",
         "inner-promise",
-        "crates/nitrasovy/src/obligations.rt",
-        "pub extern \"C\" fn nit_wrong() -> u64\n    ensures { λ r. ⌜ r ≡ flatSizes ⌝ }\n{",
-        "flatSizes",
+        "crates/nitrasovy_c/src/lib.rt",
+        "ghost use Rattle.nitrasovy.specs.Inner.FlatEnums.{flat_sizes};\n\
+         pub extern \"C\" fn nit_wrong() -> u64\n    ensures { result ≡ flat_sizes }\n{",
+        "flat_sizes",
     );
 }
 

@@ -11,6 +11,8 @@ fn exports_are_declared_alike() {
 fn an_export_that_is_declared_otherwise_is_found() {
     let header = "include/nitrasovy.h";
     let literals = "crates/nitrasovy/src/literals.rt";
+    let exports = "crates/nitrasovy_c/src/lib.rt";
+    let probes = "crates/probe_c/src/lib.rt";
     let changes = [
         (
             header,
@@ -49,17 +51,65 @@ fn an_export_that_is_declared_otherwise_is_found() {
             "struct NitTransition",
         ),
         (
-            literals,
+            exports,
             "cursor: &mut NitCursor",
             "cursor: &NitCursor",
             "call nit_take_literal ",
         ),
         (literals, "#[repr(C)]", "", "has a struct NitCursor, and"),
         (
-            literals,
-            "#[no_mangle]",
+            exports,
+            "#[unsafe(no_mangle)]",
             "",
             "not both public and no_mangle",
+        ),
+        (
+            literals,
+            "#[unsafe(no_mangle)]",
+            "",
+            "nitrasovy_c has not the nit_take_literal of",
+        ),
+        (
+            literals,
+            "cursor: &mut NitCursor",
+            "cursor: &NitCursor",
+            "nitrasovy_c has not the nit_take_literal of",
+        ),
+        (
+            exports,
+            "(length work.old) state input)",
+            "(length work.old) input state)",
+            "nitrasovy_c has not the nit_step of",
+        ),
+        (
+            exports,
+            "Rattle.lists.specs.Words.{words_of}",
+            "Rattle.lists.specs.Bits.{words_of}",
+            "nitrasovy_c has not the nit_step_records of",
+        ),
+        (
+            exports,
+            "{CountsFlat}",
+            "{CountsWidely as CountsFlat}",
+            "nitrasovy_c has not the nit_read_witness of",
+        ),
+        (
+            exports,
+            "    ensures { CountsFlat",
+            "    requires { witness ≡ true }\n    ensures { CountsFlat",
+            "nitrasovy_c has not the nit_read_witness of",
+        ),
+        (
+            probes,
+            "fn probe_same(",
+            "fn probe_sames(",
+            "probe_c has not the probe_same of",
+        ),
+        (
+            probes,
+            "{ result ≡ length (decimal n) }",
+            "{ result ≡ length (decimal result) }",
+            "probe_c has not the probe_decimal_length of",
         ),
         (
             "bindings/rust/src/library.rs",

@@ -1,11 +1,14 @@
 //! Runs the repository's own text checks, and shows that each finds what it is there for.
 
+#[path = "../apart/mod.rs"]
+mod apart;
 mod believed;
 mod exports;
 mod lines;
 mod names;
 mod numbered;
 
+use apart::Apart;
 use std::collections::BTreeSet;
 use std::fs;
 use std::path::{Path, PathBuf};
@@ -25,9 +28,8 @@ fn check(name: &str, root: &Path, of: &Path) -> Output {
 }
 
 /// A folder of its own for each trial, with the repository's files.
-fn trial(root: &Path, name: &str) -> PathBuf {
-    let trial = Path::new(env!("CARGO_TARGET_TMPDIR")).join(name);
-    let _ = fs::remove_dir_all(&trial);
+fn trial(root: &Path, name: &str) -> Apart {
+    let trial = Apart::new(name);
     copy(root, &trial);
     trial
 }
@@ -38,7 +40,7 @@ fn copy(from: &Path, to: &Path) {
         let (from, name) = entry
             .map(|entry| (entry.path(), entry.file_name()))
             .unwrap();
-        if name == "target" || name == ".git" {
+        if name == "target" || name == "out" || name == ".git" {
             continue;
         }
         if from.is_dir() {
@@ -96,9 +98,8 @@ fn finds_each(name: &str, trial_name: &str, changes: &[(&str, &str, &str, &str)]
 }
 
 /// A folder with these files alone.
-fn sample(name: &str, files: &[(&str, &str)]) -> PathBuf {
-    let folder = Path::new(env!("CARGO_TARGET_TMPDIR")).join(name);
-    let _ = fs::remove_dir_all(&folder);
+fn sample(name: &str, files: &[(&str, &str)]) -> Apart {
+    let folder = Apart::new(name);
     for (file, text) in files {
         let file = folder.join(file);
         fs::create_dir_all(file.parent().unwrap()).unwrap();
@@ -139,7 +140,9 @@ fn without_awk_each_check_fails() {
     let folder = sample("awk", &[("readme", "")]);
     std::os::unix::fs::symlink("/bin/false", folder.join("awk")).unwrap();
     let path = std::env::var_os("PATH").unwrap();
-    let folders = [folder].into_iter().chain(std::env::split_paths(&path));
+    let folders = [folder.to_path_buf()]
+        .into_iter()
+        .chain(std::env::split_paths(&path));
     let path = std::env::join_paths(folders).unwrap();
     for check in fs::read_dir(root.join("checks")).unwrap() {
         let check = check.unwrap().path();

@@ -15,8 +15,8 @@ fn the_first_start_builds_and_the_second_does_not() {
     assert_eq!(
         first.error,
         "nitrasovy: proving the library: from nothing ten to fifteen minutes; crates that are proved already are \
-         not proved again\n  proved 2 of 3: model (2 s)\n  proved 3 of 3: nitrasovy\nnitrasovy: building the \
-         command: under a minute\n"
+         not proved again\n  proved 2 of 4: model\n  proved 3 of 4: nitrasovy\n  proved 4 of 4: nitrasovy_c\n\
+         nitrasovy: building the command: under a minute\n"
     );
     assert_eq!(first.ran(), "over lists\nmodel\n<> in its root\n");
     assert_eq!(trial.calls(), "RC");
@@ -41,15 +41,16 @@ fn what_the_library_rests_on_makes_it_stale() {
     trial.write("crates/lists/src/lib.rt", "other\n");
     assert!(trial.start().ran().starts_with("over other\nmodel\n"));
     assert_eq!(trial.calls(), "RC");
-    let edits: [&dyn Fn(); 6] = [
+    let edits: [&dyn Fn(); 7] = [
         &|| trial.write("crates/model/specs/Two.antt", "text\n"),
         &|| fs::remove_file(root.join("crates/model/specs/Two.antt")).unwrap(),
+        &|| trial.write("crates/nitrasovy_c/src/lib.rt", "other\n"),
         &|| fs::remove_dir_all(root.join("crates/nitrasovy/proofs")).unwrap(),
         &|| trial.write("crates/nitrasovy/proofs/one.antt", "text\n"),
         &|| {
             trial.write(
                 "crates.txt",
-                "lists:\nmodel: lists\nnitrasovy: lists model\n",
+                "lists:\nmodel: lists\nnitrasovy: lists model\nnitrasovy_c staticlib: lists model nitrasovy\n",
             )
         },
         // As unpacked from an old archive.
@@ -81,6 +82,7 @@ fn what_it_does_not_rest_on_does_not() {
         "crates/probe/src/lib.rt",
         "crates/model/must-fail/one.edit",
         "crates/model/must-fail/two.edit",
+        "crates/model/out/rlib/stamp",
         "README.md",
         "docs/PROVED.md",
         "bindings/rust/README.md",

@@ -1,5 +1,6 @@
 //! A small repository for each trial, with scripts in the place of `rt` and `cargo`.
 
+use crate::apart::Apart;
 use std::fs;
 use std::os::unix::fs::{PermissionsExt, symlink};
 use std::path::{Path, PathBuf};
@@ -14,19 +15,33 @@ static ALONE: Mutex<()> = Mutex::new(());
 
 /// All that the script and the trial's own scripts call; there is nothing else on their path.
 const TOOLS: &str = "sh sed find cat touch rm mkdir mkfifo flock setsid readlink tar gzip env cp mv \
-                     sleep chmod ls";
+                     dirname sleep chmod ls";
 
-/// What `TRIAL` says decides what it does. The archive has the sources that it was made from.
+/// What `TRIAL` says decides what it does. Of `lists`, which is proved already, it says nothing. The
+/// archive has the sources that it was made from.
 const RT: &str = r#"#!/bin/sh
-echo "rt $*" >>calls
-archive=target/staticlib/libnitrasovy.a
-mkdir -p target/staticlib
-echo "fn lists::first: proved" >&2
-echo "rt: lists proved (unchanged since it was last proved)" >&2
+echo "rt $* in ${PWD##*/}" >>../../calls
+cd ../..
+archive=crates/nitrasovy_c/out/libnitrasovy_c.a
+mkdir -p crates/nitrasovy_c/out
+crate() {
+    echo "rt: chose --jobs 2 for $1"
+    echo "fn $1::first: proved"
+}
+proved() {
+    echo "logic logic/antt-project.json: libraries=16 files=2756 sum=dac8208d"
+    echo "statements core: modules loaded=222 checked=0"
+    echo "library lists: modules loaded=25 checked=0"
+    echo "crate $1: modules loaded=0 checked=71"
+    echo "logic=proved functions=1 sum=dac8208d libraries-built=trusted"
+}
+crate model
 case ${TRIAL:-} in
 fail)
-    echo "error: the promise of model::second does not hold"
-    echo "rt: model NOT PROVED (exit 1, 2 s)"
+    echo "fn model::second: no proof: \`search\` did not prove \`returns\`"
+    proved model | sed 's/^logic=proved .*/logic=not-proved/'
+    echo "rattle build: nothing was built, since only a proved crate is built"
+    echo "rt: the library model did not build, so nothing above it was checked" >&2
     exit 1 ;;
 hang)
     echo half >$archive
@@ -34,10 +49,12 @@ hang)
 edit) sleep 0.05; echo "// meant otherwise" >>crates/lists/src/lib.rt ;;
 slow) sleep 0.4 ;;
 esac
-echo "rt: model proved (2 s)" >&2
-echo "logic=proved functions=1"
+proved model
+for name in nitrasovy nitrasovy_c; do
+    crate $name
+    proved $name
+done
 cat crates/lists/src/lib.rt crates/model/src/lib.rt >$archive
-echo "rt: $archive has the functions of nitrasovy"
 "#;
 
 /// The command that it makes tells the archive, its words, its folder and its standard input.
@@ -65,13 +82,25 @@ echo "${NITRASOVY_LIB:-none}" >named
 chmod +x $command
 "#;
 
-pub const RT_CALL: &str = "rt staticlib nitrasovy";
+/// What the script makes the archive by.
+const ARCHIVE: &str = "tools/archive";
+const CRATES: &str = "\
+# All.
+lists:
+model: lists
+nitrasovy: lists model
+nitrasovy_c staticlib: lists model nitrasovy # exports
+probe: lists model nitrasovy
+";
+
+pub const RT_CALL: &str = "rt lib in nitrasovy_c";
 pub const CARGO_CALL: &str = "cargo build --release --offline --manifest-path bindings/rust/Cargo.toml --bin \
                           nitrasovy --target-dir target/rust";
 
 pub struct Trial {
     pub root: PathBuf,
     pub tools: PathBuf,
+    _place: Apart,
     _alone: MutexGuard<'static, ()>,
 }
 
@@ -125,11 +154,11 @@ impl Trial {
             let alone = ALONE
                 .lock()
                 .unwrap_or_else(|poisoned| poisoned.into_inner());
-            let place = Path::new(env!("CARGO_TARGET_TMPDIR")).join(format!("start {name}"));
-            let _ = fs::remove_dir_all(&place);
+            let place = Apart::new(&format!("start {name}"));
             let trial = Self {
                 root: place.join("its root"),
                 tools: place.join("tools"),
+                _place: place,
                 _alone: alone,
             };
             trial.furnish(&script);
@@ -154,11 +183,10 @@ impl Trial {
         }
         self.put("README.md", "Read me.\n");
         fs::copy(script, self.root.join("nitrasovy")).unwrap();
-        self.put(
-            "crates.txt",
-            "# All.\nlists:\nmodel: lists\nnitrasovy: lists model # exports\nprobe: lists model nitrasovy\n",
-        );
-        for name in ["lists", "model", "nitrasovy", "probe"] {
+        self.put(ARCHIVE, "");
+        fs::copy(script.with_file_name(ARCHIVE), self.root.join(ARCHIVE)).unwrap();
+        self.put("crates.txt", CRATES);
+        for name in ["lists", "model", "nitrasovy", "nitrasovy_c", "probe"] {
             self.put(&format!("crates/{name}/src/lib.rt"), &format!("{name}\n"));
             for part in ["specs/One.antt", "proofs/one.antt", "must-fail/one.edit"] {
                 self.put(&format!("crates/{name}/{part}"), "text\n");

@@ -12,15 +12,20 @@ fn what_is_not_proved_is_not_run() {
     trial.write("crates/model/src/lib.rt", "wrong\n");
     for _ in 0..2 {
         let shown = trial.start_with("TRIAL", "fail");
-        assert!(!shown.error.contains("lists"), "{}", shown.error);
+        for part in ["lists", "model::first", "logic"] {
+            assert!(!shown.error.contains(part), "{part}: {}", shown.error);
+        }
         shown.stopped(&[
-            "\nerror: the promise of model::second does not hold\nrt: model NOT PROVED (exit 1, 2 s)\n",
+            "\nfn model::second: no proof: `search` did not prove `returns`\n\
+             rattle build: nothing was built, since only a proved crate is built\n\
+             rt: the library model did not build, so nothing above it was checked\n",
             "the library was not proved, and nothing was run",
             "its root/target/start/proving.log has all that rt said",
         ]);
     }
     let log = fs::read_to_string(trial.root.join("target/start/proving.log")).unwrap();
-    assert!(log.starts_with("fn lists::first: proved\n"), "{log}");
+    let start = "rt: chose --jobs 2 for model\nfn model::first: proved\n";
+    assert!(log.starts_with(start), "{log}");
     trial.calls();
     assert!(trial.start().ran().starts_with("over lists\nwrong\n"));
     assert_eq!(trial.calls(), "RC");

@@ -66,7 +66,7 @@ pub record CanNumber (origins count assigned size before vars next : ℕ) (work 
 abbrev pub numbers_in : (origins count assigned size before next : ℕ) → List ℕ → Numbers
 numbers_in origins count assigned size before next work = number_all before next (part work origins (origins + count)) (part work assigned (assigned + size))
 
--- The promise: the next number, the assigned numbers and the numbers are those of `numberAll`, and all other words are as they were.
+-- The promise: the next number, the assigned numbers and the numbers are those of `number_all`, and all other words are as they were.
 pub record Numbered (origins count assigned size before vars next : ℕ) (work work' : List ℕ) (r : ℕ) : Type 0 where
   pub returns : r ≡ (numbers_in origins count assigned size before next work).next
   pub words :
