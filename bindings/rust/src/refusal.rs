@@ -3,40 +3,37 @@
 use std::error::Error;
 use std::fmt;
 
-/// The number of the first reason that applies: 16 is R9.16 of `docs/REQUIREMENTS.md`.
+/// The number of the first reason that applies, out of the 20 of `docs/REQUIREMENTS.md`: 16 is R9.16.
 #[derive(Clone, Copy, Debug, Eq, Hash, PartialEq)]
 pub struct Refusal(u8);
 
 /// The sentences, by number less 1.
 const SENTENCES: [&str; 20] = [
-    "a composition is of 2 to 64 witnesses",
-    "the witnesses' texts overlap, come out of order, or end outside their buffer",
-    "the text is longer than 16,777,216 bytes or has a byte over 127; or, for a witness or the model of \
-     a composition, it is empty, has a byte 13, or does not end with a line feed",
-    "the first line is not a header: 'aag' and five numbers for a lock, or five to nine for a witness \
-     or the model of a composition",
+    "there are fewer than 2 or more than 64 witnesses",
+    "a witness starts before the end of the one ahead of it, or runs past the end of the buffer",
+    "the text has more than 16,777,216 bytes or a byte above 127; or, for a witness or the model of \
+     a composition, it is empty, has a byte 13, or its last line is not ended by a line feed",
+    "the first line is not 'aag' and as many readable numbers as are taken: five of a lock, five to \
+     nine of a witness or the model of a composition",
     "the counts in the first line do not add up, or are beyond the limits",
     "the justice or fairness count is not 0",
     "there is too little memory lent for the gates or for the work",
-    "the sections lack a line, or one of their lines has the wrong number of fields, a number that \
-     cannot be read, or a wrong initial value",
-    "a symbol line is malformed, of no known kind, beyond its section, or a second name for an input or \
-     a latch",
+    "a line of a section is missing, has too few or too many fields, an unreadable number or a bad \
+     initial value",
+    "a symbol line has the wrong form, kind or index, or names an input or latch a second time",
     "the first word of a witness's comment line is MAPPING or INTERVENTION",
-    "a literal is too large or in the wrong place, a variable has two definitions, or the model breaks \
-     the limits",
+    "a literal is out of range or order, a variable is defined twice, or the model breaks the limits",
     "the state is not one of the model's, or the input word has a bit beyond the model's inputs",
     "the list of inputs for the predicate is not strictly rising or names an input that the model \
      lacks, or the predicate is too long or speaks of an input outside that list",
-    "a state or an output is not one of the model's, a list does not rise strictly, an outcome has a \
-     bit set past those of the observed outputs (bit k is that of the k-th of them), or the outcomes \
-     are too many",
+    "a state or an output is not one of the model's, a list is not strictly rising, an outcome has \
+     a bit beyond the observed outputs, or there are too many outcomes",
     "there is too little memory for the work of composing",
-    "a name that maps to the model ('= ' and a literal) is unreadable, or its literal is not the plain \
-     one of an input of the model, for an input, or of a latch, for a latch",
+    "a name that maps to the model ('= ' and a literal) is unreadable, or its literal is 0, odd, \
+     absent from the model or of another kind there",
     "the composition would have a gate with a variable above 2,000,000",
-    "two definitions of a latch that is shared differ in its next or its reset literal",
-    "a witness has neither bads nor outputs",
+    "a latch that witnesses share gets two different next or reset literals",
+    "a witness has no bad and no output",
     "the result needs more room than there is",
 ];
 
@@ -140,7 +137,7 @@ mod tests {
         let refusal = Refusal::of(19).expect("a refusal");
         assert_eq!(
             refusal.to_string(),
-            "refused 19: a witness has neither bads nor outputs"
+            "refused 19: a witness has no bad and no output"
         );
         let error = crate::composed_witness::ComposedWitnessError(refusal);
         assert_eq!(error.to_string(), refusal.to_string());

@@ -1,4 +1,4 @@
--- What a test made of tests says of them, and which way a test goes. (`Bool·not-not`, `and-true`, .. are in `mathlib.Core.Bool`.)
+-- What a test made of tests says of them, and which way a test goes. (`not-not`, `and-true`, .. are in `mathlib.Core.Bool`.)
 use Prim.Native.Nat.{ℕ, ◌+◌, ◌≤◌, ◌<◌}
 use mathlib.Core.Path.{◌≡◌, refl, sym, ◌∙◌}
 use mathlib.Core.Bool.{Bool, true, false, not, ◌&&◌, ◌||◌, xor, cond, true≢false}

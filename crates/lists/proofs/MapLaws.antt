@@ -1,4 +1,4 @@
--- Laws of `map`. (`length-map`, `List·getD-map` are in `lib.ListN`, `map-map`, `map-append` in `mathlib.Core.List`.)
+-- Laws of `map`. (`length-map`, `get_or-map` are in `lib.ListN`, `map-map`, `map-append` in `mathlib.Core.List`.)
 use Prim.Native.Nat.{ℕ, zero, suc, ◌<◌}
 use mathlib.Core.List.{List, [], ◌∷◌, map}
 use mathlib.Core.Path.{◌≡◌, refl}

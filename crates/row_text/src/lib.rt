@@ -167,7 +167,7 @@ fn print_row(
     out: &mut [u8],
 ) -> usize
     requires { 21 * (length pairs.old + length literals.old) + 29 ≤ length out.old }
-    ensures { Wrote out.old 0 (printed (relation_row (bare model gates.now) source targets.now (record { work = length work.entry.now; pairs = length pairs.old; literals = length literals.old }))) out.new result }
+    ensures { Wrote out.old 0 (printed (relation_row (bare model gates.now) source targets.now (record { work = length work.old; pairs = length pairs.old; literals = length literals.old }))) out.new result }
 {
     let none = [0u32; 1];
     let made = obligation::relation_row_completeness_cnf(

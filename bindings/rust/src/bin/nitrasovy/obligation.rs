@@ -29,7 +29,7 @@ pub fn row(arguments: &Arguments) -> Result<(), Failure> {
         let outcomes = read_all(arguments, claims, numbers::outcome)?;
         let about = format!(
             "row from {} to {} claimed outcomes, with observed outputs {}.\nThe clauses are \
-             unsatisfiable exactly when every {any} leads to a target that is claimed with its outputs.\n",
+             unsatisfiable exactly when every {any} leads to a claimed target with its outputs.\n",
             model::state(source),
             outcomes.len(),
             model::states(&observed)

@@ -81,7 +81,7 @@ fn write_model(out: &mut dyn Write, model: &AigerTransition) -> io::Result<()> {
     let states = model.state_count();
     writeln!(
         out,
-        "\nIts states are 0 to {}: latch k is bit k of a state.",
+        "\nIts states are 0 to {}: bit k of a state is latch k.",
         states - 1
     )?;
     writeln!(
