@@ -3,7 +3,9 @@
 
 usage: python3 tools/port_proofs.py NAMES [CRATE..]     at the top of the repository, after `rt names NAMES`
 
-What stays for a hand has a line `left:`. It removes each Proof.antt that it turned whole.
+A need's name and place come from the names; `c.before.before.x.y` becomes the step and field that it stands for, and a helper over a
+place becomes one over the record of that place. What stays for a hand has a line `left:`. It removes each Proof.antt that it turned whole.
+By hand came after it: imports of places from `Goals`, records in place of tuples for several `requires`, and the four walks.
 """
 import glob
 import json
@@ -332,7 +334,7 @@ def turn(path, names):
             turned = fn.body(term, {var: (place, [])}, place)
         except Left as why:
             problems.append(f"{new} ({arg[:40]}): {why}")
-            turned = "?  -- " + " ".join(term.split()) if False else "?"
+            turned = "?"
         if "?auto" in turned:
             problems.append(f"{new}: {re.findall(r'[?]auto[^ )]*', turned)}")
         turned = re.sub(r"\n[ \t]*(?=\n)", "", "\n" + turned.strip() if "\n" in turned.strip() else " " + turned.strip())

@@ -5,6 +5,7 @@ use crate::table::Kept;
 use std::fs;
 use std::io;
 use std::path::PathBuf;
+use std::process::Command;
 use std::thread::available_parallelism;
 use std::time::{SystemTime, UNIX_EPOCH};
 
@@ -22,7 +23,7 @@ First ten of the rows in plain words: calls of every kind, small and large, and 
 /// Writes the page, and says where.
 pub fn write(kept: &Kept) -> io::Result<PathBuf> {
     let cores = available_parallelism().map_or(1, usize::from);
-    let measured = format!("{}, {}, {cores} cores", date(), processor());
+    let measured = format!("{}, {}, {}, {cores} cores", date(), kit(), processor());
     let page = page(&measured, kept).map_err(io::Error::other)?;
     let path = path();
     fs::write(&path, page)?;
@@ -43,6 +44,18 @@ fn page(measured: &str, Kept { tables, rows }: &Kept) -> Result<String, String> 
 
 fn path() -> PathBuf {
     concat!(env!("CARGO_MANIFEST_DIR"), "/../docs/BENCHMARKS.md").into()
+}
+
+/// The kit that the library was proved and compiled with.
+fn kit() -> String {
+    let told = Command::new("rt").arg("version").output();
+    let told = told.map_or(String::new(), |it| {
+        String::from_utf8_lossy(&it.stdout).into_owned()
+    });
+    told.split_whitespace()
+        .next()
+        .unwrap_or("an unknown kit")
+        .into()
 }
 
 /// The kind of processor, where the system tells it.
