@@ -2,3 +2,4 @@
 pub mod Gates
 pub mod Defined
 pub mod Sections
+pub mod Refusals
