@@ -5,8 +5,10 @@ use mathlib.Core.List.{[], ◌∷◌}
 use mathlib.Core.Bool.{Bool, true, false, cond, not, and-false, and-true}
 use native.Mathlib.Omega.{arith}
 use lib.Dec.{eqb, leb}
-use lib.ListN.{length, get_or}
+use lib.ListN.{length}
+use Rattle.std.specs.List.{ends_with}
 use Rattle.lists.specs.Parts.{Bytes}
+use Rattle.lists.proofs.BoolLaws.{eqb_swap}
 use Rattle.scan.specs.Spans.{in_line}
 use Rattle.scan.specs.Allowed.{is_witness_byte, ends_in10}
 
@@ -26,16 +28,12 @@ witness_rank b = go (eqb b 13) refl
     go true e = simp (e, and-false)
     go false e = simp (e, and-true)
 
--- ---- the last byte
+-- ---- the last byte, as std's `ends_with` looks at it
 
-pub ends-empty : (t : Bytes) → length t ≡ 0 → false ≡ ends_in10 t
-ends-empty [] h = refl
-ends-empty (b ∷ bs) h = absurd (omega arith)
-
-ends_at : (b : ℕ) (bs : Bytes) → eqb (get_or (b ∷ bs) (length bs) 0) 10 ≡ ends_in10 (b ∷ bs)
-ends_at b [] = refl
-ends_at b (c ∷ bs) = ends_at c bs
-
-pub ends_last : (t : Bytes) → (length t ≡ 0 → ⊥) → eqb (get_or t (length t - 1) 0) 10 ≡ ends_in10 t
-ends_last [] h = absurd (h refl)
-ends_last (b ∷ bs) h = let e : suc (length bs) - 1 ≡ length bs = omega arith in rw e (ends_at b bs)
+pub ends-std : (t : Bytes) → ends_with eqb t (10 ∷ []) ≡ ends_in10 t
+ends-std [] = refl
+ends-std (b ∷ []) = rw (eqb_swap 10 b, and-true (eqb b 10)) refl
+ends-std (b ∷ c ∷ bs) =
+    let e : suc (suc (length bs)) - 1 ≡ suc (length bs) = omega arith in
+    let f : suc (length bs) - 1 ≡ length bs = omega arith in
+    rw e (rw f at (ends-std (c ∷ bs)))
