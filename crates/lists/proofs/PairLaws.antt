@@ -1,6 +1,6 @@
 -- Laws of `lengths` and `in_order`: the loops over pairs of offset and length.
 use Prim.Native.Nat.{ℕ, ◌+◌, ◌-◌, ◌*◌, ◌/◌, ◌≤◌, ◌<◌}
-use mathlib.Core.Bool.{Bool, true, false, cond, ◌&&◌, and-false}
+use mathlib.Core.Bool.{Bool, true, false, cond, ◌&&◌}
 use mathlib.Core.List.{List, [], ◌∷◌}
 use mathlib.Core.Path.{◌≡◌, refl, sym, ap, ◌∙◌}
 use native.Mathlib.Omega.{arith}
@@ -54,10 +54,6 @@ module _ (ws : List ℕ) (i left : ℕ) (r : Bool) (k : r ≡ leb (lengths (drop
   lengths-end h = sym (k ∙ rw (lengths_none (drop (2 * i) ws) (no_pair ws i (omega arith))) (le-leb 0 left (omega arith)))
 
 -- ---- pairs in order, one after the other
-
-module _ (end start size most : ℕ) where
-  pub end_past : most < start → None ≡ part_end end start size most
-  end_past h = rw (lt-leb (start + size) most (omega arith), and-false (leb end start)) refl
 
 at_outside : {X : Type 0} (a : ℕ) → Some a ≡ None → X
 at_outside a e = let z : ◌≡◌ {A = ℕ} 0 1 = cc in absurd (omega arith)

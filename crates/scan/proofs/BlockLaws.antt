@@ -13,7 +13,6 @@ use Rattle.lists.specs.Tests.{all}
 use Rattle.lists.proofs.BoolLaws.{and_left, and_right}
 use Rattle.lists.proofs.PartLaws.{drop-take, part_length, part-rest}
 use Rattle.lists.proofs.RestLaws.{rest_more}
-use Rattle.lists.proofs.TestLaws.{all_append}
 use Rattle.scan.specs.Spans.{span}
 use Rattle.scan.proofs.SpanLaws.{span_le}
 
@@ -44,15 +43,6 @@ module _ (p : ℕ → Bool) (top : ℕ) (l : Bytes) where
 
     pub highest-end : length l ≤ i → leb most top ≡ all p l
     highest-end h = sym (k.is ∙ rw (drop_of_length-le l h) (and-true (leb most top)))
-
--- ---- one block after the other: the blocks before `rest` pass
-
-module _ (p : ℕ → Bool) (l rest block after : Bytes) (cut : rest ≡ block ++ after) (q : Bool) (passes : q ≡ all p block) (k : all p l ≡ all p rest) where
-  pub block_more : q ≡ true → all p l ≡ all p after
-  block_more t = k ∙ ap (all p) cut ∙ all_append p block after ∙ rw (← passes, t) refl
-
-  pub block-stop : q ≡ false → false ≡ all p l
-  block-stop t = sym (k ∙ ap (all p) cut ∙ all_append p block after ∙ rw (← passes, t) refl)
 
 -- ---- a span over a block
 

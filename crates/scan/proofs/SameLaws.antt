@@ -1,11 +1,10 @@
 -- Laws of `same_bytes` and `begins_with`: std's word for the second, and what the answers mean.
-use Prim.Native.Nat.{ℕ, ◌<◌}
+use Prim.Native.Nat.{ℕ}
 use mathlib.Core.Path.{◌≡◌, refl, ap}
 use mathlib.Core.List.{List, [], ◌∷◌, ◌++◌}
-use mathlib.Core.Bool.{Bool, true, false}
-use borrow.Author.Tests.{eq-eqb, ne_eqb, eqb-true}
-use lib.ListN.{length, get_or, drop}
-use lib.Seq.{drop-cons}
+use mathlib.Core.Bool.{true}
+use borrow.Author.Tests.{eq-eqb, eqb-true}
+use lib.ListN.{length, drop}
 use lib.Dec.{eqb}
 use Rattle.std.specs.List.{starts_with}
 use Rattle.lists.proofs.BoolLaws.{true-false, and_left, and_right, eqb_swap}
@@ -16,15 +15,6 @@ pub begins-starts : (s w : List ℕ) → starts_with eqb s w ≡ begins_with s w
 begins-starts s [] = refl
 begins-starts [] (y ∷ ys) = refl
 begins-starts (x ∷ xs) (y ∷ ys) = rw (eqb_swap y x, begins-starts xs ys)
-
--- at the first bytes that differ
-pub same_differ : (a b : List ℕ) (i : ℕ) (n : Bool) → n ≡ same_bytes (drop i a) (drop i b)
-    → i < length a → i < length b → (get_or a i 0 ≡ get_or b i 0 → ⊥) → false ≡ n
-same_differ a b i n k h g d = rw (k, drop-cons a i 0 h, drop-cons b i 0 g) (simp (ne_eqb (get_or a i 0) (get_or b i 0) d))
-
-pub begins_differ : (s w : List ℕ) (i : ℕ) (n : Bool) → n ≡ begins_with (drop i s) (drop i w)
-    → i < length w → i < length s → (get_or s i 0 ≡ get_or w i 0 → ⊥) → false ≡ n
-begins_differ s w i n k h g d = rw (k, drop-cons w i 0 h, drop-cons s i 0 g) (simp (ne_eqb (get_or s i 0) (get_or w i 0) d))
 
 -- ---- what the answers mean
 
