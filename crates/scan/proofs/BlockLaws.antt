@@ -69,10 +69,10 @@ module _ (p : ℕ → Bool) where
   whole [] h = refl
   whole (x ∷ xs) h = rw (and_left (p x) (all p xs) h, whole xs (and_right (p x) (all p xs) h))
 
--- a block whose bytes all pass is part of the span
-pub span-block : (p : ℕ → Bool) (rest block after : Bytes) → rest ≡ block ++ after → (q : Bool) → q ≡ all p block → q ≡ true → (n passed : ℕ)
+-- a block whose bytes all pass, at the front, is part of the span
+pub span-passed : (p : ℕ → Bool) (rest block after : Bytes) → rest ≡ block ++ after → (q : Bool) → q ≡ all p block → q ≡ true → (n passed : ℕ)
     → n ≡ passed + span p rest → n ≡ passed + length block + span p after
-span-block p rest block after cut q e t n passed k =
+span-passed p rest block after cut q e t n passed k =
     let m : span p rest ≡ length block + span p after = ap (span p) cut ∙ passes p block after (whole p block (sym e ∙ t)) in
     omega (arith, k, m)
 
@@ -82,6 +82,12 @@ passed-block s rest block after passed d cut =
     sym (drop-drop (length block) passed s) ∙ ap (drop (length block)) (d ∙ cut) ∙ drop-append_seam block after
 
 module _ (p : ℕ → Bool) (s : Bytes) (at e : ℕ) where
+  -- a block of it whose bytes all pass
+  pub span-block : at ≤ e → e ≤ length s → (q : Bool) → q ≡ all p (part s at e) → q ≡ true → (n : ℕ) → at + span p (drop at s) ≡ n → e + span p (drop e s) ≡ n
+  span-block h g q block t n k =
+      let m : span p (drop at s) ≡ length (part s at e) + span p (drop e s) = ap (span p) (part-rest s at e h) ∙ passes p (part s at e) (drop e s) (whole p (part s at e) (sym block ∙ t)) in
+      omega (arith, m, part_length s at e g)
+
   -- the span of what stands in front of e
   module _ (i : ℕ) (k : i ≡ at + span p (drop at (take e s))) (g : e ≤ length s) where
     inside : at ≤ e → i ≡ at + span p (part s at e)
