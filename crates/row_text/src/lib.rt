@@ -16,7 +16,6 @@ ghost use Rattle.row_text.specs.Inner.Made.{made_answer, Printable, PrintsIn, Pr
 use model::{AigerTransition, Verdict};
 use obligation::Made;
 use text::Number;
-use text_decimal::Written;
 
 // How many numbers a line has, or that its form is another one.
 #[derive(Clone, Copy)]
@@ -63,10 +62,10 @@ fn write_number(out: &mut [u8], at: usize, before: &[u8], n: u64) -> usize
     requires { at + (length before.now + 20) ≤ length out.old }
     ensures { Prints out.old at (before.now ++ decimal n) (length before.now + 20) out.new result }
 {
-    let Written::Next(start) = text_decimal::write_bytes(out, at, before) else {
+    let Some(start) = text_decimal::write_bytes(out, at, before) else {
         return at;
     };
-    let Written::Next(end) = text_decimal::write_decimal(out, start, n) else {
+    let Some(end) = text_decimal::write_decimal(out, start, n) else {
         return at;
     };
     end
@@ -119,7 +118,7 @@ fn write_end(out: &mut [u8], at: usize) -> usize
     requires { at < length out.old }
     ensures { Prints out.old at (10 ∷ []) 1 out.new result }
 {
-    let Written::Next(end) = text_decimal::write_byte(out, at, 10) else {
+    let Some(end) = text_decimal::write_byte(out, at, 10) else {
         return at;
     };
     end
