@@ -66,14 +66,14 @@ module _ (s : Bytes) (ns : List ℕ) (r : Option (Parsed ℕ)) (q : TakesHeaderN
   pub header_bad : r ≡ None → TakesCounts s header.Refused
   header_bad k = over_nine (first_numbers Witness (lines_of s)) (rw k at q)
 
-  module _ (m : ℕ) (c : Cursor) (k : r ≡ Some (record { value = m; next = c })) where
-    headed : Headed Witness s (zeros 9) ns m c
+  module _ (x : Parsed ℕ) (k : r ≡ Some x) where
+    headed : Headed Witness s (zeros 9) ns x.value x.next
     headed = rw k at q
 
-    pub header_few : m < 5 → TakesCounts s header.Refused
+    pub header_few : x.value < 5 → TakesCounts s header.Refused
     header_few h = ap five_to_nine headed.stored.are ∙ few headed.stored.numbers (omega (arith, headed.stored.count))
 
-    pub header_got : 5 ≤ m → (n : AagCounts) → n ≡ counts_from ns → TakesCounts s (header.Got n c)
+    pub header_got : 5 ≤ x.value → (n : AagCounts) → n ≡ counts_from ns → TakesCounts s (header.Got n x.next)
     header_got h n p =
         let ms : List ℕ = headed.stored.numbers in
         let most : length ms ≤ 9 = omega (arith, headed.stored.count, headed.stored.fits) in
