@@ -1,7 +1,7 @@
 -- For the contracts of the functions that load: what each of them says of the lines of a text.
 use Rattle.std.specs.Prelude.{ℕ, ◌+◌, ◌*◌, ◌≤◌, Bool, true, false, List, [], ◌∷◌, ◌++◌, map, ◌≡◌, length, set}
 use Rattle.std.specs.Prelude.{Some, None}
-use Rattle.core.specs.declared.option.Option as option
+use Rattle.std.specs.declared.option.Option as option
 use Rattle.std.proofs.Math.Option.{Option, some}
 use Rattle.lists.specs.Answer.{Answer, got, refused}
 use Rattle.lists.specs.Parts.{Bytes, put}
