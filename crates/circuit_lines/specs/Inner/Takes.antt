@@ -2,7 +2,7 @@
 -- line and the lines left, or 8 (R9.8).
 use Rattle.std.specs.Prelude.{ℕ, ◌≡◌, List, [], ◌∷◌, length, drop, Option, Some, None}
 use Rattle.lists.specs.Answer.{Answer, got, refused}
-use Rattle.lists.specs.Parts.{Bytes}
+use Rattle.lists.specs.Parts.{Bytes, front}
 use Rattle.text.specs.declared.Cursor.{Cursor}
 use Rattle.text.specs.declared.Parsed.{Parsed}
 use Rattle.text.specs.declared.Reader.{Reader}
@@ -31,6 +31,16 @@ module _ {A : Type 0} where
   abbrev pub Takes : (Bytes → Answer A) → Bytes → Cursor → ℕ → Option Cursor → List A → Type 0
   Takes item s c n (Some e) items = section item n (lines_from s c) ≡ got (record { items = items; rest = lines_from s e })
   Takes item s c n None items = section item n (lines_from s c) ≡ refused 8
+
+  -- so it is, and the items stand in front of what was in o₀
+  pub record TakesFront (item : Bytes → Answer A) (s : Bytes) (c : Cursor) (n : ℕ) (o₀ : List A) (p : Parsed (List A)) : Type 0 where
+    pub items : List A
+    pub stored : p.value ≡ front o₀ items
+    pub takes : Takes item s c n (Some p.next) items
+
+  abbrev pub TakesArray : (Bytes → Answer A) → Bytes → Cursor → ℕ → List A → Option (Parsed (List A)) → Type 0
+  TakesArray item s c n o₀ (Some p) = TakesFront item s c n o₀ p
+  TakesArray item s c n o₀ None = Takes item s c n None []
 
   -- so it is for one line and its item
   abbrev pub TakesOne : (Bytes → Answer A) → Bytes → Cursor → Option (Parsed A) → Type 0
