@@ -1,7 +1,6 @@
 -- For the contracts of inner functions: the code's enums as flat structs.
 use Rattle.std.specs.Prelude.{ℕ}
 use Rattle.lists.specs.Answer.{Answer, got, refused}
-use Rattle.text.specs.declared.Literal.{Literal}
 use Rattle.model.specs.declared.Verdict.{Verdict}
 use Rattle.model.specs.declared.Verdict.TheVariants as verdict
 use Rattle.cnf.specs.declared.ClauseCounts.{ClauseCounts}
@@ -9,11 +8,9 @@ use Rattle.witness_read.specs.declared.ReadAag.{ReadAag}
 use Rattle.witness_read.specs.declared.ReadAag.TheVariants as read
 use Rattle.compose.specs.declared.Composed.{Composed}
 use Rattle.compose.specs.declared.Composed.TheVariants as composed
-use Rattle.nitrasovy.specs.declared.literals.Moved.{Moved}
 use Rattle.nitrasovy.specs.declared.obligations.NitMade.{NitMade}
 use Rattle.nitrasovy.specs.declared.witnesses.NitWitness.{NitWitness}
 use Rattle.nitrasovy.specs.declared.compositions.NitComposed.{NitComposed}
-use Rattle.nitrasovy.specs.FlatLiterals.{flat_literal, place_after}
 
 abbrev pub reason_of : Verdict → ℕ
 reason_of verdict.Valid = 0
@@ -40,6 +37,3 @@ flat_counts (read.Refused k) = record { reason = k; max_variable = 0; inputs = 0
 abbrev pub flat_bytes : Composed → NitComposed
 flat_bytes (composed.Got n) = record { reason = 0; bytes = n }
 flat_bytes (composed.Refused k) = record { reason = k; bytes = 0 }
-
-abbrev pub flat_moved : Literal → Moved
-flat_moved l = record { taken = flat_literal l; next = place_after l }
