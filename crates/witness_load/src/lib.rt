@@ -14,9 +14,9 @@ ghost use Rattle.witness_read.specs.Reading.{read_aag};
 ghost use Rattle.witness_load.specs.Inner.Loaded.{operand_words, Loads};
 ghost use Rattle.witness_load.specs.Inner.Loading.{stored_words, literal_word, LoadsSection, rest_room, LoadsRest, body_room, LoadsBody, leaf_words, with_words, NamesLine, LoadsNames, Loadable, LoadsText};
 
+use aiger::Refusal;
 use circuit_lines::{SectionEnd, TakenGate};
 use text::{Cursor, Line, Reader};
-use witness_read::ReadAag;
 use witness_text::{AagCounts, Kind, SymbolLine, TakenLatch, WitnessHeader};
 
 // The cursor after n lines, or at the end where there are fewer.
@@ -207,18 +207,13 @@ fn has_room(counts: AagCounts, size: usize) -> bool
 }
 
 // Reads a text as a witness, or as the model where `witness` is false, and loads its sections in front of the words.
-pub fn load_aag(s: &[u8], witness: bool, words: &mut [u64]) -> ReadAag
+pub fn load_aag(s: &[u8], witness: bool, words: &mut [u64]) -> Result<AagCounts, Refusal>
     ensures { Loads s.now (read_aag limited witness s.now) words.old words.new result }
 {
-    let read = witness_read::parse_aag(s, witness);
-    match read {
-        ReadAag::Refused(reason) => ReadAag::Refused(reason),
-        ReadAag::Got(n) => {
-            if !has_room(n, words.len()) {
-                return ReadAag::Refused(20);
-            }
-            load(s, n, words);
-            ReadAag::Got(n)
-        }
+    let counts = witness_read::parse_aag(s, witness)?;
+    if !has_room(counts, words.len()) {
+        return Err(Refusal::ResultRoom);
     }
+    load(s, counts, words);
+    Ok(counts)
 }

@@ -7,7 +7,7 @@ pub returns-in_default : goal.returns-in_default
 returns-in_default c = search sections_bad
 
 pub returns-in_err-comments : goal.returns-in_err-comments
-returns-in_err-comments c = answered-err _ _ c.from_residual.ensures.1 _ ∙ search (symbols-refused, c.in_err-comments.ensures)
+returns-in_err-comments c = answered-err _ _ c.from_residual.ensures.1 ∙ search (symbols-refused, c.in_err-comments.ensures)
 
 pub returns-then-not-plain_comments : goal.returns-then-not-plain_comments
 returns-then-not-plain_comments c = search (comments-refused, c.in_ok-comments.ensures)
