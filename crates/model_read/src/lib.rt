@@ -7,13 +7,14 @@ ghost use Rattle.lists.specs.Answer.{refused};
 ghost use Rattle.lists.specs.Parts.{zeros};
 ghost use Rattle.model.specs.Circuit.{circuit_of, record_of, no_circuit};
 ghost use Rattle.model.specs.Limits.{counted};
-ghost use Rattle.circuit_lines.specs.SectionLines.{literal_line};
-ghost use Rattle.circuit_lines.specs.Inner.Takes.{lines_from, TakesArray};
+ghost use Rattle.circuit_lines.specs.Inner.Takes.{lines_from};
 ghost use Rattle.model_read.specs.Reading.{model_of, body_of, read_transition, read_of, Reads};
 ghost use Rattle.model_read.specs.Inner.Passes.{TakesStart, AddsNext, ChecksGates, Writes, gates_of, verdict_of, Readable};
 
 use aiger::Gate;
+use circuit_lines::LiteralLine;
 use model::{AigerLatch, AigerTransition, Counts, Verdict};
+use model_text::LatchLine;
 use text::{Cursor, Parsed, Reader};
 
 // The model that was read, or the number of the reason with a record of zeros.
@@ -72,16 +73,6 @@ fn write_gates(s: &[u8], cursor: Cursor, n: usize, gates: &mut [u64])
     }
 }
 
-// The inputs or the outputs of the n lines from a cursor on, with zeros past them.
-fn take_array<const N: usize>(s: &[u8], cursor: Cursor, n: usize) -> Option<Parsed<[u64; N]>>
-    requires { n ≤ N }
-    ensures { TakesArray (literal_line Reader.Transition) s.now cursor n (zeros N) result }
-{
-    let mut value = [0; N];
-    let next = circuit_lines::take_literals(Reader::Transition, s, cursor, &mut value[..n])?;
-    Some(Parsed { value, next })
-}
-
 // A record of zeros.
 fn no_model() -> AigerTransition
     ensures { result ≡ record_of no_circuit }
@@ -106,9 +97,16 @@ fn take_head(s: &[u8], cursor: Cursor, counts: Counts) -> Option<Parsed<AigerTra
     requires { counted counts ≡ true }
     ensures { TakesStart s.now cursor counts result }
 {
-    let inputs = take_array(s, cursor, counts.inputs)?;
-    let latches = model_text::take_latches(s, inputs.next, counts.latches)?;
-    let outputs = take_array(s, latches.next, counts.outputs)?;
+    let literal = LiteralLine {
+        reader: Reader::Transition,
+    };
+    let blank = AigerLatch {
+        current: 0,
+        next: 0,
+    };
+    let inputs = circuit_lines::take_array(literal, s, cursor, counts.inputs, 0)?;
+    let latches = circuit_lines::take_array(LatchLine {}, s, inputs.next, counts.latches, blank)?;
+    let outputs = circuit_lines::take_array(literal, s, latches.next, counts.outputs, 0)?;
     let next = outputs.next;
     let inputs = inputs.value;
     let latches = latches.value;

@@ -1,5 +1,5 @@
 use Rattle.model_text.proofs.LatchLaws.{no_first, no_second, latch_some, latch_none}
-use Rattle.model_text.proofs.latch_line.Goals as goal
+use Rattle.model_text.proofs.LatchLineLineKind.read.Goals as goal
 
 pub returns-in_default : goal.returns-in_default
 returns-in_default c = search no_first
