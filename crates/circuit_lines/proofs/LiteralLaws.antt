@@ -1,4 +1,5 @@
 -- Laws of `literal_line`, for the functions that take a literal or a section of them.
+use Rattle.std.specs.Prelude.{Some, None}
 use Prim.Native.Nat.{ℕ, ◌+◌, ◌≤◌, ◌<◌}
 use mathlib.Core.List.{List, [], ◌∷◌}
 use mathlib.Core.Path.{◌≡◌, refl, ap, ◌∙◌}
@@ -15,8 +16,6 @@ use Rattle.aiger.specs.Sections.{section}
 use Rattle.aiger.proofs.SectionLaws.{section_of, Storing, storing-none, storing-more, storing_bad, storing-all}
 use Rattle.circuit_lines.specs.SectionLines.{literal_line}
 use Rattle.circuit_lines.specs.Inner.Takes.{lines_from, Takes}
-use Rattle.text.specs.declared.Literal.TheVariants as literal
-use Rattle.circuit_lines.specs.declared.SectionEnd.TheVariants as section-end
 
 -- ---- one literal
 
@@ -30,11 +29,11 @@ module _ (reader : Reader) (s : Bytes) (c : Cursor) where
 
   -- what `take_literal` says of the section of one line
   module _ (t : Literal) (q : t ≡ literal_at reader s c) where
-    pub literal_one : (v : ℕ) (n : Cursor) → t ≡ literal.Got v n → section (literal_line reader) 1 (lines_from s c) ≡ section_of (v ∷ []) (lines_from s n)
-    literal_one v n u = one_literal v n (literal-gets reader s c t q v n u)
+    pub literal_one : (v : ℕ) → t.value ≡ Some v → section (literal_line reader) 1 (lines_from s c) ≡ section_of (v ∷ []) (lines_from s t.next)
+    literal_one v u = one_literal v t.next (literal-gets reader s c t q v u)
 
-    pub literal_bad : (n : Cursor) → t ≡ literal.Refused n → section (literal_line reader) 1 (lines_from s c) ≡ refused 8
-    literal_bad n u = no_literal n (literal-refuses reader s c t q n u)
+    pub literal_bad : t.value ≡ None → section (literal_line reader) 1 (lines_from s c) ≡ refused 8
+    literal_bad u = no_literal t.next (literal-refuses reader s c t q u)
 
 -- ---- take_literals
 
@@ -47,16 +46,16 @@ module _ (reader : Reader) (s : Bytes) (c : Cursor) (o₀ : List ℕ) where
   literals-none = storing-none (literal_line reader) (length o₀) (lines_from s c) o₀
 
   module _ (o : List ℕ) (i : ℕ) (p : Cursor) (k : Literals reader s c o₀ o i p) where
-    module _ (h : i < length o) (t : Literal) (q : t ≡ literal_at reader s p) where
-      pub literals-more : (v : ℕ) (n : Cursor) → t ≡ literal.Got v n → Literals reader s c o₀ (set o i v) (i + 1) n
-      literals-more v n u =
-          storing-more (literal_line reader) (length o₀) (lines_from s c) o₀ o i (lines_from s p) k (omega (arith, k.grown.same)) h v (lines_from s n)
-          (literal_one reader s p t q v n u)
+    module _ (h : i < length o₀) (t : Literal) (q : t ≡ literal_at reader s p) where
+      pub literals-more : (v : ℕ) → t.value ≡ Some v → Literals reader s c o₀ (set o i v) (i + 1) t.next
+      literals-more v u =
+          storing-more (literal_line reader) (length o₀) (lines_from s c) o₀ o i (lines_from s p) k h (omega (arith, k.grown.same)) v (lines_from s t.next)
+          (literal_one reader s p t q v u)
 
-      pub literals_bad : (n : Cursor) → t ≡ literal.Refused n → Takes (literal_line reader) s c (length o₀) section-end.Bad o
-      literals_bad n u =
-          storing_bad (literal_line reader) (length o₀) (lines_from s c) o₀ o i (lines_from s p) k (omega (arith, k.grown.same))
-          (literal_bad reader s p t q n u)
+      pub literals_bad : t.value ≡ None → Takes (literal_line reader) s c (length o₀) None o
+      literals_bad u =
+          storing_bad (literal_line reader) (length o₀) (lines_from s c) o₀ o i (lines_from s p) k h
+          (literal_bad reader s p t q u)
 
-    pub literals-done : length o ≤ i → Takes (literal_line reader) s c (length o₀) (section-end.At p) o
-    literals-done h = storing-all (literal_line reader) (length o₀) (lines_from s c) o₀ o i (lines_from s p) k refl (omega (arith, k.grown.same))
+    pub literals-done : length o₀ ≤ i → Takes (literal_line reader) s c (length o₀) (Some p) o
+    literals-done h = storing-all (literal_line reader) (length o₀) (lines_from s c) o₀ o i (lines_from s p) k refl h

@@ -1,5 +1,5 @@
 -- Laws for the functions that take one line: the line found at a cursor, with its item, is a section of one line.
-use Prim.Native.Nat.{ℕ}
+use Rattle.std.specs.Prelude.{Option, Some, None}
 use mathlib.Core.List.{[], ◌∷◌}
 use mathlib.Core.Path.{◌≡◌, ap, ◌∙◌}
 use Rattle.lists.specs.Answer.{Answer, got, refused}
@@ -11,15 +11,14 @@ use Rattle.text.proofs.LineLaws.{lines_none, lines-some}
 use Rattle.aiger.specs.Sections.{section}
 use Rattle.aiger.proofs.SectionLaws.{section_of}
 use Rattle.circuit_lines.specs.Inner.Takes.{lines_from}
-use Rattle.text.specs.declared.Line.TheVariants as line
 
-module _ {A : Type 0} (item : Bytes → Answer A) (s : Bytes) (c : Cursor) (r : Line) (q : r ≡ line_at s c.at) where
-  pub one_none : r ≡ line.None → section item 1 (lines_from s c) ≡ refused 8
+module _ {A : Type 0} (item : Bytes → Answer A) (s : Bytes) (c : Cursor) (r : Option Line) (q : r ≡ line_at s c.at) where
+  pub one_none : r ≡ None → section item 1 (lines_from s c) ≡ refused 8
   one_none k = ap (section item 1) (lines_none s c.at r q k)
 
-  module _ (a e : ℕ) (n : Cursor) (k : r ≡ line.At a e n) where
-    pub one_bad : item (part s a e) ≡ refused 8 → section item 1 (lines_from s c) ≡ refused 8
-    one_bad p = ap (section item 1) (lines-some s c.at r q a e n k) ∙ rw p
+  module _ (l : Line) (k : r ≡ Some l) where
+    pub one_bad : item (part s l.start l.end) ≡ refused 8 → section item 1 (lines_from s c) ≡ refused 8
+    one_bad p = ap (section item 1) (lines-some s c.at r q l k) ∙ rw p
 
-    pub one_got : (x : A) → item (part s a e) ≡ got x → section item 1 (lines_from s c) ≡ section_of (x ∷ []) (lines_from s n)
-    one_got x p = ap (section item 1) (lines-some s c.at r q a e n k) ∙ rw p
+    pub one_got : (x : A) → item (part s l.start l.end) ≡ got x → section item 1 (lines_from s c) ≡ section_of (x ∷ []) (lines_from s l.next)
+    one_got x p = ap (section item 1) (lines-some s c.at r q l k) ∙ rw p

@@ -3,13 +3,12 @@
 
 use aiger::Refusal;
 use std::io;
-use text_decimal::Written;
 
 // Prints `refused`, the number and byte 10.
 fn print_refused(rt: &impl Print, refusal: Refusal) -> io::Result<()> {
     let mut line = [0u8; 32];
     rt.write_all(b"refused ")?;
-    let Written::Next(size) = text_decimal::write_decimal(&mut line, 0, u64::from(refusal)) else {
+    let Some(size) = text_decimal::write_decimal(&mut line, 0, u64::from(refusal)) else {
         return Ok(());
     };
     if size <= 32 {

@@ -3,7 +3,6 @@
 
 ghost use Rattle.std.proofs.Math.Option.{some};
 ghost use Rattle.std.specs.Prelude.{◌≡◌, ◌+◌, ◌≤◌, ◌<◌};
-ghost use Rattle.text.specs.declared.Number.TheVariants.{Value};
 ghost use Rattle.text.specs.declared.Reader.TheVariants.{Witness};
 ghost use Rattle.text.specs.Numbers.{number_of};
 ghost use Rattle.compose_gather.specs.Inner.Counts.{names_before, CountsListed};
@@ -15,13 +14,12 @@ ghost use Rattle.compose_origins.specs.Inner.Mapped.{FewLeaves, SaysName, MapsTo
 
 use compose_joint::Leaves;
 use compose_spec::{Mapping, ModelLeaves};
-use text::Number;
 use witness_text::AagCounts;
 
 // What a literal behind `= ` maps to.
 fn onto(model_leaves: ModelLeaves, l: u64) -> Mapping
     requires { FewLeaves model_leaves 0 }
-    ensures { result ≡ onto_number model_leaves (Value l) }
+    ensures { result ≡ onto_number model_leaves (Some l) }
 {
     let x = (l / 2) as usize;
     if l % 2 == 1 {
@@ -42,8 +40,8 @@ fn onto_digits(model_leaves: ModelLeaves, digits: &[u8]) -> Mapping
     ensures { result ≡ onto_number model_leaves (number_of Witness digits.now) }
 {
     match text::numbers::parse_number(digits) {
-        Number::Unreadable => Mapping::Wrong,
-        Number::Value(l) => onto(model_leaves, l),
+        None => Mapping::Wrong,
+        Some(l) => onto(model_leaves, l),
     }
 }
 

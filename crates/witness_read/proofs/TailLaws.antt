@@ -13,7 +13,6 @@ use Rattle.lists.specs.Parts.{Bytes, part}
 use Rattle.lists.proofs.AnswerLaws.{Only, only-unless, only-cond, only_then}
 use Rattle.text.specs.declared.Cursor.{Cursor}
 use Rattle.text.specs.declared.Line.{Line}
-use Rattle.text.specs.declared.Number.{Number}
 use Rattle.text.specs.declared.Reader.TheVariants.{Witness}
 use Rattle.text.specs.Lines.{line_at}
 use Rattle.text.specs.Numbers.{number_of}
@@ -32,8 +31,6 @@ use Rattle.witness_read.specs.declared.SymbolName.{SymbolName}
 use Rattle.witness_read.specs.Names.{Tail, with_symbol, tail_of, named_once, symbols_of}
 use Rattle.witness_read.specs.Inner.Passes.{TakenSymbol, BadSymbol, EndsSymbols, Follows, ChecksSymbols, Unmarked, MarksName}
 use Rattle.witness_read.proofs.SymbolSetLaws.{Named, named_none, named_once_lem, named_more, named_again, twice_append}
-use Rattle.text.specs.declared.Line.TheVariants as line
-use Rattle.text.specs.declared.Number.TheVariants as number
 use Rattle.witness_text.specs.declared.SymbolLine.TheVariants as symbol
 use Rattle.witness_read.specs.declared.NextSymbol.{NextSymbol}
 
@@ -47,9 +44,9 @@ kind-only b =
     (only-cond 9 (eqb b 98) _ _ tt
     (only-cond 9 (eqb b 99) _ _ tt refl))))
 
-index-only : (x : Number) → Only 9 (readable_index x)
-index-only (number.Value v) = tt
-index-only number.Unreadable = refl
+index-only : (x : Option ℕ) → Only 9 (readable_index x)
+index-only (Some v) = tt
+index-only None = refl
 
 from-only : (n : AagCounts) (front name : Bytes) → Only 9 (symbol_from n front name)
 from-only n [] name = refl
@@ -109,34 +106,34 @@ module _ (s : Bytes) (n : AagCounts) (p x : Cursor) where
   follows_more : (y : SymbolName) → TakenSymbol s p n y.kind y.index x → Follows s p n (Some y) x
   follows_more y h = record { taken = λ z e. let f : y ≡ z = cc in rw (sym f) h; ends = λ e. absurd (none-some y (sym e)) }
 
-module _ (s : Bytes) (n : AagCounts) (p : Cursor) (r : Line) (q : r ≡ line_at s p.at) where
-  pub symbol-none : r ≡ line.None → Follows s p n None p
+module _ (s : Bytes) (n : AagCounts) (p : Cursor) (r : Option Line) (q : r ≡ line_at s p.at) where
+  pub symbol-none : r ≡ None → Follows s p n None p
   symbol-none u = let e : lines_from s p ≡ [] = lines_none s p.at r q u in follows_end s n p p (record { takes = ap (tail_of n) e ∙ ap (tail []) (sym e) })
 
-  module _ (a e : ℕ) (x : Cursor) (u : r ≡ line.At a e x) (b : Bool) (f : b ≡ ends_symbols (part s a e)) where
-    pub symbol-comments : b ≡ true → Follows s p n None x
-    symbol-comments g = follows_end s n p x (record { takes = ap (tail_of n) (lines-some s p.at r q a e x u) ∙ tail-comments n (part s a e) (lines_from s x) (sym f ∙ g) })
+  module _ (l : Line) (u : r ≡ Some l) (b : Bool) (f : b ≡ ends_symbols (part s l.start l.end)) where
+    pub symbol-comments : b ≡ true → Follows s p n None l.next
+    symbol-comments g = follows_end s n p l.next (record { takes = ap (tail_of n) (lines-some s p.at r q l u) ∙ tail-comments n (part s l.start l.end) (lines_from s l.next) (sym f ∙ g) })
 
-    module _ (g : b ≡ false) (y : SymbolLine) (v : symbol_answer (part s a e) y ≡ symbol_of n (part s a e)) where
+    module _ (g : b ≡ false) (y : SymbolLine) (v : symbol_answer (part s l.start l.end) y ≡ symbol_of n (part s l.start l.end)) where
       pub symbol_bad : y ≡ symbol.Refused → BadSymbol s p n 9
       symbol_bad z =
           record {
-            line = part s a e;
-            rest = lines_from s x;
-            lines = lines-some s p.at r q a e x u;
+            line = part s l.start l.end;
+            rest = lines_from s l.next;
+            lines = lines-some s p.at r q l u;
             goes = sym f ∙ g;
-            is = sym v ∙ ap (symbol_answer (part s a e)) z;
+            is = sym v ∙ ap (symbol_answer (part s l.start l.end)) z;
           }
 
-      pub symbol-more : (kd : Kind) (i m : ℕ) → y ≡ symbol.Named kd i m → Follows s p n (Some (record { kind = kd; index = i })) x
+      pub symbol-more : (kd : Kind) (i m : ℕ) → y ≡ symbol.Named kd i m → Follows s p n (Some (record { kind = kd; index = i })) l.next
       symbol-more kd i m z =
-          follows_more s n p x (record { kind = kd; index = i }) (record {
-            line = part s a e;
-            name = drop m (part s a e);
-            lines = lines-some s p.at r q a e x u;
+          follows_more s n p l.next (record { kind = kd; index = i }) (record {
+            line = part s l.start l.end;
+            name = drop m (part s l.start l.end);
+            lines = lines-some s p.at r q l u;
             goes = sym f ∙ g;
-            is = sym v ∙ ap (symbol_answer (part s a e)) z;
-            less = line-less s p.at r q a e x u;
+            is = sym v ∙ ap (symbol_answer (part s l.start l.end)) z;
+            less = line-less s p.at r q l u;
           })
 
 -- what a symbol that was taken says

@@ -9,7 +9,7 @@ ghost use Rattle.witness_read.specs.Inner.Passes.{MarksName, Unmarked, TakesSymb
 
 use super::{NextSymbol, SymbolName};
 use aiger::Refusal;
-use text::{Cursor, Line};
+use text::Cursor;
 use witness_text::{AagCounts, Kind, SymbolLine};
 
 // Whether an input or a latch is named for the first time, which is marked; outputs, bads and constraints may be named again.
@@ -28,22 +28,22 @@ fn name_first(counts: AagCounts, kind: Kind, index: usize, marks: &mut [u64]) ->
 fn next_symbol(s: &[u8], cursor: Cursor, counts: AagCounts) -> Result<NextSymbol, Refusal>
     ensures { TakesSymbol s.now cursor counts result }
 {
-    let Line::At { start, end, next } = text::next_line(s, cursor) else {
+    let Some(line) = text::next_line(s, cursor) else {
         return Ok(NextSymbol {
             symbol: None,
             next: cursor,
         });
     };
-    let l = &s[start..end];
+    let l = &s[line.start..line.end];
     if witness_text::ends_symbols(l) {
-        return Ok(NextSymbol { symbol: None, next });
+        return Ok(NextSymbol { symbol: None, next: line.next });
     }
     let SymbolLine::Named { kind, index, name } = witness_text::symbol_line(l, counts) else {
         return Err(Refusal::Symbol);
     };
     Ok(NextSymbol {
         symbol: Some(SymbolName { kind, index }),
-        next,
+        next: line.next,
     })
 }
 
@@ -162,11 +162,11 @@ pub fn plain_comments(s: &[u8], cursor: Cursor, witness: bool) -> bool
     }
     let mut p = cursor;
     loop {
-        let Line::At { start, end, next } = text::next_line(s, p) else {
+        let Some(line) = text::next_line(s, p) else {
             return true;
         };
-        if plain_comment(&s[start..end]) {
-            p = next;
+        if plain_comment(&s[line.start..line.end]) {
+            p = line.next;
         } else {
             return false;
         }

@@ -1,16 +1,13 @@
 -- For the contracts of inner functions: the code's enums as flat structs.
 use Rattle.std.specs.Prelude.{ℕ}
 use Rattle.lists.specs.Answer.{Answer, got, refused}
-use Rattle.text.specs.declared.Literal.{Literal}
 use Rattle.model.specs.declared.Verdict.{Verdict}
 use Rattle.model.specs.declared.Verdict.TheVariants as verdict
 use Rattle.cnf.specs.declared.ClauseCounts.{ClauseCounts}
 use Rattle.witness_text.specs.declared.AagCounts.{AagCounts}
-use Rattle.nitrasovy.specs.declared.literals.Moved.{Moved}
 use Rattle.nitrasovy.specs.declared.obligations.NitMade.{NitMade}
 use Rattle.nitrasovy.specs.declared.witnesses.NitWitness.{NitWitness}
 use Rattle.nitrasovy.specs.declared.compositions.NitComposed.{NitComposed}
-use Rattle.nitrasovy.specs.FlatLiterals.{flat_literal, place_after}
 
 abbrev pub reason_of : Verdict → ℕ
 reason_of verdict.Valid = 0
@@ -37,6 +34,3 @@ flat_counts (refused k) = record { reason = k; max_variable = 0; inputs = 0; lat
 abbrev pub flat_bytes : Answer ℕ → NitComposed
 flat_bytes (got n) = record { reason = 0; bytes = n }
 flat_bytes (refused k) = record { reason = k; bytes = 0 }
-
-abbrev pub flat_moved : Literal → Moved
-flat_moved l = record { taken = flat_literal l; next = place_after l }
