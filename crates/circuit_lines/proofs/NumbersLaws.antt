@@ -1,7 +1,8 @@
 -- `Numbering`: the numbers of a line stored one after the other; and what numbers that were stored say of a definition that asks for so many.
+use Rattle.std.specs.Prelude.{Option, Some, None, is_some}
 use Prim.Native.Nat.{ℕ, ◌+◌, ◌≤◌, ◌<◌}
+use mathlib.Core.Bool.{Bool, true, false}
 use mathlib.Core.List.{List, [], ◌∷◌, ◌++◌, append_assoc, append-nil}
-use mathlib.Core.Option.{Option, some, none}
 use mathlib.Core.Path.{◌≡◌, refl, sym, ap, ◌∙◌}
 use native.Mathlib.Omega.{arith}
 use lib.ListN.{length, set, length-append, drop_of_length-le}
@@ -9,8 +10,6 @@ use borrow.Author.Tests.{lt-leb}
 use Rattle.lists.specs.Parts.{Bytes, part}
 use Rattle.lists.proofs.PartLaws.{front_length, Grown, grown-none, grown-set}
 use Rattle.text.specs.declared.Reader.{Reader}
-use Rattle.text.specs.declared.Number.{Number}
-use Rattle.text.specs.declared.Number.TheVariants.{Value, Unreadable}
 use Rattle.text.specs.declared.Field.{Field}
 use Rattle.text.specs.declared.Taken.{Taken}
 use Rattle.text.specs.Numbers.{number_of}
@@ -19,28 +18,26 @@ use Rattle.text.specs.Literals.{with_number, numbers_of, taken_at}
 use Rattle.text.proofs.FieldLaws.{fields_none, fields_some}
 use Rattle.text.proofs.LiteralLaws.{numbers_from, numbers_missing, numbers_unreadable, numbers-got}
 use Rattle.circuit_lines.specs.Inner.OneLine.{at_most, Stored, Stores}
-use Rattle.text.specs.declared.Field.TheVariants as field
 use Rattle.text.specs.declared.Taken.TheVariants as taken
-use Rattle.circuit_lines.specs.declared.Numbers.TheVariants as count
 
 -- numbers in front of the others
 abbrev pub in_front : List ℕ → Option (List ℕ) → Option (List ℕ)
-in_front done none = none
-in_front done (some ns) = some (done ++ ns)
+in_front done None = None
+in_front done (Some ns) = Some (done ++ ns)
 
 in_front-none : (x : Option (List ℕ)) → x ≡ in_front [] x
-in_front-none none = refl
-in_front-none (some ns) = refl
+in_front-none None = refl
+in_front-none (Some ns) = refl
 
-in_front-more : (done : List ℕ) (v : ℕ) (x : Option (List ℕ)) → in_front done (with_number (Value v) x) ≡ in_front (done ++ v ∷ []) x
-in_front-more done v none = refl
-in_front-more done v (some ns) = ap some (sym (append_assoc done (v ∷ []) ns))
+in_front-more : (done : List ℕ) (v : ℕ) (x : Option (List ℕ)) → in_front done (with_number (Some v) x) ≡ in_front (done ++ v ∷ []) x
+in_front-more done v None = refl
+in_front-more done v (Some ns) = ap Some (sym (append_assoc done (v ∷ []) ns))
 
 -- a field too many, readable or not
-too_many : (n : ℕ) (done : List ℕ) → n ≤ length done → (k : Number) (x : Option (List ℕ)) → at_most n (in_front done (with_number k x)) ≡ none
-too_many n done h Unreadable x = refl
-too_many n done h (Value v) none = refl
-too_many n done h (Value v) (some vs) = rw (lt-leb (length (done ++ v ∷ vs)) n (omega (arith, length-append done (v ∷ vs))))
+too_many : (n : ℕ) (done : List ℕ) → n ≤ length done → (k : Option ℕ) (x : Option (List ℕ)) → at_most n (in_front done (with_number k x)) ≡ None
+too_many n done h None x = refl
+too_many n done h (Some v) None = refl
+too_many n done h (Some v) (Some vs) = rw (lt-leb (length (done ++ v ∷ vs)) n (omega (arith, length-append done (v ∷ vs))))
 
 -- o is o₀ with the first i numbers of the line l from place `at` on in its front; the next one is looked for at place p
 pub record Numbering (reader : Reader) (l : Bytes) (at : ℕ) (o₀ o : List ℕ) (i p : ℕ) : Type 0 where
@@ -54,7 +51,7 @@ module _ (reader : Reader) (l : Bytes) (at : ℕ) (o₀ : List ℕ) where
 
   module _ (o : List ℕ) (i p : ℕ) (k : Numbering reader l at o₀ o i p) where
     -- these are all
-    all-stored : numbers_from reader l p ≡ some [] → Stores o₀ o (numbers_from reader l at) (count.Got i)
+    all-stored : numbers_from reader l p ≡ Some [] → Stores o₀ o (numbers_from reader l at) (Some i)
     all-stored e =
         record {
           numbers = k.done;
@@ -65,34 +62,44 @@ module _ (reader : Reader) (l : Bytes) (at : ℕ) (o₀ : List ℕ) where
         }
 
     -- while there is room
-    module _ (h : i < length o) (t : Taken) (q : t ≡ taken_at reader l p) where
+    module _ (h : i < length o₀) (t : Taken) (q : t ≡ taken_at reader l p) where
       pub numbering-more : (v m : ℕ) → t ≡ taken.Got v m → Numbering reader l at o₀ (set o i v) (i + 1) m
       numbering-more v m u =
           record {
             done = k.done ++ v ∷ [];
-            grown = grown-set o₀ k.done o i k.grown v h;
+            grown = grown-set o₀ k.done o i k.grown v (omega (arith, k.grown.same));
             is = k.is ∙ ap (in_front k.done) (numbers-got reader l p t q v m u) ∙ in_front-more k.done v (numbers_from reader l m);
           }
 
-      pub numbering_unreadable : t ≡ taken.Unreadable → Stores o₀ o (numbers_from reader l at) count.Refused
+      pub numbering_unreadable : t ≡ taken.Unreadable → Stores o₀ o (numbers_from reader l at) None
       numbering_unreadable u = ap (at_most (length o₀)) (k.is ∙ ap (in_front k.done) (numbers_unreadable reader l p t q u))
 
-      pub numbering_missing : t ≡ taken.Missing → Stores o₀ o (numbers_from reader l at) (count.Got i)
+      pub numbering_missing : t ≡ taken.Missing → Stores o₀ o (numbers_from reader l at) (Some i)
       numbering_missing u = all-stored (numbers_missing reader l p t q u)
 
     -- without room
-    module _ (h : length o ≤ i) (f : Field) (q : f ≡ field_at l p) where
-      pub numbering-over : (a e : ℕ) → f ≡ field.At a e → Stores o₀ o (numbers_from reader l at) count.Refused
-      numbering-over a e u =
-          ap (at_most (length o₀)) (k.is ∙ ap (λ (fs : List Bytes). in_front k.done (numbers_of reader fs)) (fields_some l p f q a e u))
-          ∙ too_many (length o₀) k.done (omega (arith, k.grown.at-is, k.grown.same)) (number_of reader (part l a e)) (numbers_from reader l e)
+    module _ (h : length o₀ ≤ i) (f : Option Field) (q : f ≡ field_at l p) (b : Bool) (t : b ≡ is_some f) where
+      over : (x : Option Field) → f ≡ x → is_some x ≡ true → Stores o₀ o (numbers_from reader l at) None
+      over (Some g) u m =
+          ap (at_most (length o₀)) (k.is ∙ ap (λ (fs : List Bytes). in_front k.done (numbers_of reader fs)) (fields_some l p f q g u))
+          ∙ too_many (length o₀) k.done (omega (arith, k.grown.at-is)) (number_of reader (part l g.start g.end)) (numbers_from reader l g.end)
+      over None u m = let z : ◌≡◌ {A = ℕ} 0 1 = cc in absurd (omega arith)
 
-      pub numbering-done : f ≡ field.None → Stores o₀ o (numbers_from reader l at) (count.Got i)
-      numbering-done u = all-stored (ap (numbers_of reader) (fields_none l p f q u))
+      all : (x : Option Field) → f ≡ x → is_some x ≡ false → Stores o₀ o (numbers_from reader l at) (Some i)
+      all None u m = all-stored (ap (numbers_of reader) (fields_none l p f q u))
+      all (Some g) u m = let z : ◌≡◌ {A = ℕ} 0 1 = cc in absurd (omega arith)
+
+      pub numbering-over : b ≡ true → Stores o₀ o (numbers_from reader l at) None
+      numbering-over u = over f refl (sym t ∙ u)
+
+      pub numbering-done : b ≡ false → i ≤ length o₀ → (n : ℕ) → n ≡ length o₀ → Stores o₀ o (numbers_from reader l at) (Some n)
+      numbering-done u w n e =
+          let same : n ≡ i = omega arith in
+          rw same (all f refl (sym t ∙ u))
 
 -- numbers that fill the whole of o₀
-pub stored-all : (o₀ o : List ℕ) (x : Option (List ℕ)) (k : ℕ) → Stored o₀ o x k → k ≡ length o₀ → x ≡ some o
-stored-all o₀ o x k s e = s.are ∙ ap some (sym (s.stand ∙ rw (drop_of_length-le o₀ {i = length s.numbers} (omega (arith, s.count))) (append-nil s.numbers)))
+pub stored-all : (o₀ o : List ℕ) (x : Option (List ℕ)) (k : ℕ) → Stored o₀ o x k → k ≡ length o₀ → x ≡ Some o
+stored-all o₀ o x k s e = s.are ∙ ap Some (sym (s.stand ∙ rw (drop_of_length-le o₀ {i = length s.numbers} (omega (arith, s.count))) (append-nil s.numbers)))
 
 pub stored-length : (o₀ o : List ℕ) (x : Option (List ℕ)) (k : ℕ) → Stored o₀ o x k → length o ≡ length o₀
 stored-length o₀ o x k s = ap length s.stand ∙ front_length o₀ s.numbers (omega (arith, s.count, s.fits))

@@ -1,200 +1,212 @@
 // The lines of a circuit text, for both readers: the header's numbers, literals and gates (R4, R5).
 #![tactic(auto)]
 
-ghost use Rattle.std.specs.Prelude.{◌≡◌, length, drop};
+ghost use Rattle.std.specs.Prelude.{◌≡◌, ◌≤◌, length, drop, replicate};
+ghost use Rattle.lists.specs.Answer.{Answer};
+ghost use Rattle.lists.specs.Parts.{Bytes};
 ghost use Rattle.text.specs.Fields.{fields_of};
 ghost use Rattle.text.specs.Literals.{numbers_of};
 ghost use Rattle.circuit_lines.specs.SectionLines.{header_numbers, literal_line, gate_line};
-ghost use Rattle.circuit_lines.specs.Inner.Takes.{TakesHeaderNumbers, Takes, TakesGate, TakesPlain};
-ghost use Rattle.circuit_lines.specs.Inner.OneLine.{Stores, gate_answer};
+ghost use Rattle.circuit_lines.specs.Inner.Takes.{TakesHeaderNumbers, Takes, TakesArray, TakesOne, TakesGate, TakesPlain};
+ghost use Rattle.circuit_lines.specs.Inner.OneLine.{Stores, answer_or};
 
 use aiger::Gate;
-use text::{Cursor, Field, Line, Literal, Plain, Reader, Taken};
+use text::{Cursor, Parsed, Reader, Taken};
 
-// The place after a section, or that a line of it is missing or bad.
-#[derive(Clone, Copy)]
-pub enum SectionEnd {
-    At(Cursor),
-    Bad,
-}
-
-#[derive(Clone, Copy)]
-pub enum TakenGate {
-    Got { gate: Gate, next: Cursor },
-    Bad,
-}
-
-// How many numbers were stored, or that a field is no number or that there are too many.
-#[derive(Clone, Copy)]
-pub enum Numbers {
-    Got(usize),
-    Refused,
-}
-
-// How many numbers the header has, and the place of the lines after it.
-#[derive(Clone, Copy)]
-pub enum HeaderCount {
-    Got { count: usize, next: Cursor },
-    Refused,
-}
-
-// What one line has.
-#[derive(Clone, Copy)]
-enum ReadGate {
-    Got(Gate),
-    Bad,
-}
-
-// A gate that was read the fast way and the place of the next line; or a line that the longer way reads.
-#[derive(Clone, Copy)]
-enum PlainGate {
-    Got { gate: Gate, next: Cursor },
-    Other,
-}
-
-// The fields of a line from a place on, as numbers in front of `out`: all of them, or they are refused.
-pub fn take_numbers(reader: Reader, l: &[u8], at: usize, out: &mut [u64]) -> Numbers
+// The fields of a line from a place on, as numbers in front of `out`, and how many they are; none where a field is no number or where
+// there are too many.
+pub fn take_numbers(reader: Reader, l: &[u8], at: usize, out: &mut [u64]) -> Option<usize>
     ensures { Stores out.old out.new (numbers_of reader (fields_of (drop at l.now))) result }
 {
-    let mut i = 0;
     let mut p = at;
-    while i < out.len() {
-        let taken = text::next_number(reader, l, p);
-        match taken {
+    for i in 0..out.len() {
+        match text::next_number(reader, l, p) {
             Taken::Got { value, next } => {
                 out[i] = value;
                 p = next;
-                i += 1;
             }
-            Taken::Unreadable => return Numbers::Refused,
-            Taken::Missing => return Numbers::Got(i),
+            Taken::Unreadable => return None,
+            Taken::Missing => return Some(i),
         }
     }
-    let Field::None = text::next_field(l, p) else {
-        return Numbers::Refused;
-    };
-    Numbers::Got(i)
+    if text::next_field(l, p).is_some() {
+        return None;
+    }
+    Some(out.len())
 }
 
-// The numbers after the header word of a line, in front of `out`.
-fn header_line(reader: Reader, l: &[u8], out: &mut [u64]) -> Numbers
+// The numbers after the header word of a line, in front of `out`, and how many they are.
+fn header_line(reader: Reader, l: &[u8], out: &mut [u64]) -> Option<usize>
     ensures { Stores out.old out.new (header_numbers reader l.now) result }
 {
-    let Field::At { start, end } = text::next_field(l, 0) else {
-        return Numbers::Refused;
-    };
-    if text::is_header_word(&l[start..end]) {
-        return take_numbers(reader, l, end, out);
+    let word = text::next_field(l, 0)?;
+    if !text::is_header_word(&l[word.start..word.end]) {
+        return None;
     }
-    Numbers::Refused
+    take_numbers(reader, l, word.end, out)
 }
 
-// The numbers of a text's header, its first line, in front of `out`.
-pub fn take_header_numbers(reader: Reader, s: &[u8], out: &mut [u64]) -> HeaderCount
+// The numbers of a text's header, its first line, in front of `out`: how many they are, and the place of the lines after it.
+pub fn take_header_numbers(reader: Reader, s: &[u8], out: &mut [u64]) -> Option<Parsed<usize>>
     ensures { TakesHeaderNumbers reader s.now out.old out.new result }
 {
-    let Line::At { start, end, next } = text::next_line(s, Cursor { at: 0 }) else {
-        return HeaderCount::Refused;
-    };
-    let Numbers::Got(count) = header_line(reader, &s[start..end], out) else {
-        return HeaderCount::Refused;
-    };
-    HeaderCount::Got {
-        count: count,
-        next: next,
-    }
+    let line = text::next_line(s, Cursor { at: 0 })?;
+    let value = header_line(reader, &s[line.start..line.end], out)?;
+    Some(Parsed {
+        value,
+        next: line.next,
+    })
 }
 
-fn gate_line(reader: Reader, l: &[u8]) -> ReadGate
-    ensures { gate_answer result ≡ gate_line reader l.now }
+// The gate of a line.
+fn gate_line(reader: Reader, l: &[u8]) -> Option<Gate>
+    ensures { answer_or 8 result ≡ gate_line reader l.now }
 {
-    let mut ns: [u64; 3] = [0; 3];
-    let Numbers::Got(count) = take_numbers(reader, l, 0, &mut ns) else {
-        return ReadGate::Bad;
-    };
-    if count == 3 {
-        return ReadGate::Got(Gate {
-            output: ns[0],
-            left: ns[1],
-            right: ns[2],
-        });
+    let mut ns = [0; 3];
+    if take_numbers(reader, l, 0, &mut ns)? != 3 {
+        return None;
     }
-    ReadGate::Bad
-}
-
-// The gate of the line at a cursor, in whatever form: the line's end first, and then its fields.
-fn any_gate(reader: Reader, s: &[u8], cursor: Cursor) -> TakenGate
-    ensures { TakesGate reader s.now cursor result }
-{
-    let Line::At { start, end, next } = text::next_line(s, cursor) else {
-        return TakenGate::Bad;
-    };
-    let ReadGate::Got(gate) = gate_line(reader, &s[start..end]) else {
-        return TakenGate::Bad;
-    };
-    TakenGate::Got {
-        gate: gate,
-        next: next,
-    }
+    let [output, left, right] = ns;
+    Some(Gate { output, left, right })
 }
 
 // The gate of a line of three plain numbers, each with one byte behind it: the form in which circuits are printed.
-fn plain_gate(s: &[u8], cursor: Cursor) -> PlainGate
+fn plain_gate(s: &[u8], cursor: Cursor) -> Option<Parsed<Gate>>
     ensures { TakesPlain s.now cursor result }
 {
-    let Plain::Got {
-        value: output,
-        next: second,
-    } = text::plain_number(s, cursor.at, 32)
-    else {
-        return PlainGate::Other;
-    };
-    let Plain::Got {
-        value: left,
-        next: third,
-    } = text::plain_number(s, second, 32)
-    else {
-        return PlainGate::Other;
-    };
-    let Plain::Got { value: right, next } = text::plain_number(s, third, 10) else {
-        return PlainGate::Other;
-    };
-    PlainGate::Got {
-        gate: Gate {
-            output: output,
-            left: left,
-            right: right,
+    let output = text::plain_number(s, cursor, 32)?;
+    let left = text::plain_number(s, output.next, 32)?;
+    let right = text::plain_number(s, left.next, 10)?;
+    Some(Parsed {
+        value: Gate {
+            output: output.value,
+            left: left.value,
+            right: right.value,
         },
-        next: Cursor { at: next },
-    }
+        next: right.next,
+    })
 }
 
 // The gate of the line at a cursor: nearly always three plain numbers.
-pub fn take_gate(reader: Reader, s: &[u8], cursor: Cursor) -> TakenGate
+pub fn take_gate(reader: Reader, s: &[u8], cursor: Cursor) -> Option<Parsed<Gate>>
     ensures { TakesGate reader s.now cursor result }
 {
-    let PlainGate::Got { gate, next } = plain_gate(s, cursor) else {
-        return any_gate(reader, s, cursor);
+    let Some(gate) = plain_gate(s, cursor) else {
+        return any_line(GateLine { reader }, s, cursor);
     };
-    TakenGate::Got {
-        gate: gate,
-        next: next,
+    Some(gate)
+}
+
+// A kind of line, and the item that a line of it has.
+pub trait LineKind: Copy {
+    type Item: Copy;
+
+    // what the definitions say of a line
+    ghost item: { Self → Bytes → Answer Self.Item };
+
+    // The item of a line.
+    fn read(self, line: &[u8]) -> Option<Self::Item>
+        ensures { answer_or 8 result ≡ item self line.now };
+}
+
+// A kind of line that is taken from a text.
+pub trait TakeLine: LineKind {
+    // The item of the line at a cursor, and the place of the next line.
+    fn take(self, s: &[u8], cursor: Cursor) -> Option<Parsed<Self::Item>>
+        ensures { TakesOne (Self.item self) s.now cursor result }
+    {
+        any_line(self, s, cursor)
     }
 }
 
-// One number from each of the lines from a cursor on, as many as `out` is long.
-pub fn take_literals(reader: Reader, s: &[u8], cursor: Cursor, out: &mut [u64]) -> SectionEnd
-    ensures { Takes (literal_line reader) s.now cursor (length out.old) result out.new }
+// The item of the line at a cursor, in whatever form: the line's end first, and then its fields.
+pub fn any_line<K: LineKind>(kind: K, s: &[u8], cursor: Cursor) -> Option<Parsed<K::Item>>
+    ensures { TakesOne (K.item kind) s.now cursor result }
 {
-    let mut p = cursor;
-    let mut i = 0;
-    while i < out.len() {
-        let Literal::Got { value, next } = text::take_literal(reader, s, p) else {
-            return SectionEnd::Bad;
-        };
-        out[i] = value;
-        p = next;
-        i += 1;
+    let line = text::next_line(s, cursor)?;
+    let value = kind.read(&s[line.start..line.end])?;
+    Some(Parsed {
+        value,
+        next: line.next,
+    })
+}
+
+// Lines with one number.
+#[derive(Clone, Copy)]
+pub struct LiteralLine {
+    pub reader: Reader,
+}
+
+impl LineKind for LiteralLine {
+    type Item = u64;
+
+    ghost item = { λ kind. literal_line kind.reader };
+
+    fn read(self, line: &[u8]) -> Option<u64> {
+        text::line_literal(self.reader, line)
     }
-    SectionEnd::At(p)
+}
+
+impl TakeLine for LiteralLine {
+    fn take(self, s: &[u8], cursor: Cursor) -> Option<Parsed<u64>> {
+        let literal = text::take_literal(self.reader, s, cursor);
+        let value = literal.value?;
+        Some(Parsed {
+            value,
+            next: literal.next,
+        })
+    }
+}
+
+// Lines with a gate.
+#[derive(Clone, Copy)]
+pub struct GateLine {
+    pub reader: Reader,
+}
+
+impl LineKind for GateLine {
+    type Item = Gate;
+
+    ghost item = { λ kind. gate_line kind.reader };
+
+    fn read(self, line: &[u8]) -> Option<Gate> {
+        gate_line(self.reader, line)
+    }
+}
+
+impl TakeLine for GateLine {
+    fn take(self, s: &[u8], cursor: Cursor) -> Option<Parsed<Gate>> {
+        take_gate(self.reader, s, cursor)
+    }
+}
+
+// The items of the lines from a cursor on, as many as `out` is long; the place after them, or none where a line is missing or bad.
+pub fn take_lines<K: TakeLine>(kind: K, s: &[u8], cursor: Cursor, out: &mut [K::Item]) -> Option<Cursor>
+    ensures { Takes (K.item kind) s.now cursor (length out.old) result out.new }
+{
+    let mut next = cursor;
+    for i in 0..out.len() {
+        let line = kind.take(s, next)?;
+        out[i] = line.value;
+        next = line.next;
+    }
+    Some(next)
+}
+
+// The items of the n lines from a cursor on, and `blank` past them; more than N of them are refused at once.
+pub fn take_array<K: TakeLine, const N: usize>(
+    kind: K,
+    s: &[u8],
+    cursor: Cursor,
+    n: usize,
+    blank: K::Item,
+) -> Option<Parsed<[K::Item; N]>>
+    ensures { n ≤ N → TakesArray (K.item kind) s.now cursor n (replicate N blank) result }
+{
+    if N < n {
+        return None;
+    }
+    let mut value = [blank; N];
+    let next = take_lines(kind, s, cursor, &mut value[..n])?;
+    Some(Parsed { value, next })
 }

@@ -108,7 +108,7 @@ module _ (buffer : Bytes) (pairs : List ℕ) (w count : ℕ) (k : Safe buffer pa
     outputs-are : (ws : List Sections) (r : Readable buffer pairs ws) → n.outputs ≡ length (next ws r).first.outputs
     outputs-are ws r = ap (λ (m : AagCounts). m.outputs) (counts-are (next ws r).first (next ws r).reads)
 
-    pub safe-stop : n.bads ≡ 0 → n.outputs ≡ 0 → TestsSafety buffer pairs false
+    pub safe-stop : (n.bads ≡ 0) → (n.outputs ≡ 0) → TestsSafety buffer pairs false
     safe-stop b o ws r =
         ap (λ (q : Bool). q && all_safe (drop (w + 1) ws))
         (sym (none-safe (next ws r).first.bads (next ws r).first.outputs (sym (bads-are ws r) ∙ b) (sym (outputs-are ws r) ∙ o)))
@@ -117,8 +117,6 @@ module _ (buffer : Bytes) (pairs : List ℕ) (w count : ℕ) (k : Safe buffer pa
     goes_on : ((ws : List Sections) (r : Readable buffer pairs ws) → is_some (safety (next ws r).first) ≡ true) → Safe buffer pairs (w + 1)
     goes_on f = record { rest = λ ws r. ap (λ (q : Bool). q && all_safe (drop (w + 1) ws)) (sym (f ws r)) ∙ both ws r }
 
-    pub safe-bads : (n.bads ≡ 0 → ⊥) → Safe buffer pairs (w + 1)
-    safe-bads z = goes_on (λ ws r. bad_safe (next ws r).first.bads (next ws r).first.outputs (λ e. z (bads-are ws r ∙ e)))
-
-    pub safe-outputs : (n.outputs ≡ 0 → ⊥) → Safe buffer pairs (w + 1)
-    safe-outputs z = goes_on (λ ws r. output-safe (next ws r).first.bads (next ws r).first.outputs (λ e. z (outputs-are ws r ∙ e)))
+    pub safe-more : ((n.bads ≡ 0) × (n.outputs ≡ 0 → ⊥)) ⊎ (n.bads ≡ 0 → ⊥) → Safe buffer pairs (w + 1)
+    safe-more (inr z) = goes_on (λ ws r. bad_safe (next ws r).first.bads (next ws r).first.outputs (λ e. z (bads-are ws r ∙ e)))
+    safe-more (inl z) = goes_on (λ ws r. output-safe (next ws r).first.bads (next ws r).first.outputs (λ e. z.1 (outputs-are ws r ∙ e)))

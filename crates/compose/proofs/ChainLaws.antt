@@ -1,4 +1,10 @@
 -- Laws of the composer from the call down to what is laid out: each function's answer from that of the next.
+use Rattle.std.specs.Prelude.{Option, Some, None, Result, Ok, Err}
+use Rattle.std.specs.Result.{IsErrAnd}
+use Rattle.aiger.specs.declared.Refusal.{Refusal}
+use Rattle.aiger.specs.declared.Refusal.TheVariants as refusal
+use Rattle.aiger.specs.Refusals.{refusal_number}
+use Rattle.aiger.proofs.AnsweredLaws.{answered-err}
 use Prim.Native.Nat.{ℕ, ◌+◌, ◌-◌, ◌*◌}
 use mathlib.Core.Bool.{true, false, not}
 use mathlib.Core.List.{List, [], ◌∷◌}
@@ -9,6 +15,7 @@ use lib.Dec.{eqb, leb}
 use lib.ListN.{length}
 use Rattle.lists.specs.Answer.{Answer, got, refused, and_then}
 use Rattle.lists.specs.Parts.{Bytes}
+use Rattle.lists.proofs.AnswerLaws.{got_same, got-refused}
 use Rattle.lists.specs.Tests.{all}
 use Rattle.witness_text.specs.declared.AagCounts.{AagCounts}
 use Rattle.witness_read.specs.Sections.{Sections, variables}
@@ -17,25 +24,22 @@ use Rattle.compose_spec.specs.Composing.{maps_right, compose}
 use Rattle.compose_spec.specs.Calling.{size, sizes, read_all, compose_sections, texts_in, compose_read}
 use Rattle.compose_joint.specs.Inner.Joint.{total_of, input_count, latch_count, gate_count}
 use Rattle.compose_gather.specs.declared.Totals.{Totals}
-use Rattle.compose_gather.specs.declared.Checked.{Checked}
-use Rattle.compose_gather.specs.declared.Checked.TheVariants as checked
 use Rattle.compose_gather.specs.Inner.Counts.{CountsListed, ChecksAll}
 use Rattle.compose_gather.specs.Inner.Checking.{added_counts, SmallSums, totals_from, checked_from, none_yet}
 use Rattle.compose_layout.specs.declared.Layout.{Layout}
-use Rattle.compose_layout.specs.declared.Laid.{Laid}
-use Rattle.compose_layout.specs.declared.Laid.TheVariants as laid
 use Rattle.compose_layout.specs.Inner.Laid.{Fitting, LaidOut, CanLay, Lays}
 use Rattle.compose_layout.proofs.StageLaws.{fitting-same}
-use Rattle.compose.specs.declared.Composed.{Composed}
-use Rattle.compose.specs.declared.Composed.TheVariants as composed
 use Rattle.compose.specs.Inner.Steps.{first_room, room_beside, Answers, ModelIs, ModelSome, ComposesWitnesses, ComposesFitting, LaidRight, LaidSome, ComposesLaid}
 use Rattle.compose.proofs.CallLaws.{room-enough}
 
 -- a refusal leaves the result bytes as they are
-pub refuses : (out : Bytes) (answer : Answer Bytes) (k : ℕ) → answer ≡ refused k → Answers out answer out (composed.Refused k)
-refuses out answer k e = record { returns = rw e refl; result = rw e refl }
+pub refuses : (out : Bytes) (answer : Answer Bytes) (m : Refusal) → answer ≡ refused (refusal_number m) → Answers out answer out (Err m)
+refuses out answer m e = record { returns = rw e refl; result = rw e refl }
 
-pub answers-same : (out : Bytes) (a b : Answer Bytes) (out' : Bytes) (r : Composed) → a ≡ b → Answers out b out' r → Answers out a out' r
+pub refuses_on : (out : Bytes) (answer : Answer Bytes) (m : Refusal) → answer ≡ refused (refusal_number m) → (r : Result ℕ Refusal) → IsErrAnd r (λ k. k ≡ m) → Answers out answer out r
+refuses_on out answer m e r h = record { returns = answered-err m r h ∙ rw e refl; result = rw e refl }
+
+pub answers-same : (out : Bytes) (a b : Answer Bytes) (out' : Bytes) (r : Result ℕ Refusal) → a ≡ b → Answers out b out' r → Answers out a out' r
 answers-same out a b out' r e k = rw e k
 
 -- ---- laid out
@@ -44,20 +48,20 @@ wrong_literal : (room : ℕ) (m : Sections) (ws : List Sections) → all (maps_r
 unfolding compose
 wrong_literal room m ws e = rw e refl
 
-module _ (mc : AagCounts) (t : Totals) (buffer : Bytes) (pairs work work' : List ℕ) (out : Bytes) (x : Laid) (l : Lays mc t buffer pairs work work' x) (same : length work' ≡ length work) where
-  pub fitting_wrong : x ≡ laid.Wrong → ComposesFitting mc t buffer pairs work out out (composed.Refused 16)
-  fitting_wrong e = record { each = λ m ws f. refuses out (compose_sections (length out) m ws) 16 (wrong_literal (length out) m ws (subst (LaidOut buffer pairs m ws work') e (l m ws f))) }
+module _ (mc : AagCounts) (t : Totals) (buffer : Bytes) (pairs work work' : List ℕ) (out : Bytes) (x : Option Layout) (l : Lays mc t buffer pairs work work' x) (same : length work' ≡ length work) where
+  pub fitting_wrong : x ≡ None → ComposesFitting mc t buffer pairs work out out (Err refusal.Mapping)
+  fitting_wrong e = record { each = λ m ws f. refuses out (compose_sections (length out) m ws) refusal.Mapping (wrong_literal (length out) m ws (subst (LaidOut buffer pairs m ws work') e (l m ws f))) }
 
-  module _ (at : Layout) (e : x ≡ laid.At at) where
+  module _ (at : Layout) (e : x ≡ Some at) where
     right : (m : Sections) (ws : List Sections) → Fitting mc t buffer pairs work m ws → LaidRight mc t buffer pairs work' at m ws
     right m ws f =
-        let o : LaidOut buffer pairs m ws work' (laid.At at) = subst (LaidOut buffer pairs m ws work') e (l m ws f) in
+        let o : LaidOut buffer pairs m ws work' (Some at) = subst (LaidOut buffer pairs m ws work') e (l m ws f) in
         record { fitting = fitting-same mc t buffer pairs work work' m ws same f; right = o.0; ready = o.1 }
 
     pub fitting_laid : CanLay mc t buffer pairs work → LaidSome mc t buffer pairs work' at
     fitting_laid k = record { m = k.m; ws = k.ws; holds = right k.m k.ws k.holds }
 
-    pub fitting-composed : (out' : Bytes) (r : Composed) → ComposesLaid mc t buffer pairs work' at out out' r → ComposesFitting mc t buffer pairs work out out' r
+    pub fitting-composed : (out' : Bytes) (r : Result ℕ Refusal) → ComposesLaid mc t buffer pairs work' at out out' r → ComposesFitting mc t buffer pairs work out out' r
     fitting-composed out' r c = record { each = λ m ws f. c.each m ws (right m ws f) }
 
 -- ---- the witnesses
@@ -96,31 +100,31 @@ counts-are t (s ∷ ss) =
     }
 
 -- the answer of `check_all`, taken apart
-checked_refused : (t : Totals) (a : Answer (List Sections)) (k : ℕ) → checked.Refused k ≡ checked_from t a → a ≡ refused k
-checked_refused t (got ws) k e = let z : ◌≡◌ {A = ℕ} 0 1 = cc in absurd (omega arith)
+checked_refused : (t : Totals) (a : Answer (List Sections)) (k : ℕ) → refused k ≡ checked_from t a → a ≡ refused k
+checked_refused t (got ws) k e = let e : got (totals_from t ws) ≡ refused k = sym e in got-refused refl e
 checked_refused t (refused n) k e = let s : n ≡ k = cc in ap refused s
 
-checked_read : (t : Totals) (a : Answer (List Sections)) (u : Totals) → checked.Read u ≡ checked_from t a → (ws : List Sections) × (a ≡ got ws) × (u ≡ totals_from t ws)
-checked_read t (got ws) u e = let s : u ≡ totals_from t ws = cc in (ws, refl, s)
-checked_read t (refused n) u e = let z : ◌≡◌ {A = ℕ} 0 1 = cc in absurd (omega arith)
+checked_read : (t : Totals) (a : Answer (List Sections)) (u : Totals) → got u ≡ checked_from t a → (ws : List Sections) × (a ≡ got ws) × (u ≡ totals_from t ws)
+checked_read t (got ws) u e = (ws, refl, got_same u (totals_from t ws) e)
+checked_read t (refused n) u e = let e : refused n ≡ got u = sym e in got-refused e refl
 
-module _ (mc : AagCounts) (buffer : Bytes) (pairs work : List ℕ) (out : Bytes) (room : ℕ) (a : room ≡ room_beside mc (length work)) (counts : List ℕ) (x : Checked)
-    (checks : ChecksAll room buffer pairs counts x) where
-  c : x ≡ checked_from (none_yet room) (read_all (texts_in buffer pairs))
-  c = checks.is
+module _ (mc : AagCounts) (buffer : Bytes) (pairs work : List ℕ) (out : Bytes) (room : ℕ) (a : room ≡ room_beside mc (length work)) (counts : List ℕ) where
+  pub witnesses_refused : (m : Refusal) → ChecksAll room buffer pairs counts (Err m) → (r : Result ℕ Refusal) → IsErrAnd r (λ k. k ≡ m) → ComposesWitnesses mc buffer pairs work out out r
+  witnesses_refused k checks r h =
+      let f : read_all (texts_in buffer pairs) ≡ refused (refusal_number k) = checked_refused (none_yet room) (read_all (texts_in buffer pairs)) (refusal_number k) checks.is in
+      record {
+        each = λ m i.
+            refuses_on out (and_then (read_all (texts_in buffer pairs)) (compose_read (length work) (length out) m)) k
+            (ap (λ (z : Answer (List Sections)). and_then z (compose_read (length work) (length out) m)) f) r h;
+      }
 
-  pub witnesses_refused : (k : ℕ) → x ≡ checked.Refused k → ComposesWitnesses mc buffer pairs work out out (composed.Refused k)
-  witnesses_refused k e =
-      let f : read_all (texts_in buffer pairs) ≡ refused k = checked_refused (none_yet room) (read_all (texts_in buffer pairs)) k (sym e ∙ c) in
-      record { each = λ m i. refuses out (and_then (read_all (texts_in buffer pairs)) (compose_read (length work) (length out) m)) k (ap (λ (z : Answer (List Sections)). and_then z (compose_read (length work) (length out) m)) f) }
-
-  module _ (t : Totals) (e : x ≡ checked.Read t) where
+  module _ (t : Totals) (checks : ChecksAll room buffer pairs counts (Ok t)) where
     -- the counts are listed
     pub witnesses_listed : CountsListed buffer pairs counts
-    witnesses_listed = checks.lists t e
+    witnesses_listed = checks.lists t refl
 
     all_read : (ws : List Sections) × (read_all (texts_in buffer pairs) ≡ got ws) × (t ≡ totals_from (none_yet room) ws)
-    all_read = checked_read (none_yet room) (read_all (texts_in buffer pairs)) t (sym e ∙ c)
+    all_read = checked_read (none_yet room) (read_all (texts_in buffer pairs)) t checks.is
 
     counted : Counts (none_yet room) all_read.0 t
     counted = subst (Counts (none_yet room) all_read.0) (sym all_read.2) (counts-are (none_yet room) all_read.0)
@@ -137,11 +141,11 @@ module _ (mc : AagCounts) (buffer : Bytes) (pairs work : List ℕ) (out : Bytes)
         room-model : (m : Sections) → ModelIs buffer pairs mc m → room_beside mc (length work) ≡ first_room (length work) - size m
         room-model m i = ap (λ (n : AagCounts). room_beside n (length work)) i.counts ∙ four_less (first_room (length work)) (variables m) (length m.outputs) (length m.bads) (length m.constraints)
 
-    pub witnesses_short : t.room ≡ 0 → ComposesWitnesses mc buffer pairs work out out (composed.Refused 15)
+    pub witnesses_short : t.room ≡ 0 → ComposesWitnesses mc buffer pairs work out out (Err refusal.ComposingRoom)
     witnesses_short z =
         record {
           each = λ m i.
-              refuses out (and_then (read_all (texts_in buffer pairs)) (compose_read (length work) (length out) m)) 15
+              refuses out (and_then (read_all (texts_in buffer pairs)) (compose_read (length work) (length out) m)) refusal.ComposingRoom
               (goes m (refused 15) (rw (enough m i, eq-eqb t.room 0 z) refl));
         }
 
@@ -162,7 +166,7 @@ module _ (mc : AagCounts) (buffer : Bytes) (pairs work : List ℕ) (out : Bytes)
       pub witnesses_fit : ModelSome buffer pairs mc → CanLay mc t buffer pairs work
       witnesses_fit k = record { m = k.m; ws = all_read.0; holds = fitting k.m k.is }
 
-      pub witnesses_composed : (out' : Bytes) (r : Composed) → ComposesFitting mc t buffer pairs work out out' r → ComposesWitnesses mc buffer pairs work out out' r
+      pub witnesses_composed : (out' : Bytes) (r : Result ℕ Refusal) → ComposesFitting mc t buffer pairs work out out' r → ComposesWitnesses mc buffer pairs work out out' r
       witnesses_composed out' r h =
           record {
             each = λ m i.

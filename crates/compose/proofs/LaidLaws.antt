@@ -1,11 +1,17 @@
 -- Laws of the composer from what is laid out on: merging, 19, measuring and writing.
+use Rattle.std.specs.Prelude.{Result, Ok, Err}
+use Rattle.std.specs.Result.{IsErrAnd}
+use Rattle.aiger.specs.declared.Refusal.{Refusal}
+use Rattle.aiger.specs.declared.Refusal.TheVariants as refusal
+use Rattle.aiger.specs.Refusals.{refusal_number}
+use Rattle.aiger.proofs.AnsweredLaws.{answered-err}
 use Prim.Native.Nat.{ℕ, ◌≤◌, ◌<◌}
-use mathlib.Core.Bool.{Bool, true, false}
+use mathlib.Core.Bool.{Bool, true, false, not}
 use mathlib.Core.List.{List, [], ◌∷◌, ◌++◌}
 use mathlib.Core.Path.{◌≡◌, refl, sym, ap, ◌∙◌, subst}
 use native.Mathlib.Nat.{zero-add}
 use native.Mathlib.Omega.{arith}
-use borrow.Author.Tests.{le-leb, lt-leb}
+use borrow.Author.Tests.{not-true, not-false, le-leb, lt-leb}
 use lib.ListN.{length, take, drop}
 use Rattle.lists.specs.Answer.{Answer, got, refused, and_then, unless}
 use Rattle.lists.specs.Parts.{Bytes, put, front}
@@ -21,18 +27,14 @@ use Rattle.compose_joint.proofs.GateLaws.{composed-gates-most}
 use Rattle.compose_gather.specs.declared.Totals.{Totals}
 use Rattle.compose_gather.specs.Inner.Checking.{FewInOrder}
 use Rattle.compose_layout.specs.declared.Layout.{Layout}
-use Rattle.compose_layout.specs.Inner.Laid.{Some}
+use Rattle.compose_layout.specs.Inner.Laid.{OfSome}
 use Rattle.compose_merge.specs.declared.Merged.{Merged}
-use Rattle.compose_merge.specs.declared.Merging.{Merging}
-use Rattle.compose_merge.specs.declared.Merging.TheVariants as merging
 use Rattle.compose_merge.specs.Inner.Merged.{Mergeable, Done, Outcome, Goes}
 use Rattle.compose_merge.proofs.CallLaws.{readable-range, readable-few, ready_merge, ready-can, ready-kept, refused-composes, done-composes}
 use Rattle.compose_lines.proofs.PartLaws.{composed-parts}
 use Rattle.compose_print.specs.Inner.Written.{Printable, PrintableSome, PrintsText, from_header}
-use Rattle.compose.specs.declared.Composed.{Composed}
-use Rattle.compose.specs.declared.Composed.TheVariants as composed
 use Rattle.compose.specs.Inner.Steps.{Answers, TestsSafety, all_safe, Measures, Writes, LaidRight, LaidSome, ComposesLaid}
-use Rattle.compose.proofs.ChainLaws.{refuses, answers-same}
+use Rattle.compose.proofs.ChainLaws.{refuses, refuses_on, answers-same}
 
 module _ (buffer : Bytes) (pairs work : List ℕ) (at : Layout) (c : Merged) (t : Totals) where
   -- the whole text is printed
@@ -52,15 +54,15 @@ module _ (buffer : Bytes) (pairs work : List ℕ) (at : Layout) (c : Merged) (t 
       }
 
   module _ (out out₁ : Bytes) (size : ℕ) (h : Measures buffer pairs work at c t out out₁ size) where
-    pub too_long : length out₁ < size → Writes buffer pairs work at c t out out₁ (composed.Refused 20)
+    pub too_long : length out₁ < size → Writes buffer pairs work at c t out out₁ (Err refusal.ResultRoom)
     too_long l =
         record {
           each = λ m ws k.
-              subst (λ (x : Bytes). Answers out (printed_within (length out) (composed m ws)) x (composed.Refused 20)) (sym h.same)
-              (refuses out (printed_within (length out) (composed m ws)) 20 (rw (lt-leb (length (printed (composed m ws))) (length out) (omega (arith, h.size m ws k, ap length h.same, l))) refl));
+              subst (λ (x : Bytes). Answers out (printed_within (length out) (composed m ws)) x (Err refusal.ResultRoom)) (sym h.same)
+              (refuses out (printed_within (length out) (composed m ws)) refusal.ResultRoom (rw (lt-leb (length (printed (composed m ws))) (length out) (omega (arith, h.size m ws k, ap length h.same, l))) refl));
         }
 
-    pub written : length out < 9223372036854775808 → size ≤ length out₁ → (out' : Bytes) (r : ℕ) → PrintsText from_header buffer pairs work at c t out₁ 0 out' r → Writes buffer pairs work at c t out out' (composed.Got r)
+    pub written : length out < 9223372036854775808 → size ≤ length out₁ → (out' : Bytes) (r : ℕ) → PrintsText from_header buffer pairs work at c t out₁ 0 out' r → Writes buffer pairs work at c t out out' (Ok r)
     written small l out' r p =
         record {
           each = λ m ws k.
@@ -73,39 +75,38 @@ module _ (buffer : Bytes) (pairs work : List ℕ) (at : Layout) (c : Merged) (t 
         }
       where
         answered : (m : Sections) (ws : List Sections) (out' : Bytes) (r : ℕ) → length (printed (composed m ws)) ≤ length out → out' ≡ front out (printed (composed m ws)) → r ≡ length (printed (composed m ws))
-            → Answers out (printed_within (length out) (composed m ws)) out' (composed.Got r)
+            → Answers out (printed_within (length out) (composed m ws)) out' (Ok r)
         answered m ws out' r f s n =
-            answers-same out (printed_within (length out) (composed m ws)) (got (printed (composed m ws))) out' (composed.Got r)
-            (rw (le-leb (length (printed (composed m ws))) (length out) f) refl) (record { returns = ap composed.Got n; result = s })
+            answers-same out (printed_within (length out) (composed m ws)) (got (printed (composed m ws))) out' (Ok r)
+            (rw (le-leb (length (printed (composed m ws))) (length out) f) refl) (record { returns = ap got n; result = s })
 
 -- ---- merging and 19
 
 module _ (mc : AagCounts) (t : Totals) (buffer : Bytes) (pairs work : List ℕ) (at : Layout) where
-  pub laid_can : LaidSome mc t buffer pairs work at → Some (Mergeable mc t at work)
+  pub laid_can : LaidSome mc t buffer pairs work at → OfSome (Mergeable mc t at work)
   laid_can k = ready-can mc t buffer pairs work work k.m k.ws at k.holds.fitting k.holds.ready
 
   pub laid_pairs : LaidSome mc t buffer pairs work at → FewInOrder buffer pairs
   laid_pairs k = k.holds.fitting.readable.pairs_hold
 
-  module _ (work' : List ℕ) (x : Merging) (g : Goes (Mergeable mc t at work) at work work' x) (same : length work' ≡ length work) where
-    outcome : (m : Sections) (ws : List Sections) → LaidRight mc t buffer pairs work at m ws → Outcome m ws at work work' x
-    outcome m ws k = g.goes m ws (ready_merge mc t buffer pairs work work m ws at k.fitting k.ready)
-
+  module _ (work' : List ℕ) (same : length work' ≡ length work) where
     -- 16 to 20 of sections that compose to an answer
     answer_of_lem : (room : ℕ) (m : Sections) (ws : List Sections) (a : Answer Sections) → compose m ws ≡ a → compose_sections room m ws ≡ and_then a (printed_within room)
     answer_of_lem room m ws a e = ap (λ (z : Answer Sections). and_then z (printed_within room)) e
 
-    pub laid_refused : (out : Bytes) (k : ℕ) → x ≡ merging.Refused k → ComposesLaid mc t buffer pairs work at out out (composed.Refused k)
-    laid_refused out k e =
+    pub laid_refused : (k : Refusal) → Goes (Mergeable mc t at work) at work work' (Err k) → (out : Bytes) (r : Result ℕ Refusal) → IsErrAnd r (λ j. j ≡ k)
+        → ComposesLaid mc t buffer pairs work at out out r
+    laid_refused k g out r h =
         record {
           each = λ m ws l.
-              refuses out (compose_sections (length out) m ws) k
-              (answer_of_lem (length out) m ws (refused k) (refused-composes m ws l.right k (subst (Outcome m ws at work work') e (outcome m ws l))));
+              refuses_on out (compose_sections (length out) m ws) k
+              (answer_of_lem (length out) m ws (refused (refusal_number k))
+              (refused-composes m ws l.right (refusal_number k) (g.goes m ws (ready_merge mc t buffer pairs work work m ws at l.fitting l.ready)))) r h;
         }
 
-    module _ (c : Merged) (e : x ≡ merging.Done c) where
+    module _ (c : Merged) (g : Goes (Mergeable mc t at work) at work work' (Ok c)) where
       done : (m : Sections) (ws : List Sections) → LaidRight mc t buffer pairs work at m ws → Done m ws at work work' c
-      done m ws l = subst (Outcome m ws at work work') e (outcome m ws l)
+      done m ws l = g.goes m ws (ready_merge mc t buffer pairs work work m ws at l.fitting l.ready)
 
       left : (room : ℕ) (m : Sections) (ws : List Sections) → LaidRight mc t buffer pairs work at m ws
           → compose_sections room m ws ≡ and_then (unless 19 (all_safe ws) (got (composed m ws))) (printed_within room)
@@ -133,17 +134,17 @@ module _ (mc : AagCounts) (t : Totals) (buffer : Bytes) (pairs work : List ℕ) 
       laid_printable k = record { m = k.m; ws = k.ws; holds = printable k.m k.ws k.holds }
 
       module _ (b : Bool) (s : TestsSafety buffer pairs b) where
-        pub laid_unsafe : b ≡ false → (out : Bytes) → ComposesLaid mc t buffer pairs work at out out (composed.Refused 19)
+        pub laid_unsafe : not b ≡ true → (out : Bytes) → ComposesLaid mc t buffer pairs work at out out (Err refusal.NoSafety)
         laid_unsafe f out =
             record {
               each = λ m ws l.
-                  refuses out (compose_sections (length out) m ws) 19 (left (length out) m ws l ∙ rw (sym (s ws l.fitting.readable) ∙ f) refl);
+                  refuses out (compose_sections (length out) m ws) refusal.NoSafety (left (length out) m ws l ∙ rw (sym (s ws l.fitting.readable) ∙ not-true b f) refl);
             }
 
-        pub laid_written : b ≡ true → (out out' : Bytes) (r : Composed) → Writes buffer pairs work' at c t out out' r → ComposesLaid mc t buffer pairs work at out out' r
+        pub laid_written : not b ≡ false → (out out' : Bytes) (r : Result ℕ Refusal) → Writes buffer pairs work' at c t out out' r → ComposesLaid mc t buffer pairs work at out out' r
         laid_written f out out' r h =
             record {
               each = λ m ws l.
                   answers-same out (compose_sections (length out) m ws) (printed_within (length out) (composed m ws)) out' r
-                  (left (length out) m ws l ∙ rw (sym (s ws l.fitting.readable) ∙ f) refl) (h.each m ws (printable m ws l));
+                  (left (length out) m ws l ∙ rw (sym (s ws l.fitting.readable) ∙ not-false b f) refl) (h.each m ws (printable m ws l));
             }

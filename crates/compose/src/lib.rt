@@ -10,18 +10,11 @@ ghost use Rattle.compose_print.specs.Inner.Written.{PrintableSome};
 ghost use Rattle.compose.specs.Promise.{Composes};
 ghost use Rattle.compose.specs.Inner.Steps.{first_room, TestsSafety, room_beside, Answers, Measures, Writes, LaidSome, ComposesLaid, ComposesFitting, ModelSome, ComposesWitnesses};
 
-use compose_gather::{Checked, Totals};
-use compose_layout::{Laid, Layout};
-use compose_merge::{Merged, Merging};
-use witness_read::ReadAag;
+use aiger::Refusal;
+use compose_gather::Totals;
+use compose_layout::Layout;
+use compose_merge::Merged;
 use witness_text::AagCounts;
-
-// How many bytes the composed text has, or the number of the reason.
-#[derive(Clone, Copy)]
-pub enum Composed {
-    Got(usize),
-    Refused(u64),
-}
 
 // How much room so many work words give.
 fn first_room(words: usize) -> usize
@@ -40,17 +33,11 @@ fn all_safe(witnesses: &[u8], pairs: &[u64], counts: &[u64]) -> bool
     ensures { TestsSafety witnesses.now pairs.now result }
 {
     let count = pairs.len() / 2;
-    let mut w = 0;
-    while w < count {
+    for w in 0..count {
         let n = compose_gather::counts::counts_at(counts, w);
-        if n.bads == 0 {
-            if n.outputs == 0 {
-                return false;
-            }
-            w += 1;
-            continue;
+        if n.bads == 0 && n.outputs == 0 {
+            return false;
         }
-        w += 1;
     }
     true
 }
@@ -92,19 +79,16 @@ fn write_merged(
     merged: Merged,
     totals: Totals,
     out: &mut [u8],
-) -> Composed
+) -> Result<usize, Refusal>
     requires printable_some { PrintableSome witnesses.now pairs.now work.now at merged totals }
     requires counts_listed { CountsListed witnesses.now pairs.now counts.now }
     ensures { Writes witnesses.now pairs.now work.now at merged totals out.old out.new result }
 {
     let size = measure(witnesses, pairs, counts, work, at, merged, totals, out);
     if out.len() < size {
-        return Composed::Refused(20);
+        return Err(Refusal::ResultRoom);
     }
-    let end = compose_print::print_composition(
-        out, witnesses, pairs, counts, work, at, merged, totals,
-    );
-    Composed::Got(end)
+    Ok(compose_print::print_composition(out, witnesses, pairs, counts, work, at, merged, totals))
 }
 
 // Composes witnesses that are laid out.
@@ -117,21 +101,16 @@ fn compose_laid(
     totals: Totals,
     at: Layout,
     out: &mut [u8],
-) -> Composed
+) -> Result<usize, Refusal>
     requires laid_some { LaidSome model_counts totals witnesses.now pairs.now work.old at }
     requires counts_listed { CountsListed witnesses.now pairs.now counts.now }
     ensures { ComposesLaid model_counts totals witnesses.now pairs.now work.old at out.old out.new result }
 {
-    let merged = compose_merge::merge(work, at, model_counts, totals);
-    match merged {
-        Merging::Refused(reason) => Composed::Refused(reason),
-        Merging::Done(c) => {
-            if all_safe(witnesses, pairs, counts) {
-                return write_merged(witnesses, pairs, counts, work, at, c, totals, out);
-            }
-            Composed::Refused(19)
-        }
+    let merged = compose_merge::merge(work, at, model_counts, totals)?;
+    if !all_safe(witnesses, pairs, counts) {
+        return Err(Refusal::NoSafety);
     }
+    write_merged(witnesses, pairs, counts, work, at, merged, totals, out)
 }
 
 // Composes witnesses that are read and for which there are enough work words, for a model with these counts.
@@ -143,25 +122,24 @@ fn compose_fitting(
     model_counts: AagCounts,
     totals: Totals,
     out: &mut [u8],
-) -> Composed
+) -> Result<usize, Refusal>
     requires can_lay { CanLay model_counts totals witnesses.now pairs.now work.old }
     requires counts_listed { CountsListed witnesses.now pairs.now counts.now }
     ensures { ComposesFitting model_counts totals witnesses.now pairs.now work.old out.old out.new result }
 {
-    let laid = compose_layout::lay(witnesses, pairs, counts, work, model_counts, totals);
-    match laid {
-        Laid::Wrong => Composed::Refused(16),
-        Laid::At(at) => compose_laid(
-            witnesses,
-            pairs,
-            counts,
-            work,
-            model_counts,
-            totals,
-            at,
-            out,
-        ),
-    }
+    let Some(at) = compose_layout::lay(witnesses, pairs, counts, work, model_counts, totals) else {
+        return Err(Refusal::Mapping);
+    };
+    compose_laid(
+        witnesses,
+        pairs,
+        counts,
+        work,
+        model_counts,
+        totals,
+        at,
+        out,
+    )
 }
 
 // How much room the model leaves.
@@ -186,23 +164,18 @@ fn compose_witnesses(
     work: &mut [u64],
     model_counts: AagCounts,
     out: &mut [u8],
-) -> Composed
+) -> Result<usize, Refusal>
     requires { ModelSome witnesses.now pairs.now model_counts }
     ensures { ComposesWitnesses model_counts witnesses.now pairs.now work.old out.old out.new result }
 {
     let room = room_beside(model_counts, work.len());
     // nine for each of at most 64 witnesses
     let mut counts: [u64; 576] = [0; 576];
-    let checked = compose_gather::check_all(witnesses, pairs, room, &mut counts);
-    match checked {
-        Checked::Refused(reason) => Composed::Refused(reason),
-        Checked::Read(t) => {
-            if t.room == 0 {
-                return Composed::Refused(15);
-            }
-            compose_fitting(witnesses, pairs, &counts, work, model_counts, t, out)
-        }
+    let totals = compose_gather::check_all(witnesses, pairs, room, &mut counts)?;
+    if totals.room == 0 {
+        return Err(Refusal::ComposingRoom);
     }
+    compose_fitting(witnesses, pairs, &counts, work, model_counts, totals, out)
 }
 
 // Reads the model, then the witnesses, and composes them.
@@ -212,14 +185,12 @@ fn compose_texts(
     pairs: &[u64],
     work: &mut [u64],
     out: &mut [u8],
-) -> Composed
+) -> Result<usize, Refusal>
     requires { FewInOrder witnesses.now pairs.now }
     ensures { Answers out.old (compose_texts (length work.old) (length out.old) model.now (texts_in witnesses.now pairs.now)) out.new result }
 {
-    match witness_read::parse_aag(model, false) {
-        ReadAag::Refused(reason) => Composed::Refused(reason),
-        ReadAag::Got(m) => compose_witnesses(witnesses, pairs, work, m, out),
-    }
+    let model_counts = witness_read::parse_aag(model, false)?;
+    compose_witnesses(witnesses, pairs, work, model_counts, out)
 }
 
 // The composition; the work words are not cleared here.
@@ -229,20 +200,17 @@ fn compose_in(
     pairs: &[u64],
     work: &mut [u64],
     out: &mut [u8],
-) -> Composed
+) -> Result<usize, Refusal>
     ensures { Answers out.old (compose_call (length work.old) (length out.old) model.now witnesses.now pairs.now) out.new result }
 {
     let count = pairs.len() / 2;
-    if count < 2 {
-        return Composed::Refused(1);
+    if count < 2 || 64 < count {
+        return Err(Refusal::WitnessCount);
     }
-    if 64 < count {
-        return Composed::Refused(1);
+    if !lists::in_order(pairs, witnesses.len()) {
+        return Err(Refusal::WitnessPairs);
     }
-    if lists::in_order(pairs, witnesses.len()) {
-        return compose_texts(model, witnesses, pairs, work, out);
-    }
-    Composed::Refused(2)
+    compose_texts(model, witnesses, pairs, work, out)
 }
 
 // Composes safety witnesses for a model (R8).
@@ -252,10 +220,10 @@ pub fn compose_safety_witnesses_v1(
     pairs: &[u64],
     work: &mut [u64],
     out: &mut [u8],
-) -> Composed
+) -> Result<usize, Refusal>
     ensures { Composes model.now witnesses.now pairs.now work.old out.old work.new out.new result }
 {
-    let r = compose_in(model, witnesses, pairs, work, out);
+    let composed = compose_in(model, witnesses, pairs, work, out);
     lists::clear(work);
-    r
+    composed
 }

@@ -1,15 +1,14 @@
 // Runs the composer on the composing case R14.7 and on its neighbours; what they must print is in the file `stdout`.
 #![tactic(auto)]
 
-use compose::Composed;
+use aiger::Refusal;
 use std::io;
-use text_decimal::Written;
 
 // Prints `refused`, the number and byte 10.
-fn print_refused(rt: &impl Print, reason: u64) -> io::Result<()> {
+fn print_refused(rt: &impl Print, refusal: Refusal) -> io::Result<()> {
     let mut line = [0u8; 32];
     rt.write_all(b"refused ")?;
-    let Written::Next(size) = text_decimal::write_decimal(&mut line, 0, reason) else {
+    let Some(size) = text_decimal::write_decimal(&mut line, 0, u64::from(refusal)) else {
         return Ok(());
     };
     if size <= 32 {
@@ -27,15 +26,14 @@ fn show(
     work: &mut [u64],
     out: &mut [u8],
 ) -> io::Result<()> {
-    let composed = compose::compose_safety_witnesses_v1(model, witnesses, pairs, work, out);
-    match composed {
-        Composed::Got(size) => {
+    match compose::compose_safety_witnesses_v1(model, witnesses, pairs, work, out) {
+        Ok(size) => {
             if size <= out.len() {
                 rt.write_all(&out[..size])?;
             }
             Ok(())
         }
-        Composed::Refused(reason) => print_refused(rt, reason),
+        Err(refusal) => print_refused(rt, refusal),
     }
 }
 
@@ -48,10 +46,7 @@ fn show_case(
     out: &mut [u8],
     room: usize,
 ) -> io::Result<()> {
-    if work.len() < words {
-        return Ok(());
-    }
-    if out.len() < room {
+    if work.len() < words || out.len() < room {
         return Ok(());
     }
     show(

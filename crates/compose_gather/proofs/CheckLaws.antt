@@ -1,5 +1,6 @@
 -- Laws of `check_all`: what is counted of the witnesses that are read.
-use Prim.Native.Nat.{ℕ, ◌+◌, ◌-◌, ◌*◌, ◌/◌, ◌≤◌, ◌<◌}
+use Rattle.std.specs.Prelude.{ℕ, ◌+◌, ◌-◌, ◌*◌, ◌/◌, ◌≤◌, ◌<◌, Result, Ok, Err}
+use Rattle.std.specs.Result.{IsErrAnd}
 use mathlib.Core.Bool.{Bool, true, false}
 use mathlib.Core.List.{List, [], ◌∷◌}
 use mathlib.Core.Logic.{◌⊎◌, inl, inr}
@@ -12,17 +13,16 @@ use Rattle.lists.proofs.AnswerLaws.{got_same, got-refused}
 use Rattle.lists.proofs.PartLaws.{put-length}
 use Rattle.lists.proofs.BoolLaws.{below_or, true-false}
 use Rattle.text.specs.Texts.{limited}
+use Rattle.aiger.specs.declared.Refusal.{Refusal}
+use Rattle.aiger.specs.Refusals.{refusal_number}
+use Rattle.aiger.proofs.AnsweredLaws.{answered-err}
 use Rattle.witness_text.specs.declared.AagCounts.{AagCounts}
 use Rattle.witness_text.proofs.CountLaws.{Counted, counted_facts}
-use Rattle.witness_read.specs.declared.ReadAag.{ReadAag}
-use Rattle.witness_read.specs.declared.ReadAag.TheVariants as read
 use Rattle.witness_read.specs.Sections.{Sections}
 use Rattle.witness_read.specs.Reading.{read_aag, counts_in, counts_read}
 use Rattle.witness_read.proofs.AcceptedLaws.{read_accepted, read_got, read_refused}
 use Rattle.compose_spec.specs.Calling.{read_all, texts_in}
 use Rattle.compose_gather.specs.declared.Totals.{Totals}
-use Rattle.compose_gather.specs.declared.Checked.{Checked}
-use Rattle.compose_gather.specs.declared.Checked.TheVariants as checked
 use Rattle.compose_gather.specs.Inner.Checking.{added_counts, SmallSums, checked_from, none_yet, FewInOrder}
 use Rattle.compose_gather.specs.Inner.Counts.{CountsOf, count_words, counts_at, CanCheck, checked_one, ChecksOne, CountsBefore, ChecksAll}
 use Rattle.compose_gather.proofs.TextLaws.{texts_left, texts_end}
@@ -39,15 +39,16 @@ added_is t n a b c d e f g h = rw (h, g, f, e) refl
 
 -- ---- one text
 
-module _ (x : Bytes) (w : ℕ) (t : Totals) (counts : List ℕ) (r : ReadAag) (e : r ≡ counts_read (read_aag limited true x)) where
-  pub one_refused : (n : ℕ) → r ≡ read.Refused n → ChecksOne x w t counts counts (checked.Refused n)
-  one_refused n f =
-      let none : read_aag limited true x ≡ refused n = read_refused (read_aag limited true x) n (sym f ∙ e) in
-      record { is = rw none refl; lists = λ s g. got-refused g none }
+module _ (x : Bytes) (w : ℕ) (t : Totals) (counts : List ℕ) where
+  pub one_refused : (m : Refusal) → refused (refusal_number m) ≡ counts_read (read_aag limited true x) → (r : Result Totals Refusal) → IsErrAnd r (λ k. k ≡ m)
+      → ChecksOne x w t counts counts r
+  one_refused m e r h =
+      let none : read_aag limited true x ≡ refused (refusal_number m) = read_refused (read_aag limited true x) (refusal_number m) e in
+      record { is = answered-err m r h ∙ rw none refl; lists = λ s g. got-refused g none }
 
-  module _ (n : AagCounts) (f : r ≡ read.Got n) where
+  module _ (n : AagCounts) (e : got n ≡ counts_read (read_aag limited true x)) where
     accepted : (s : Sections) × (read_aag limited true x ≡ got s) × (n ≡ counts_in s)
-    accepted = read_got (read_aag limited true x) n (sym f ∙ e)
+    accepted = read_got (read_aag limited true x) n e
 
     one_counted : Counted n
     one_counted = rw accepted.2 (read_counted x accepted.0 accepted.1)
@@ -60,10 +61,10 @@ module _ (x : Bytes) (w : ℕ) (t : Totals) (counts : List ℕ) (r : ReadAag) (e
           gates = omega (arith, c.gates, one_counted.sum, one_counted.most);
         }
 
-    pub one_read : (counts' : List ℕ) → counts' ≡ put counts (9 * w) (count_words n) → (t' : Totals) → t' ≡ added_counts t n → ChecksOne x w t counts counts' (checked.Read t')
+    pub one_read : (counts' : List ℕ) → counts' ≡ put counts (9 * w) (count_words n) → (t' : Totals) → t' ≡ added_counts t n → ChecksOne x w t counts counts' (Ok t')
     one_read counts' g t' h =
         record {
-          is = ap (λ (u : Totals). checked.Read u) (h ∙ ap (added_counts t) accepted.2) ∙ sym (ap (checked_one t) accepted.1);
+          is = ap (λ (u : Totals). got u) (h ∙ ap (added_counts t) accepted.2) ∙ sym (ap (checked_one t) accepted.1);
           lists = λ s q. g ∙ ap (λ (m : AagCounts). put counts (9 * w) (count_words m)) (accepted.2 ∙ ap counts_in (got_same accepted.0 s (sym accepted.1 ∙ q)));
         }
 
@@ -82,17 +83,9 @@ pub checking-none : (buffer : Bytes) (pairs : List ℕ) (room : ℕ) (counts : L
 checking-none buffer pairs room counts h =
     record { is = refl; inputs = omega arith; latches = omega arith; gates = omega arith; fits = h; listed = record { each = λ v g. absurd (omega arith) } }
 
-abbrev is_read : Checked → Bool
-is_read (checked.Read t) = true
-is_read (checked.Refused n) = false
-
-abbrev totals_or : Totals → Checked → Totals
-totals_or t (checked.Read u) = u
-totals_or t (checked.Refused n) = t
-
 -- a first text and those after it
-first-checked : (t : Totals) (x : Answer Sections) (ts : List Bytes) → (n : ℕ) → checked_one t x ≡ checked.Refused n → checked_from t (and_then x (λ s. and_then (read_all ts) (λ ss. got (s ∷ ss)))) ≡ checked.Refused n
-first-checked t (got s) ts n e = true-false (ap is_read (sym e)) refl
+first-checked : (t : Totals) (x : Answer Sections) (ts : List Bytes) → (n : ℕ) → checked_one t x ≡ refused n → checked_from t (and_then x (λ s. and_then (read_all ts) (λ ss. got (s ∷ ss)))) ≡ refused n
+first-checked t (got s) ts n e = got-refused refl e
 first-checked t (refused k) ts n e = e
 
 then_checked : (t : Totals) (s : Sections) (r : Answer (List Sections)) → checked_from t (and_then r (λ ss. got (s ∷ ss))) ≡ checked_from (added_counts t (counts_in s)) r
@@ -100,12 +93,12 @@ then_checked t s (got ss) = refl
 then_checked t s (refused k) = refl
 
 -- a text that is read has sections
-read_sections : (t u : Totals) (x : Answer Sections) → checked_one t x ≡ checked.Read u → (s : Sections) × (x ≡ got s) × (checked.Read (added_counts t (counts_in s)) ≡ checked.Read u)
-read_sections t u (got s) e = (s, refl, e)
-read_sections t u (refused k) e = true-false (ap is_read e) refl
+read_sections : (t u : Totals) (x : Answer Sections) → checked_one t x ≡ got u → (s : Sections) × (x ≡ got s) × (u ≡ added_counts t (counts_in s))
+read_sections t u (got s) e = (s, refl, sym (got_same (added_counts t (counts_in s)) u e))
+read_sections t u (refused k) e = got-refused e refl
 
 module _ (buffer : Bytes) (pairs : List ℕ) (room : ℕ) (counts : List ℕ) (t : Totals) (w count : ℕ) (k : Checking buffer pairs room counts t w) (all : count ≡ length pairs / 2) where
-  pub checking-end : count ≤ w → ChecksAll room buffer pairs counts (checked.Read t)
+  pub checking-end : count ≤ w → ChecksAll room buffer pairs counts (Ok t)
   checking-end h =
       record {
         is = sym (ap (λ ts. checked_from t (read_all ts)) (texts_end buffer pairs w (omega arith))) ∙ k.is;
@@ -122,23 +115,23 @@ module _ (buffer : Bytes) (pairs : List ℕ) (room : ℕ) (counts : List ℕ) (t
           gates = omega (arith, o.few, k.gates);
         }
 
-    module _ (x : Bytes) (same : x ≡ get_or (texts_in buffer pairs) w []) (counts' : List ℕ) (r : Checked) (o : ChecksOne x w t counts counts' r) where
+    module _ (x : Bytes) (same : x ≡ get_or (texts_in buffer pairs) w []) (counts' : List ℕ) where
       split : checked_from t (read_all (x ∷ drop (w + 1) (texts_in buffer pairs))) ≡ checked_from (none_yet room) (read_all (texts_in buffer pairs))
       split = ap (λ y. checked_from t (read_all (y ∷ drop (w + 1) (texts_in buffer pairs)))) same ∙ (sym (ap (λ ts. checked_from t (read_all ts)) (texts_left buffer pairs w (omega arith))) ∙ k.is)
 
-      pub checking-refused : (n : ℕ) → r ≡ checked.Refused n → ChecksAll room buffer pairs counts' (checked.Refused n)
-      checking-refused n f =
+      pub checking-refused : (m : Refusal) → ChecksOne x w t counts counts' (Err m) → (r : Result Totals Refusal) → IsErrAnd r (λ k. k ≡ m) → ChecksAll room buffer pairs counts' r
+      checking-refused m o r h =
           record {
-            is = sym (first-checked t (read_aag limited true x) (drop (w + 1) (texts_in buffer pairs)) n (sym o.is ∙ f)) ∙ split;
-            lists = λ u g. true-false (ap is_read g) refl;
+            is = answered-err m r h ∙ (sym (first-checked t (read_aag limited true x) (drop (w + 1) (texts_in buffer pairs)) (refusal_number m) (sym o.is)) ∙ split);
+            lists = λ u g. absurd (subst (λ (q : Result Totals Refusal). IsErrAnd q (λ k. k ≡ m)) g h);
           }
 
-      module _ (t' : Totals) (f : r ≡ checked.Read t') where
-        here : (s : Sections) × (read_aag limited true x ≡ got s) × (checked.Read (added_counts t (counts_in s)) ≡ checked.Read t')
-        here = read_sections t t' (read_aag limited true x) (sym o.is ∙ f)
+      module _ (t' : Totals) (o : ChecksOne x w t counts counts' (Ok t')) where
+        here : (s : Sections) × (read_aag limited true x ≡ got s) × (t' ≡ added_counts t (counts_in s))
+        here = read_sections t t' (read_aag limited true x) (sym o.is)
 
         totals : t' ≡ added_counts t (counts_in here.0)
-        totals = sym (ap (totals_or t) here.2)
+        totals = here.2
 
         counts-here : Counted (counts_in here.0)
         counts-here = read_counted x here.0 here.1

@@ -12,7 +12,7 @@ ghost use Rattle.compose_gather.specs.Inner.Gathered.{words_for, LoadableAt, Loa
 pub mod counts;
 pub mod literals;
 
-use witness_read::ReadAag;
+use aiger::Refusal;
 use witness_text::AagCounts;
 
 // What is counted of all witnesses, and how much of the room the texts leave: 0 where they need too much, else one more than is left.
@@ -29,13 +29,6 @@ pub struct Totals {
 pub struct Range {
     pub start: usize,
     pub count: usize,
-}
-
-// The totals, or the number of the reason.
-#[derive(Clone, Copy)]
-pub enum Checked {
-    Read(Totals),
-    Refused(u64),
 }
 
 // So many bytes from a place on.
@@ -84,46 +77,37 @@ pub fn add_counts(totals: Totals, counts: AagCounts) -> Totals
 }
 
 // Reads a text, the one of witness w: the totals with it, and its counts are listed; or the number of the reason.
-fn check_one(text: &[u8], counts: &mut [u64], w: usize, totals: Totals) -> Checked
+fn check_one(text: &[u8], counts: &mut [u64], w: usize, totals: Totals) -> Result<Totals, Refusal>
     requires { CanCheck counts.old w totals }
     ensures { ChecksOne text.now w totals counts.old counts.new result }
 {
-    match witness_read::parse_aag(text, true) {
-        ReadAag::Refused(reason) => Checked::Refused(reason),
-        ReadAag::Got(n) => {
-            counts::store(counts, w, n);
-            Checked::Read(add_counts(totals, n))
-        }
-    }
+    let n = witness_read::parse_aag(text, true)?;
+    counts::store(counts, w, n);
+    Ok(add_counts(totals, n))
 }
 
 // Reads all witnesses in their order, and lists their counts.
-pub fn check_all(witnesses: &[u8], pairs: &[u64], room: usize, counts: &mut [u64]) -> Checked
+pub fn check_all(
+    witnesses: &[u8],
+    pairs: &[u64],
+    room: usize,
+    counts: &mut [u64],
+) -> Result<Totals, Refusal>
     requires few_in_order { FewInOrder witnesses.now pairs.now }
     requires pairs_in_bounds { 9 * (length pairs.now / 2) ≤ length counts.old }
     ensures { ChecksAll room witnesses.now pairs.now counts.new result }
 {
     let count = pairs.len() / 2;
-    let mut t = Totals {
-        room: room,
+    let mut totals = Totals {
+        room,
         inputs: 0,
         latches: 0,
         gates: 0,
     };
-    let mut w = 0;
-    while w < count {
-        let checked = check_one(text_at(witnesses, pairs, w), counts, w, t);
-        match checked {
-            Checked::Refused(reason) => {
-                return Checked::Refused(reason);
-            }
-            Checked::Read(next) => {
-                t = next;
-            }
-        }
-        w += 1;
+    for w in 0..count {
+        totals = check_one(text_at(witnesses, pairs, w), counts, w, totals)?;
     }
-    Checked::Read(t)
+    Ok(totals)
 }
 
 // How many words the sections of a text with these counts need.
@@ -164,12 +148,9 @@ pub fn load_all(witnesses: &[u8], pairs: &[u64], counts: &[u64], work: &mut [u64
 {
     let count = pairs.len() / 2;
     let mut at = 0;
-    let mut w = 0;
-    while w < count {
+    for w in 0..count {
         let text = text_at(witnesses, pairs, w);
-        let n = counts::counts_at(counts, w);
-        at = load_at(text, n, work, at);
-        w += 1;
+        at = load_at(text, counts::counts_at(counts, w), work, at);
     }
     at
 }

@@ -64,7 +64,7 @@ fn shift_literal(by: Shift, l: u64) -> u64
     requires { Shiftable by l }
     ensures { result ≡ shifted_literal by l }
 {
-    let x = shift(by, lists::index(l / 2));
+    let x = shift(by, (l / 2) as usize);
     2 * x as u64 + l % 2
 }
 
@@ -73,10 +73,8 @@ fn shift_words(work: &mut [u64], from: usize, count: usize, to: usize, by: Shift
     requires { CanShift by work.old from count to }
     ensures { work.new ≡ put work.old to (map (shifted_literal by) (part work.old from (from + count))) }
 {
-    let mut i = 0;
-    while i < count {
+    for i in 0..count {
         work[to + i] = shift_literal(by, work[from + i]);
-        i += 1;
     }
 }
 
@@ -160,14 +158,12 @@ pub fn gather(
     };
     let mut from = 0;
     let mut at = to;
-    let mut w = 0;
-    while w < count {
+    for w in 0..count {
         let n = crate::counts::counts_at(counts, w);
         let next = crate::after_words(n, from, at);
         at = shift_list(kind, n, inputs, latches, b, work, from, at);
         from = next;
         b = pass(inputs, latches, b, n);
-        w += 1;
     }
     at
 }

@@ -1,4 +1,6 @@
 -- The origin word of each input, or latch, beside its entry: what the word says of the entry, and that private entries are always new.
+use Rattle.std.specs.Prelude.{Some, None}
+use Rattle.std.specs.declared.option.Option as option
 use Prim.Native.Nat.{ℕ, suc, ◌+◌, ◌*◌, ◌/◌, ◌%◌, ◌≤◌, ◌<◌}
 use mathlib.Core.Bool.{Bool, true, false, cond, not, ◌&&◌}
 use mathlib.Core.List.{List, [], ◌∷◌, ◌++◌}
@@ -13,8 +15,6 @@ use Rattle.lists.specs.Parts.{Bytes}
 use Rattle.lists.specs.Tests.{Each}
 use Rattle.lists.proofs.BoolLaws.{and_left, and_right, true-false}
 use Rattle.scan.specs.Same.{begins_with}
-use Rattle.text.specs.declared.Number.{Number}
-use Rattle.text.specs.declared.Number.TheVariants as number
 use Rattle.text.specs.declared.Reader.TheVariants.{Witness}
 use Rattle.text.specs.Numbers.{number_of}
 use Rattle.aiger.specs.Gates.{variable}
@@ -62,9 +62,9 @@ module _ (p : ModelLeaves) where
   tested_right l false e = tt
 
   -- so is one that a number gives
-  number-right : (n : Number) → Right p (onto_number p n)
-  number-right number.Unreadable = tt
-  number-right (number.Value l) = tested_right l (is_of p l) refl
+  number-right : (n : option.Option ℕ) → Right p (onto_number p n)
+  number-right None = tt
+  number-right (Some l) = tested_right l (is_of p l) refl
 
   -- so is one by name
   name-right : (name : Option Bytes) → Right p (by_name p name)

@@ -1,5 +1,5 @@
 -- Laws of the whole layout: the origins behind the lists, and the places behind them.
-use Prim.Native.Nat.{ℕ, ◌+◌, ◌*◌, ◌/◌, ◌≤◌}
+use Rattle.std.specs.Prelude.{Option, Some, None, ℕ, ◌+◌, ◌*◌, ◌/◌, ◌≤◌}
 use mathlib.Core.Bool.{Bool, ◌&&◌}
 use mathlib.Core.List.{List, [], ◌∷◌, ◌++◌}
 use mathlib.Core.Path.{◌≡◌, sym, ap, ◌∙◌, subst}
@@ -18,12 +18,9 @@ use Rattle.compose_joint.specs.Inner.Joint.{total_of, input_count, latch_count, 
 use Rattle.compose_joint.proofs.AmountLaws.{origins-length, input-origins-length, latch_origins-length}
 use Rattle.compose_gather.specs.declared.Totals.{Totals}
 use Rattle.compose_gather.specs.Inner.Gathered.{word_total, leaf_count_of}
-use Rattle.compose_origins.specs.declared.Origins.{Origins}
-use Rattle.compose_origins.specs.declared.Origins.TheVariants as origin
 use Rattle.compose_origins.specs.Inner.Mapped.{CanMapAll, MapsAll}
 use Rattle.compose_layout.specs.declared.Layout.{Layout}
 use Rattle.compose_layout.specs.declared.Lists.{Lists}
-use Rattle.compose_layout.specs.declared.Laid.TheVariants as laid
 use Rattle.compose_layout.specs.Inner.Laid.{Fitting, Ready, CanLay, Lays, known_length, Reaches, with_lists, LayoutFits, layout_of}
 use Rattle.compose_layout.proofs.RoomLaws.{amounts}
 use Rattle.compose_layout.proofs.StageLaws.{literals_long}
@@ -105,11 +102,11 @@ module _ {l : Lists} {mc : AagCounts} {t : Totals} {buffer : Bytes} {pairs work�
   pub inputs-can : CanLay mc t buffer pairs work₀ → CanMapAll (model_by leaf.Inputs mc) leaf.Inputs buffer pairs work₁ l.end
   inputs-can = leaves-can (roomy-inputs l) p
 
-  module _ (work₂ : List ℕ) (r : Origins) (g : MapsAll (model_by leaf.Inputs mc) leaf.Inputs buffer pairs work₁ l.end work₂ r) where
-    pub inputs_wrong : r ≡ origin.Wrong → Lays mc t buffer pairs work₀ work₂ laid.Wrong
+  module _ (work₂ : List ℕ) (r : Option ℕ) (g : MapsAll (model_by leaf.Inputs mc) leaf.Inputs buffer pairs work₁ l.end work₂ r) where
+    pub inputs_wrong : r ≡ None → Lays mc t buffer pairs work₀ work₂ None
     inputs_wrong e m ws f = right-both m ws ∙ ap (λ (q : Bool). q && right_leaves leaf.Latches m ws) (leaves_wrong (roomy-inputs l) p work₂ r g e m ws f)
 
-    module _ {b : ℕ} (e : r ≡ origin.Next b) where
+    module _ {b : ℕ} (e : r ≡ Some b) where
       listed : Reaches mc t buffer pairs work₀ work₂ (with_inputs l) b
       listed = leaves-next (roomy-inputs l) p work₂ r g e
 
@@ -119,11 +116,11 @@ module _ {l : Lists} {mc : AagCounts} {t : Totals} {buffer : Bytes} {pairs work�
       pub latches-can : CanLay mc t buffer pairs work₀ → CanMapAll (model_by leaf.Latches mc) leaf.Latches buffer pairs work₂ b
       latches-can = leaves-can (roomy-leaves l) listed
 
-      module _ (work₃ : List ℕ) (r' : Origins) (g' : MapsAll (model_by leaf.Latches mc) leaf.Latches buffer pairs work₂ b work₃ r') where
-        pub latches_wrong : r' ≡ origin.Wrong → Lays mc t buffer pairs work₀ work₃ laid.Wrong
+      module _ (work₃ : List ℕ) (r' : Option ℕ) (g' : MapsAll (model_by leaf.Latches mc) leaf.Latches buffer pairs work₂ b work₃ r') where
+        pub latches_wrong : r' ≡ None → Lays mc t buffer pairs work₀ work₃ None
         latches_wrong e' m ws f = right m ws f ∙ leaves_wrong (roomy-leaves l) listed work₃ r' g' e' m ws f
 
-        module _ {assigned : ℕ} (e' : r' ≡ origin.Next assigned) where
+        module _ {assigned : ℕ} (e' : r' ≡ Some assigned) where
           last : Reaches mc t buffer pairs work₀ work₃ (λ m ws. with_inputs l m ws ++ origins_at leaf.Latches b m ws ∷ []) assigned
           last = leaves-next (roomy-leaves l) listed work₃ r' g' e'
 
@@ -141,7 +138,7 @@ module _ {l : Lists} {mc : AagCounts} {t : Totals} {buffer : Bytes} {pairs work�
           pub places_fit : CanLay mc t buffer pairs work₀ → LayoutFits assigned mc t (length work₃)
           places_fit s = fits s.m s.ws s.holds
 
-          pub laid_out : {at : Layout} → at ≡ layout_of l b assigned mc t → Lays mc t buffer pairs work₀ work₃ (laid.At at)
+          pub laid_out : {at : Layout} → at ≡ layout_of l b assigned mc t → Lays mc t buffer pairs work₀ work₃ (Some at)
           laid_out e'' m ws f = (
             right m ws f ∙ leaves-right (roomy-leaves l) listed work₃ r' g' e' m ws f,
             subst (λ (x : Layout). Ready buffer pairs m ws x work₃) (sym e'')

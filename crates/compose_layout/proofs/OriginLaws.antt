@@ -1,5 +1,5 @@
 -- Laws of laying out region by region: the origins.
-use Prim.Native.Nat.{ℕ, ◌+◌, ◌*◌, ◌≤◌, ◌<◌}
+use Rattle.std.specs.Prelude.{Option, Some, None, ℕ, ◌+◌, ◌*◌, ◌≤◌, ◌<◌}
 use mathlib.Core.Bool.{Bool, true, false, ◌&&◌}
 use mathlib.Core.List.{List, [], ◌∷◌, ◌++◌}
 use mathlib.Core.Path.{◌≡◌, refl, sym, ap, ◌∙◌, subst}
@@ -21,8 +21,6 @@ use Rattle.compose_joint.specs.Inner.Joint.{total_of, names_of, model_of, origin
 use Rattle.compose_joint.proofs.AmountLaws.{origins-length}
 use Rattle.compose_gather.specs.declared.Totals.{Totals}
 use Rattle.compose_gather.specs.Inner.Gathered.{leaf_count_of}
-use Rattle.compose_origins.specs.declared.Origins.{Origins}
-use Rattle.compose_origins.specs.declared.Origins.TheVariants as origin
 use Rattle.compose_origins.specs.Inner.Mapped.{CanMapAll, AllOrigins, MapsAll}
 use Rattle.compose_layout.specs.declared.Lists.{Lists}
 use Rattle.compose_layout.specs.Inner.Laid.{Known, known_length, Reaches, Fitting, CanLay, with_lists}
@@ -94,15 +92,15 @@ module _ {ks : Sections → List Sections → List Known} {leaves : Leaves} (roo
             (omega (arith, k.fitting.few, model-few leaves s.m));
       }
 
-  module _ (work' : List ℕ) (r : Origins) (g : MapsAll (model_by leaves mc) leaves buffer pairs work to work' r) where
+  module _ (work' : List ℕ) (r : Option ℕ) (g : MapsAll (model_by leaves mc) leaves buffer pairs work to work' r) where
     made : (m : Sections) (ws : List Sections) → Fitting mc t buffer pairs work₀ m ws → AllOrigins (model_of leaves m) leaves ws work to work' r
     made m ws f = subst (λ (q : ModelLeaves). AllOrigins q leaves ws work to work' r) (model_is leaves mc m f.model) (g ws f.readable)
 
-    pub leaves_wrong : r ≡ origin.Wrong → (m : Sections) (ws : List Sections) → Fitting mc t buffer pairs work₀ m ws → right_leaves leaves m ws ≡ false
+    pub leaves_wrong : r ≡ None → (m : Sections) (ws : List Sections) → Fitting mc t buffer pairs work₀ m ws → right_leaves leaves m ws ≡ false
     leaves_wrong e m ws f = subst (AllOrigins (model_of leaves m) leaves ws work to work') e (made m ws f)
 
-    module _ {b : ℕ} (e : r ≡ origin.Next b) where
-      stored : (m : Sections) (ws : List Sections) → Fitting mc t buffer pairs work₀ m ws → AllOrigins (model_of leaves m) leaves ws work to work' (origin.Next b)
+    module _ {b : ℕ} (e : r ≡ Some b) where
+      stored : (m : Sections) (ws : List Sections) → Fitting mc t buffer pairs work₀ m ws → AllOrigins (model_of leaves m) leaves ws work to work' (Some b)
       stored m ws f = subst (AllOrigins (model_of leaves m) leaves ws work to work') e (made m ws f)
 
       pub leaves-right : (m : Sections) (ws : List Sections) → Fitting mc t buffer pairs work₀ m ws → right_leaves leaves m ws ≡ true

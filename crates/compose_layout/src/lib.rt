@@ -7,7 +7,6 @@ ghost use Rattle.compose_layout.specs.Inner.Laid.{CanLay, Lays, CanList, ListsLa
 
 use compose_gather::Totals;
 use compose_joint::{Leaves, Literals};
-use compose_origins::Origins;
 use compose_spec::ModelLeaves;
 use witness_text::AagCounts;
 
@@ -28,13 +27,6 @@ pub struct Layout {
     pub bits: usize,
     pub constraint_bits: usize,
     pub end: usize,
-}
-
-// The places, or that a literal is wrong (R9.16).
-#[derive(Clone, Copy)]
-pub enum Laid {
-    At(Layout),
-    Wrong,
 }
 
 // Where the lists begin, and where the last one ends.
@@ -72,14 +64,14 @@ fn place_regions(
         safety: listed.safety,
         constraints: listed.constraints,
         input_origins: listed.end,
-        latch_origins: latch_origins,
-        assigned: assigned,
-        vars: vars,
-        gates: gates,
-        definitions: definitions,
-        bad_bits: bad_bits,
-        bits: bits,
-        constraint_bits: constraint_bits,
+        latch_origins,
+        assigned,
+        vars,
+        gates,
+        definitions,
+        bad_bits,
+        bits,
+        constraint_bits,
         end: constraint_bits + bits,
     }
 }
@@ -138,15 +130,15 @@ fn lay_lists(
         constraints,
     );
     Lists {
-        latches: latches,
-        operands: operands,
-        safety: safety,
-        constraints: constraints,
-        end: end,
+        latches,
+        operands,
+        safety,
+        constraints,
+        end,
     }
 }
 
-// Loads the witnesses and lays out what is read of them: the lists, then the origins of the inputs and of the latches.
+// Loads the witnesses and lays out what is read of them: the lists, then the origins of the inputs and of the latches. Nothing where a literal is wrong (R9.16).
 pub fn lay(
     witnesses: &[u8],
     pairs: &[u64],
@@ -154,7 +146,7 @@ pub fn lay(
     work: &mut [u64],
     model_counts: AagCounts,
     totals: Totals,
-) -> Laid
+) -> Option<Layout>
     requires can_lay { CanLay model_counts totals witnesses.now pairs.now work.old }
     requires counts_listed { CountsListed witnesses.now pairs.now counts.now }
     ensures { Lays model_counts totals witnesses.now pairs.now work.old work.new result }
@@ -164,7 +156,7 @@ pub fn lay(
         before: 0,
         count: model_counts.inputs,
     };
-    let Origins::Next(latch_origins) = compose_origins::gather_origins(
+    let latch_origins = compose_origins::gather_origins(
         witnesses,
         pairs,
         counts,
@@ -172,14 +164,12 @@ pub fn lay(
         Leaves::Inputs,
         model_inputs,
         lists.end,
-    ) else {
-        return Laid::Wrong;
-    };
+    )?;
     let model_latches = ModelLeaves {
         before: model_counts.inputs,
         count: model_counts.latches,
     };
-    let Origins::Next(assigned) = compose_origins::gather_origins(
+    let assigned = compose_origins::gather_origins(
         witnesses,
         pairs,
         counts,
@@ -187,10 +177,8 @@ pub fn lay(
         Leaves::Latches,
         model_latches,
         latch_origins,
-    ) else {
-        return Laid::Wrong;
-    };
-    Laid::At(place_regions(
+    )?;
+    Some(place_regions(
         lists,
         latch_origins,
         assigned,

@@ -1,4 +1,5 @@
 -- Laws of the last pass: the bads and the constraints are collected.
+use Rattle.std.specs.Prelude.{Ok, Err}
 use Prim.Native.Nat.{ℕ, suc, ◌+◌, ◌-◌, ◌*◌, ◌/◌, ◌%◌, ◌≤◌, ◌<◌}
 use mathlib.Core.List.{List, [], ◌∷◌}
 use mathlib.Core.Path.{◌≡◌, sym, ap, ◌∙◌}
@@ -27,11 +28,10 @@ use Rattle.compose_joint.proofs.VarsLaws.{joint-safety, joint-constraints}
 use Rattle.compose_numbers.specs.Inner.Marked.{Addable, CanAdd, Added, literals_at}
 use Rattle.compose_numbers.proofs.CallLaws.{each_word}
 use Rattle.compose_layout.specs.declared.Layout.{Layout}
-use Rattle.compose_layout.specs.Inner.Laid.{Has, variable_total, Regions, Some}
+use Rattle.compose_layout.specs.Inner.Laid.{Has, variable_total, Regions, OfSome}
 use Rattle.compose_layout.proofs.HasLaws.{has_same}
 use Rattle.compose_layout.proofs.StageLaws.{literals_long}
-use Rattle.compose_merge.specs.declared.Merging.TheVariants as merging
-use Rattle.compose_merge.specs.Inner.Merged.{Base, Goes, Result, Counted, SmallOperands, definition_words}
+use Rattle.compose_merge.specs.Inner.Merged.{Base, Goes, ResultWords, Counted, SmallOperands, definition_words}
 use Rattle.compose_merge.specs.Inner.Stages.{Clean, Shared}
 use Rattle.compose_merge.proofs.WordLaws.{clean-part, clean-behind}
 use Rattle.compose_merge.proofs.BaseLaws.{base_kept}
@@ -115,7 +115,7 @@ module _ (at : Layout) (first next g : ℕ) (work : List ℕ) where
         (clean-part work at.bad_bits at.end k.bits at.bad_bits at.bits (omega arith) (omega (arith, places.constraint_bits, places.end)))
 
   -- as the code asks for it
-  pub bads-can : Some (LatchesDefined at first next g work) → CanBads
+  pub bads-can : OfSome (LatchesDefined at first next g work) → CanBads
   bads-can s = bads-room s.m s.ws s.holds
 
   module _ {work' : List ℕ} {bads : ℕ} (same : length work' ≡ length work) (added : Added at.safety (at.constraints - at.safety) at.vars at.bad_bits at.bits work work' bads) where
@@ -170,7 +170,7 @@ module _ (at : Layout) (first next g : ℕ) (work : List ℕ) where
           ∙ sym (joint-constraints m ws k.base.plan.range)
 
     -- as the code asks for it
-    pub constraints-can : Some (LatchesDefined at first next g work) → CanConstraints
+    pub constraints-can : OfSome (LatchesDefined at first next g work) → CanConstraints
     constraints-can s = constraints-room s.m s.ws s.holds
 
     module _ {work'' : List ℕ} {limits : ℕ} (same' : length work'' ≡ length work') (added' : Added at.constraints (at.input_origins - at.constraints) at.vars at.constraint_bits at.bits work' work'' limits) where
@@ -207,7 +207,7 @@ module _ (at : Layout) (first next g : ℕ) (work : List ℕ) where
         definitions-end = omega (arith, definitions_long m ws, (places m ws k).bad_bits)
 
         -- all that stands in the end
-        result : Result m ws at (record { inputs = first - 1; latches = next - first; gates = g; bads = bads; constraints = limits }) work''
+        result : ResultWords m ws at (record { inputs = first - 1; latches = next - first; gates = g; bads = bads; constraints = limits }) work''
         result =
             record {
               counted = counted;
@@ -224,7 +224,7 @@ module _ (at : Layout) (first next g : ℕ) (work : List ℕ) where
             }
 
       -- what comes out: 17 and 18 do not apply
-      pub literals-done : Goes (LatchesDefined at first next g work) at work work'' (merging.Done (record { inputs = first - 1; latches = next - first; gates = g; bads = bads; constraints = limits }))
+      pub literals-done : Goes (LatchesDefined at first next g work) at work work'' (Ok (record { inputs = first - 1; latches = next - first; gates = g; bads = bads; constraints = limits }))
       literals-done =
           record {
             goes = λ m ws k.

@@ -1,4 +1,7 @@
 -- Laws of what stays in the work words from pass to pass, and of handing on what comes out.
+use Rattle.std.specs.Prelude.{Result, Ok, Err}
+use Rattle.aiger.specs.declared.Refusal.{Refusal}
+use Rattle.compose_merge.specs.declared.Merged.{Merged}
 use Prim.Native.Nat.{ℕ, ◌+◌, ◌≤◌}
 use mathlib.Core.List.{List}
 use mathlib.Core.Path.{◌≡◌, ◌∙◌}
@@ -10,11 +13,9 @@ use Rattle.compose_joint.specs.declared.Leaves.TheVariants as leaf
 use Rattle.compose_joint.specs.Inner.Joint.{joint, list_of, origins}
 use Rattle.compose_joint.proofs.AmountLaws.{joint-operands-length, joint-latches-length, input-origins-length, latch_origins-length}
 use Rattle.compose_layout.specs.declared.Layout.{Layout}
-use Rattle.compose_layout.specs.Inner.Laid.{Has, Regions, Stands, Some}
+use Rattle.compose_layout.specs.Inner.Laid.{Has, Regions, Stands, OfSome}
 use Rattle.compose_layout.proofs.HasLaws.{has_same}
 use Rattle.compose_layout.proofs.StageLaws.{literals_long}
-use Rattle.compose_merge.specs.declared.Merging.{Merging}
-use Rattle.compose_merge.specs.declared.Merging.TheVariants as merging
 use Rattle.compose_merge.specs.Inner.Merged.{Base, Outcome, Goes}
 
 -- the lists stay where nothing in front of the assigned numbers is written
@@ -46,10 +47,10 @@ base_kept at work work' m ws e n b =
     record { plan = b.plan; fits = omega (arith, b.fits); stands = stands-kept at work work' m ws b.plan.regions e n b.stands }
 
 -- what comes out of words that are the same in front of the assigned numbers
-outcome-back : (m : Sections) (ws : List Sections) (at : Layout) (work work' work'' : List ℕ) (r : Merging) → take at.assigned work' ≡ take at.assigned work
+outcome-back : (m : Sections) (ws : List Sections) (at : Layout) (work work' work'' : List ℕ) (r : Result Merged Refusal) → take at.assigned work' ≡ take at.assigned work
     → Outcome m ws at work' work'' r → Outcome m ws at work work'' r
-outcome-back m ws at work work' work'' (merging.Done c) e o = record { fits = o.fits; agrees = o.agrees; result = o.result; kept = o.kept ∙ e }
-outcome-back m ws at work work' work'' (merging.Refused k) e o = o
+outcome-back m ws at work work' work'' (Ok c) e o = record { fits = o.fits; agrees = o.agrees; result = o.result; kept = o.kept ∙ e }
+outcome-back m ws at work work' work'' (Err k) e o = o
 
 -- one pass: the next stage, and that the words in front of the assigned numbers are the same
 pub record Step (Stage Next : Sections → List Sections → Type 0) (at : Layout) (work work' : List ℕ) : Type 0 where
@@ -61,11 +62,11 @@ pub steps : {A B C : Sections → List Sections → Type 0} {at : Layout} {work 
 steps p q = record { next = λ m ws k. q.next m ws (p.next m ws k); kept = λ m ws k. q.kept m ws (p.next m ws k) ∙ p.kept m ws k }
 
 -- the next stage holds of some model and witnesses
-pub step-some : {A B : Sections → List Sections → Type 0} {at : Layout} {work work' : List ℕ} → Step A B at work work' → Some A → Some B
+pub step-some : {A B : Sections → List Sections → Type 0} {at : Layout} {work work' : List ℕ} → Step A B at work work' → OfSome A → OfSome B
 step-some p s = record { m = s.m; ws = s.ws; holds = p.next s.m s.ws s.holds }
 
 -- what comes out of the next stage comes out of this one
-pub step-goes : {A B : Sections → List Sections → Type 0} {at : Layout} {work work' work'' : List ℕ} {r : Merging}
+pub step-goes : {A B : Sections → List Sections → Type 0} {at : Layout} {work work' work'' : List ℕ} {r : Result Merged Refusal}
     → Step A B at work work' → Goes B at work' work'' r → Goes A at work work'' r
 step-goes {A} {B} {at} {work} {work'} {work''} {r} p g =
     record { goes = λ m ws k. outcome-back m ws at work work' work'' r (p.kept m ws k) (g.goes m ws (p.next m ws k)) }

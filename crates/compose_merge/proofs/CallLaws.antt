@@ -24,7 +24,7 @@ use Rattle.compose_gather.specs.Inner.Gathered.{word_total, Readable}
 use Rattle.compose_gather.proofs.BlockLaws.{blocks-same}
 use Rattle.compose_gather.proofs.TurnLaws.{total_small}
 use Rattle.compose_layout.specs.declared.Layout.{Layout}
-use Rattle.compose_layout.specs.Inner.Laid.{variable_total, Fitting, Regions, Ready, Some}
+use Rattle.compose_layout.specs.Inner.Laid.{variable_total, Fitting, Regions, Ready, OfSome}
 use Rattle.compose_merge.specs.declared.Merged.{Merged}
 use Rattle.compose_merge.specs.Inner.Merged.{Mergeable, Done, Refuses}
 use Rattle.compose_merge.proofs.BaseLaws.{stands-kept}
@@ -68,7 +68,7 @@ module _ (mc : AagCounts) (t : Totals) (buffer : Bytes) (pairs work₀ work : Li
       }
 
   -- as `merge` asks for
-  pub ready-can : Some (Mergeable mc t at work)
+  pub ready-can : OfSome (Mergeable mc t at work)
   ready-can = record { m = m; ws = ws; holds = ready_merge }
 
 -- ---- after

@@ -14,7 +14,7 @@ use Rattle.compose_numbers.proofs.CallLaws.{cleared-part}
 use Rattle.compose_gather.specs.declared.Totals.{Totals}
 use Rattle.compose_layout.specs.declared.Layout.{Layout}
 use Rattle.compose_joint.specs.Inner.Joint.{total_of, gate_count}
-use Rattle.compose_layout.specs.Inner.Laid.{Regions, Some, Summed}
+use Rattle.compose_layout.specs.Inner.Laid.{Regions, OfSome, Summed}
 use Rattle.compose_merge.specs.Inner.Merged.{Base, Model, Mergeable}
 use Rattle.compose_merge.specs.Inner.Stages.{Clean, Clearable, Clears}
 use Rattle.compose_merge.proofs.WordLaws.{clean-before}
@@ -89,7 +89,7 @@ module _ {mc : AagCounts} {t : Totals} {at : Layout} {work : List ℕ} where
       }
 
   -- the sums of the code are small
-  pub sums_small : Some (Mergeable mc t at work)
+  pub sums_small : OfSome (Mergeable mc t at work)
       → (at.vars + 1 + t.inputs ≤ length work) × ((at.assigned + mc.inputs ≤ length work) × (1 + t.inputs + t.latches ≤ 128000001))
   sums_small s =
       let k = s.holds in
@@ -98,7 +98,7 @@ module _ {mc : AagCounts} {t : Totals} {at : Layout} {work : List ℕ} where
       (omega (arith, r.gates, k.totals.inputs, e), (omega (arith, r.vars, r.gates, k.model.inputs, e), omega (arith, k.totals.inputs, k.totals.latches, k.base.plan.few)))
 
   -- as the code asks for it
-  pub clear-can : Some (Mergeable mc t at work) → Clearable at t.gates work
+  pub clear-can : OfSome (Mergeable mc t at work) → Clearable at t.gates work
   clear-can s = clearable s.m s.ws s.holds
 
   module _ {work' : List ℕ} (same : length work' ≡ length work) (post : Clears at t.gates work work') where

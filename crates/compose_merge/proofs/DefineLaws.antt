@@ -1,4 +1,5 @@
 -- Laws of the fifth pass: the latches are defined, or 18 applies.
+use Rattle.std.specs.Prelude.{Ok, Err}
 use Prim.Native.Nat.{ℕ, suc, ◌+◌, ◌-◌, ◌*◌, ◌≤◌, ◌<◌}
 use mathlib.Core.Bool.{Bool, true, false, cond}
 use mathlib.Core.List.{List, [], ◌∷◌, map}
@@ -32,9 +33,9 @@ use Rattle.compose_gates.proofs.CallLaws.{entries_in_turn, entries_met, composed
 use Rattle.compose_numbers.proofs.CallLaws.{each_word}
 use Rattle.compose_gather.specs.declared.Totals.{Totals}
 use Rattle.compose_layout.specs.declared.Layout.{Layout}
-use Rattle.compose_layout.specs.Inner.Laid.{Has, variable_total, Regions, Some}
+use Rattle.compose_layout.specs.Inner.Laid.{Has, variable_total, Regions, OfSome}
 use Rattle.compose_layout.proofs.HasLaws.{has-put}
-use Rattle.compose_merge.specs.declared.Merging.TheVariants as merging
+use Rattle.aiger.specs.declared.Refusal.TheVariants as refusal
 use Rattle.compose_merge.specs.Inner.Merged.{Plan, Base, Goes, latch_numbers, definition_words}
 use Rattle.compose_merge.specs.Inner.Stages.{Clean, Shared, GatesShared}
 use Rattle.compose_merge.proofs.WordLaws.{part-has, has-at, clean-behind}
@@ -193,12 +194,12 @@ module _ (t : Totals) (at : Layout) (first next g : ℕ) (work : List ℕ) where
         ∙ composed-words (all_defined (whole m ws)) (suc (length (input_firsts m ws))) (latch_firsts m ws)
 
   -- as the code asks for it
-  pub definitions-can : Some (GatesShared t at first next g work) → Can
+  pub definitions-can : OfSome (GatesShared t at first next g work) → Can
   definitions-can s = can s.m s.ws s.holds
 
   module _ {work' : List ℕ} {r : DefinedLatches} (post : Defines at.latches t.latches at.vars own at.definitions first work work' r) where
     -- 18
-    pub definitions_differ : r ≡ answer.Differs → (work'' : List ℕ) → Goes (GatesShared t at first next g work) at work work'' (merging.Refused 18)
+    pub definitions_differ : r ≡ answer.Differs → (work'' : List ℕ) → Goes (GatesShared t at first next g work) at work work'' (Err refusal.LatchConflict)
     definitions_differ e work'' =
         record {
           goes = λ m ws k rest.

@@ -1,4 +1,5 @@
 -- Laws of the fourth pass: the gates are shared, or 17 applies.
+use Rattle.std.specs.Prelude.{Ok, Err}
 use Prim.Native.Nat.{ℕ, suc, ◌+◌, ◌-◌, ◌*◌, ◌≤◌, ◌<◌}
 use mathlib.Core.Bool.{Bool, true, false, cond}
 use mathlib.Core.List.{List, [], map}
@@ -27,9 +28,9 @@ use Rattle.compose_gates.specs.declared.SharedGates.TheVariants as answer
 use Rattle.compose_gates.specs.Inner.Linked.{table_end, Sharable, shared_in, Linked, Shares}
 use Rattle.compose_gather.specs.declared.Totals.{Totals}
 use Rattle.compose_layout.specs.declared.Layout.{Layout}
-use Rattle.compose_layout.specs.Inner.Laid.{Regions, Some}
+use Rattle.compose_layout.specs.Inner.Laid.{Regions, OfSome}
 use Rattle.compose_layout.proofs.HasLaws.{has_same}
-use Rattle.compose_merge.specs.declared.Merging.TheVariants as merging
+use Rattle.aiger.specs.declared.Refusal.TheVariants as refusal
 use Rattle.compose_merge.specs.Inner.Merged.{Plan, Goes, input_numbers, latch_numbers}
 use Rattle.compose_merge.specs.Inner.Stages as stage
 use Rattle.compose_merge.specs.Inner.Stages.{GatesShared}
@@ -127,12 +128,12 @@ module _ (t : Totals) (at : Layout) (first next : ℕ) (work : List ℕ) where
     test_is = ap₂ (λ (n : ℕ) (gs : List Operands). gates_fit n gs) leaves-are gates-are
 
   -- as the code asks for it
-  pub gates-can : Some (LeavesNumbered t at first next work) → Can
+  pub gates-can : OfSome (LeavesNumbered t at first next work) → Can
   gates-can s = can s.m s.ws s.holds
 
   module _ {work' : List ℕ} {r : SharedGates} (post : Shares at.operands t.gates at.vars known at.gates (next - 1) work work' r) where
     -- 17
-    pub gates_many : r ≡ answer.TooMany → (work'' : List ℕ) → Goes (LeavesNumbered t at first next work) at work work'' (merging.Refused 17)
+    pub gates_many : r ≡ answer.TooMany → (work'' : List ℕ) → Goes (LeavesNumbered t at first next work) at work work'' (Err refusal.GateLimit)
     gates_many e work'' =
         record {
           goes = λ m ws k rest.

@@ -17,7 +17,7 @@ use Rattle.compose_numbers.specs.Inner.Marked.{CanNumber, Numbered, numbers_in}
 use Rattle.compose_numbers.proofs.CallLaws.{numbers-stored, numbered-before, numbered-between, numbered-behind}
 use Rattle.compose_gather.specs.declared.Totals.{Totals}
 use Rattle.compose_layout.specs.declared.Layout.{Layout}
-use Rattle.compose_layout.specs.Inner.Laid.{Has, Regions, Some, Summed}
+use Rattle.compose_layout.specs.Inner.Laid.{Has, Regions, OfSome, Summed}
 use Rattle.compose_merge.specs.Inner.Merged.{Plan, Base, Model, input_numbers}
 use Rattle.compose_merge.specs.Inner.Stages.{Clean}
 use Rattle.compose_merge.proofs.WordLaws.{has_part, clean-part, clean-kept, clean-behind}
@@ -76,7 +76,7 @@ module _ (mc : AagCounts) (t : Totals) (at : Layout) (work : List ℕ) where
         (clean-part work at.assigned (at.vars + 1) k.leaves at.assigned mc.inputs (omega arith) (omega (arith, k.model.inputs, places.vars)))
 
   -- as the code asks for it
-  pub inputs-can : Some (Cleared mc t at work) → Can
+  pub inputs-can : OfSome (Cleared mc t at work) → Can
   inputs-can s = can s.m s.ws s.holds
 
   module _ {work' : List ℕ} {n : ℕ} (same : length work' ≡ length work) (post : Numbered at.input_origins t.inputs at.assigned mc.inputs 0 (at.vars + 1) 1 work work' n) where

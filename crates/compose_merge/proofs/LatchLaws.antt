@@ -18,7 +18,7 @@ use Rattle.compose_numbers.specs.Inner.Marked.{CanNumber, Numbered, numbers_in}
 use Rattle.compose_numbers.proofs.CallLaws.{numbers-stored, numbered-before, numbered-between, numbered-behind}
 use Rattle.compose_gather.specs.declared.Totals.{Totals}
 use Rattle.compose_layout.specs.declared.Layout.{Layout}
-use Rattle.compose_layout.specs.Inner.Laid.{Has, Regions, Some, Summed}
+use Rattle.compose_layout.specs.Inner.Laid.{Has, Regions, OfSome, Summed}
 use Rattle.compose_merge.specs.Inner.Merged.{Plan, Base, input_numbers, latch_numbers}
 use Rattle.compose_merge.specs.Inner.Stages.{Clean, Leaves}
 use Rattle.compose_merge.proofs.WordLaws.{has_part, has_join, clean-part, clean-behind}
@@ -87,7 +87,7 @@ module _ (mc : AagCounts) (t : Totals) (at : Layout) (first : ℕ) (work : List 
         ∙ ap (λ (n : ℕ). number_all (length m.inputs) n (origins leaf.Latches m ws) (zeros (length m.latches))) k.next
 
   -- as the code asks for it
-  pub latches-can : Some (InputsNumbered mc t at first work) → Can
+  pub latches-can : OfSome (InputsNumbered mc t at first work) → Can
   latches-can s = can s.m s.ws s.holds
 
   module _ {work' : List ℕ} {next : ℕ} (same : length work' ≡ length work) (post : Numbered at.latch_origins t.latches (at.assigned + mc.inputs) mc.latches mc.inputs (at.vars + 1 + t.inputs) first work work' next) where

@@ -1,10 +1,11 @@
 // The witnesses, laid out in the work words, are merged into the composition: its variables, gates, latches, bads and constraints.
 #![tactic(auto)]
 
-ghost use Rattle.compose_layout.specs.Inner.Laid.{Some};
+ghost use Rattle.compose_layout.specs.Inner.Laid.{OfSome};
 ghost use Rattle.compose_merge.specs.Inner.Merged.{Mergeable, Goes};
 ghost use Rattle.compose_merge.specs.Inner.Stages.{Clearable, Clears, GatesShared};
 
+use aiger::Refusal;
 use compose_gates::{DefinedLatches, SharedGates};
 use compose_gather::Totals;
 use compose_layout::Layout;
@@ -18,13 +19,6 @@ pub struct Merged {
     pub gates: usize,
     pub bads: usize,
     pub constraints: usize,
-}
-
-// The counts, or R9.17, or R9.18.
-#[derive(Clone, Copy)]
-pub enum Merging {
-    Done(Merged),
-    Refused(u64),
 }
 
 // Clears the words that are read before they are written: the numbers assigned to the model's leaves and the constant's variable behind
@@ -46,8 +40,8 @@ fn define_and_collect(
     first: usize,
     next: usize,
     gates: usize,
-) -> Merging
-    requires { Some (GatesShared totals at first next gates work.old) }
+) -> Result<Merged, Refusal>
+    requires { OfSome (GatesShared totals at first next gates work.old) }
     ensures { Goes (GatesShared totals at first next gates work.old) at work.old work.new result }
 {
     let own = at.vars + 1 + totals.inputs;
@@ -60,7 +54,7 @@ fn define_and_collect(
         at.definitions,
         first,
     ) else {
-        return Merging::Refused(18);
+        return Err(Refusal::LatchConflict);
     };
     let bads = compose_numbers::add_literals(
         work,
@@ -78,18 +72,23 @@ fn define_and_collect(
         at.constraint_bits,
         at.bits,
     );
-    Merging::Done(Merged {
+    Ok(Merged {
         inputs: first - 1,
         latches: next - first,
-        gates: gates,
-        bads: bads,
-        constraints: constraints,
+        gates,
+        bads,
+        constraints,
     })
 }
 
 // Merges the witnesses that are laid out in the work words, with their totals, for a model with these counts.
-pub fn merge(work: &mut [u64], at: Layout, model_counts: AagCounts, totals: Totals) -> Merging
-    requires { Some (Mergeable model_counts totals at work.old) }
+pub fn merge(
+    work: &mut [u64],
+    at: Layout,
+    model_counts: AagCounts,
+    totals: Totals,
+) -> Result<Merged, Refusal>
+    requires { OfSome (Mergeable model_counts totals at work.old) }
     ensures { Goes (Mergeable model_counts totals at work.old) at work.old work.new result }
 {
     clear_regions(work, at, totals.gates);
@@ -126,7 +125,7 @@ pub fn merge(work: &mut [u64], at: Layout, model_counts: AagCounts, totals: Tota
         at.gates,
         next - 1,
     ) else {
-        return Merging::Refused(17);
+        return Err(Refusal::GateLimit);
     };
     define_and_collect(work, at, totals, first_latch, next, gates)
 }

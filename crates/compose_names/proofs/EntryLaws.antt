@@ -1,4 +1,6 @@
 -- The rows of all witnesses are their entries with their numbers.
+use Rattle.std.specs.Prelude.{Some, None}
+use Rattle.std.specs.declared.option.Option as option
 use Prim.Native.Nat.{ℕ, zero, suc, ◌+◌, ◌-◌, ◌*◌, ◌%◌, ◌≤◌, ◌<◌}
 use mathlib.Core.Bool.{Bool, true, false, cond, not, ◌&&◌}
 use mathlib.Core.List.{List, [], ◌∷◌, ◌++◌, map, map-append}
@@ -16,8 +18,6 @@ use Rattle.lists.proofs.BoolLaws.{and_left}
 use Rattle.lists.proofs.MapLaws.{map_at}
 use Rattle.lists.proofs.PartLaws.{part_at, part_length}
 use Rattle.scan.specs.Same.{begins_with}
-use Rattle.text.specs.declared.Number.{Number}
-use Rattle.text.specs.declared.Number.TheVariants.{Value, Unreadable}
 use Rattle.text.specs.declared.Reader.TheVariants.{Witness}
 use Rattle.text.specs.Numbers.{number_of}
 use Rattle.aiger.specs.Gates.{variable}
@@ -59,9 +59,9 @@ not-not true e = sym e
 not-not false e = refl
 
 -- mappings are onto even literals
-onto_even : (p : ModelLeaves) (x : Number) → Even (onto_number p x)
-onto_even p Unreadable = tt
-onto_even p (Value l) = go (is_of p l) refl
+onto_even : (p : ModelLeaves) (x : option.Option ℕ) → Even (onto_number p x)
+onto_even p None = tt
+onto_even p (Some l) = go (is_of p l) refl
   where
     go : (b : Bool) → is_of p l ≡ b → Even (cond b (Onto l) Wrong)
     go true e = not-not (odd l) (and_left (not (odd l)) (ltb p.before (variable l) && leb (variable l) (p.before + p.count)) e)

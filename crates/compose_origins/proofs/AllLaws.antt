@@ -1,5 +1,5 @@
 -- Laws of the origins of all witnesses.
-use Prim.Native.Nat.{ℕ, ◌+◌, ◌/◌, ◌≤◌, ◌<◌}
+use Rattle.std.specs.Prelude.{ℕ, ◌+◌, ◌/◌, ◌≤◌, ◌<◌, Option, Some, None}
 use mathlib.Core.Bool.{Bool, false, ◌&&◌}
 use mathlib.Core.List.{List, []}
 use mathlib.Core.Path.{◌≡◌, sym, ap, ◌∙◌, subst}
@@ -26,8 +26,6 @@ use Rattle.compose_gather.proofs.CountLaws.{counts-leaves}
 use Rattle.compose_gather.proofs.CheckLaws.{read_counted}
 use Rattle.compose_gather.proofs.BlockLaws.{words_for_lem, block-kept}
 use Rattle.compose_gather.proofs.GatherLaws.{Gathering, Next, gathering-none, gathering-next, gathering-end}
-use Rattle.compose_origins.specs.declared.Origins.{Origins}
-use Rattle.compose_origins.specs.declared.Origins.TheVariants as origins
 use Rattle.compose_origins.specs.Inner.Mapped.{CanMapWitness, origins_by, right_by, WitnessOrigins, MapsWitness, CanMapAll, MapsAll}
 
 -- the witnesses before number w have right literals, and their origins stand there
@@ -47,7 +45,7 @@ mapping-none p leaves buffer pairs work to k =
     }
 
 module _ (p : ModelLeaves) (leaves : Leaves) (buffer : Bytes) (pairs work₀ work : List ℕ) (to from at w count : ℕ) (k : Mapping p leaves buffer pairs work₀ work to from at w) (number : count ≡ length pairs / 2) where
-  pub mapping-end : count ≤ w → MapsAll p leaves buffer pairs work₀ to work (origins.Next at)
+  pub mapping-end : count ≤ w → MapsAll p leaves buffer pairs work₀ to work (Some at)
   mapping-end h ws r =
       let g = gathering-end (origins_by p leaves) (leaf_count_of leaves) buffer pairs to work₀ work from at k.b w count k.gathering number h ws r in
       let none : k.gathering.rest ≡ [] = left-none buffer pairs w k.gathering.rest k.gathering.left (omega arith) in
@@ -87,10 +85,7 @@ module _ (p : ModelLeaves) (leaves : Leaves) (buffer : Bytes) (pairs work₀ wor
           room = omega (arith, leaves-same, next.room, next.same);
         }
 
-    module _ (work' : List ℕ) (r : Origins) (maps : MapsWitness p leaves t n work from w at work' r) where
-      mapped : WitnessOrigins p leaves n w next.first work at work' r
-      mapped = maps.maps next.first counts block
-
+    module _ (work' : List ℕ) where
       rest_read : FirstRead (get_or (texts_in buffer pairs) w []) (drop (w + 1) (texts_in buffer pairs)) k.gathering.rest
       rest_read = left-more buffer pairs w k.gathering.rest k.gathering.left (omega arith)
 
@@ -100,14 +95,13 @@ module _ (p : ModelLeaves) (leaves : Leaves) (buffer : Bytes) (pairs work₀ wor
           ap (λ (s : Sections). right_by p leaves s && all (right_by p leaves) rest_read.others) (got_same next.first rest_read.first (sym next.reads ∙ rest_read.reads))
           ∙ (ap (all (right_by p leaves)) (sym rest_read.is) ∙ k.right ws k.gathering.rest a k.gathering.left)
 
-      pub mapping_wrong : r ≡ origins.Wrong → MapsAll p leaves buffer pairs work₀ to work' origins.Wrong
-      mapping_wrong e ws a =
-          let wrong : right_by p leaves next.first ≡ false = subst (WitnessOrigins p leaves n w next.first work at work') e mapped in
-          sym (split ws a) ∙ ap (λ (q : Bool). q && all (right_by p leaves) rest_read.others) wrong
+      pub mapping_wrong : MapsWitness p leaves t n work from w at work' None → MapsAll p leaves buffer pairs work₀ to work' None
+      mapping_wrong maps ws a =
+          sym (split ws a) ∙ ap (λ (q : Bool). q && all (right_by p leaves) rest_read.others) (maps.maps next.first counts block)
 
-      pub mapping-more : (e from' : ℕ) → r ≡ origins.Next e → from' ≡ from + words_for n → Mapping p leaves buffer pairs work₀ work' to from' e (w + 1)
-      mapping-more e from' f g =
-          let m : WitnessOrigins p leaves n w next.first work at work' (origins.Next e) = subst (WitnessOrigins p leaves n w next.first work at work') f mapped in
+      pub mapping-more : (e from' : ℕ) → MapsWitness p leaves t n work from w at work' (Some e) → from' ≡ from + words_for n → Mapping p leaves buffer pairs work₀ work' to from' e (w + 1)
+      mapping-more e from' maps g =
+          let m : WitnessOrigins p leaves n w next.first work at work' (Some e) = maps.maps next.first counts block in
           let long : length (origins_by p leaves w k.b next.first) ≡ leaf_count_of leaves next.first = origin-words p w (maps_by_name next.first) 0 (names_of leaves next.first) in
           let x : from + word_count next.first ≡ from' = omega (arith, short, g) in
           let y : at + leaf_count_of leaves next.first ≡ e = omega (arith, m.1.1, leaves-same) in

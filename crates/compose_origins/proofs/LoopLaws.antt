@@ -1,4 +1,6 @@
 -- Laws of the loops over the names that pairs of words say.
+use Rattle.std.specs.Prelude.{not, Some, None}
+use borrow.Author.Tests.{not-true, not-false}
 use Prim.Native.Nat.{ℕ, zero, suc, ◌+◌, ◌*◌, ◌/◌, ◌≤◌, ◌<◌}
 use mathlib.Core.Bool.{Bool, true, false, ◌||◌, ◌&&◌}
 use mathlib.Core.List.{List, [], ◌∷◌}
@@ -108,12 +110,12 @@ module _ (p : ModelLeaves) (t : Bytes) (from count : ℕ) (named : Bool) (w to :
   words-length : length (part work₀ from (from + 2 * count)) ≡ 2 * count
   words-length = part_length work₀ from (from + 2 * count) (omega (arith, s.can.behind, s.can.room)) ∙ omega arith
 
-  pub storing-end : count ≤ k → StoresOrigins p t from count named w to work₀ work true
+  pub storing-end : count ≤ k → StoresOrigins p t from count named w to work₀ work (Some (to + count))
   storing-end h names say =
       let f = s.each names say in
       let n : length names ≡ count = omega (arith, names-count t (part work₀ from (from + 2 * count)) names say, words-length) in (
         sym f.right ∙ ap (all_from (λ j name. is_right (mapping_of p named j name)) k) (drop_of_length-le names {i = k} (omega arith)),
-        copied-done work₀ to (origins_from p w named 0 names) work k f.copied (omega (arith, origin-words p w named 0 names)),
+        (copied-done work₀ to (origins_from p w named 0 names) work k f.copied (omega (arith, origin-words p w named 0 names)), refl),
       )
 
   module _ (less : k < count) where
@@ -154,10 +156,10 @@ module _ (p : ModelLeaves) (t : Bytes) (from count : ℕ) (named : Bool) (w to :
           ∙ (sym (ap (all_from (λ j name. is_right (mapping_of p named j name)) k) (names-rest t (part work₀ from (from + 2 * count)) names say k (omega (arith, words-length)))) ∙ (s.each names say).right))
 
       module _ (r : Bool) (q : r ≡ is_right m) where
-        pub storing_wrong : r ≡ false → StoresOrigins p t from count named w to work₀ work false
-        storing_wrong f names say = sym (tested_right names say) ∙ ap (λ (z : Bool). z && all_from (λ j name. is_right (mapping_of p named j name)) (k + 1) (drop (k + 1) names)) (sym q ∙ f)
+        pub storing_wrong : not r ≡ true → StoresOrigins p t from count named w to work₀ work None
+        storing_wrong f names say = sym (tested_right names say) ∙ ap (λ (z : Bool). z && all_from (λ j name. is_right (mapping_of p named j name)) (k + 1) (drop (k + 1) names)) (sym q ∙ not-true r f)
 
-        pub storing-more : r ≡ true → (v : ℕ) → v ≡ origin_word w m → Storing p t from count named w to work₀ (set work (to + k) v) (k + 1)
+        pub storing-more : not r ≡ false → (v : ℕ) → v ≡ origin_word w m → Storing p t from count named w to work₀ (set work (to + k) v) (k + 1)
         storing-more f v g =
             record {
               can = s.can;
@@ -173,6 +175,6 @@ module _ (p : ModelLeaves) (t : Bytes) (from count : ℕ) (named : Bool) (w to :
                 let z : v ≡ get_or (origins_from p w named 0 names) k 0 =
                 g ∙ (ap (origin_word w) (mapping-is names say ∙ ap (λ (j : ℕ). mapping_of p named j (get_or names k none)) (omega arith)) ∙ sym (origins-at p w named 0 k names (omega arith))) in
                 record {
-                  right = ap (λ (z : Bool). z && all_from (λ j name. is_right (mapping_of p named j name)) (k + 1) (drop (k + 1) names)) (sym (sym q ∙ f)) ∙ tested_right names say;
+                  right = ap (λ (z : Bool). z && all_from (λ j name. is_right (mapping_of p named j name)) (k + 1) (drop (k + 1) names)) (sym (sym q ∙ not-false r f)) ∙ tested_right names say;
                   copied = rw z (copied_more work₀ to (origins_from p w named 0 names) work k (s.each names say).copied 0 (omega (arith, origin-words p w named 0 names)));
                 }

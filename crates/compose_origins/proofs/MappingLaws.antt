@@ -1,4 +1,6 @@
 -- Laws of what one input or latch maps to.
+use Rattle.std.specs.Prelude.{Some, None}
+use Rattle.std.specs.declared.option.Option as option
 use Prim.Native.Nat.{ℕ, ◌+◌, ◌-◌, ◌*◌, ◌/◌, ◌%◌, ◌≤◌, ◌<◌}
 use mathlib.Core.Bool.{Bool, true, false, not, and-false}
 use mathlib.Core.List.{[], ◌∷◌}
@@ -13,8 +15,6 @@ use Rattle.lists.specs.Bits.{odd}
 use Rattle.lists.specs.Parts.{Bytes}
 use Rattle.lists.proofs.PartLaws.{tail-lent}
 use Rattle.scan.specs.Same.{begins_with}
-use Rattle.text.specs.declared.Number.{Number}
-use Rattle.text.specs.declared.Number.TheVariants as number
 use Rattle.text.specs.declared.Reader.TheVariants.{Witness}
 use Rattle.text.specs.Numbers.{number_of}
 use Rattle.compose_spec.specs.declared.ModelLeaves.{ModelLeaves}
@@ -25,26 +25,26 @@ use Rattle.compose_spec.specs.Mapping.{equals, onto_number, by_name, by_position
 -- ---- a literal
 
 module _ (p : ModelLeaves) (l : ℕ) where
-  pub onto_odd : l % 2 ≡ 1 → mapping.Wrong ≡ onto_number p (number.Value l)
+  pub onto_odd : l % 2 ≡ 1 → mapping.Wrong ≡ onto_number p (Some l)
   onto_odd e = rw (eq-eqb (l % 2) 1 e) refl
 
   module _ (x : ℕ) (e : x ≡ l / 2) where
-    pub onto_before : x ≤ p.before → mapping.Wrong ≡ onto_number p (number.Value l)
+    pub onto_before : x ≤ p.before → mapping.Wrong ≡ onto_number p (Some l)
     onto_before h = rw (le-ltb p.before (l / 2) (omega arith), and-false (not (odd l))) refl
 
-    pub onto_behind : p.before + p.count < x → mapping.Wrong ≡ onto_number p (number.Value l)
+    pub onto_behind : p.before + p.count < x → mapping.Wrong ≡ onto_number p (Some l)
     onto_behind h = rw (lt-leb (l / 2) (p.before + p.count) (omega arith), and-false (ltb p.before (l / 2)), and-false (not (odd l))) refl
 
-    pub onto_it : (l % 2 ≡ 1 → ⊥) → p.before < x → x ≤ p.before + p.count → mapping.Onto l ≡ onto_number p (number.Value l)
+    pub onto_it : (l % 2 ≡ 1 → ⊥) → p.before < x → x ≤ p.before + p.count → mapping.Onto l ≡ onto_number p (Some l)
     onto_it n h k = rw (ne_eqb (l % 2) 1 n, lt-ltb p.before (l / 2) (omega arith), le-leb (l / 2) (p.before + p.count) (omega arith)) refl
 
 -- ---- a name
 
-module _ (p : ModelLeaves) (digits : Bytes) (n : Number) (e : n ≡ number_of Witness digits) where
-  pub onto_unreadable : n ≡ number.Unreadable → mapping.Wrong ≡ onto_number p (number_of Witness digits)
+module _ (p : ModelLeaves) (digits : Bytes) (n : option.Option ℕ) (e : n ≡ number_of Witness digits) where
+  pub onto_unreadable : n ≡ None → mapping.Wrong ≡ onto_number p (number_of Witness digits)
   onto_unreadable u = ap (onto_number p) (sym u ∙ e)
 
-  pub onto_readable : (l : ℕ) → n ≡ number.Value l → (r : Mapping) → r ≡ onto_number p (number.Value l) → r ≡ onto_number p (number_of Witness digits)
+  pub onto_readable : (l : ℕ) → n ≡ Some l → (r : Mapping) → r ≡ onto_number p (Some l) → r ≡ onto_number p (number_of Witness digits)
   onto_readable l u r f = f ∙ ap (onto_number p) (sym u ∙ e)
 
 short-begins : (name : Bytes) → length name < 2 → begins_with name equals ≡ false

@@ -1,4 +1,5 @@
 -- Laws of names that two words say.
+use Rattle.std.proofs.Common.{◌⊎◌, inl, inr}
 use Prim.Native.Nat.{ℕ, ◌+◌, ◌*◌, ◌≤◌}
 use mathlib.Core.Bool.{Bool, true, false, cond}
 use mathlib.Core.List.{List, [], ◌∷◌}
@@ -71,11 +72,9 @@ module _ (t : Bytes) (offset size : ℕ) where
 -- ---- the word of an origin
 
 module _ (w : ℕ) (m : Mapping) where
-  pub private_word : m ≡ mapping.Private → 2 * w + 1 ≡ origin_word w m
-  private_word e = rw e refl
-
-  pub wrong_word : m ≡ mapping.Wrong → 2 * w + 1 ≡ origin_word w m
-  wrong_word e = rw e refl
+  pub odd_word : (m ≡ mapping.Private) ⊎ (m ≡ mapping.Wrong) → 2 * w + 1 ≡ origin_word w m
+  odd_word (inl e) = rw e refl
+  odd_word (inr e) = rw e refl
 
 -- ---- names by the words at a place
 

@@ -1,5 +1,5 @@
 -- Laws of the origins of one witness.
-use Prim.Native.Nat.{ℕ, ◌+◌, ◌-◌, ◌*◌, ◌≤◌}
+use Rattle.std.specs.Prelude.{ℕ, ◌+◌, ◌-◌, ◌*◌, ◌≤◌, Option, Some, None}
 use mathlib.Core.Bool.{Bool, true, false, cond}
 use mathlib.Core.List.{List, map, map-append}
 use mathlib.Core.Option.{some}
@@ -22,8 +22,6 @@ use Rattle.compose_joint.specs.declared.Leaves.TheVariants as leaf
 use Rattle.compose_joint.specs.Inner.Joint.{names_of}
 use Rattle.compose_gather.specs.Inner.Counts.{leaf_counts, names_before}
 use Rattle.compose_gather.specs.Inner.Gathered.{Block}
-use Rattle.compose_origins.specs.declared.Origins.{Origins}
-use Rattle.compose_origins.specs.declared.Origins.TheVariants as origins
 use Rattle.compose_gather.proofs.CountLaws.{leaves-within}
 use Rattle.compose_origins.specs.Inner.Mapped.{SaysNames, SayNames, AnyMapped, CanMap, OriginsIf, StoresOrigins, CanTest, TestsWitness, CanMapWitness, WitnessOrigins, MapsWitness}
 
@@ -86,12 +84,6 @@ leaves-few leaf.Latches n = omega arith
 
 -- ---- its origins
 
-pub stored-true : (right : Bool) (a : ℕ) → right ≡ true → origins.Next a ≡ cond right (origins.Next a) origins.Wrong
-stored-true right a e = rw e refl
-
-pub stored-false : (right : Bool) (a : ℕ) → right ≡ false → origins.Wrong ≡ cond right (origins.Next a) origins.Wrong
-stored-false right a e = rw e refl
-
 module _ (p : ModelLeaves) (leaves : Leaves) (t : Bytes) (n : AagCounts) (work : List ℕ) (from w to : ℕ) where
   module _ (k : CanMapWitness p leaves t n work from w to) where
     pub witness_test : CanTest t n work from
@@ -108,16 +100,16 @@ module _ (p : ModelLeaves) (leaves : Leaves) (t : Bytes) (n : AagCounts) (work :
             room = omega (arith, k.room);
           }
 
-  module _ (names count : ℕ) (a : names ≡ from + names_before leaves n) (c : count ≡ leaf_counts leaves n) (named right : Bool) (work' : List ℕ)
-      (tests : TestsWitness t n work from named) (stores : StoresOrigins p t names count named w to work work' right) where
-    if_stored : (s : Sections) → n ≡ counts_in s → Block t s (drop from work) → OriginsIf right p w (maps_by_name s) (names_of leaves s) work to work'
+  module _ (names count : ℕ) (a : names ≡ from + names_before leaves n) (c : count ≡ leaf_counts leaves n) (named : Bool) (r : Option ℕ) (work' : List ℕ)
+      (tests : TestsWitness t n work from named) (stores : StoresOrigins p t names count named w to work work' r) where
+    if_stored : (s : Sections) → n ≡ counts_in s → Block t s (drop from work) → OriginsIf r p w (maps_by_name s) (names_of leaves s) work count to work'
     if_stored s e b =
-        subst (λ (q : Bool). OriginsIf right p w q (names_of leaves s) work to work') (tests.tests s e b)
+        subst (λ (q : Bool). OriginsIf r p w q (names_of leaves s) work count to work') (tests.tests s e b)
         (stores (names_of leaves s) (rw (a, c, e) (leaves-say leaves t s work from b)))
 
-    decided : (q : Bool) (s : Sections) → OriginsIf q p w (maps_by_name s) (names_of leaves s) work to work' → WitnessOrigins p leaves n w s work to work' (cond q (origins.Next (to + count)) origins.Wrong)
-    decided true s o = (o.0, (o.1, ap (λ (j : ℕ). to + j) c))
-    decided false s o = o
+    decided : (q : Option ℕ) (s : Sections) → OriginsIf q p w (maps_by_name s) (names_of leaves s) work count to work' → WitnessOrigins p leaves n w s work to work' q
+    decided (Some e) s o = (o.0, (o.1.0, o.1.1 ∙ ap (λ (j : ℕ). to + j) c))
+    decided None s o = o
 
-    pub witness-mapped : (r : Origins) → r ≡ cond right (origins.Next (to + count)) origins.Wrong → MapsWitness p leaves t n work from w to work' r
-    witness-mapped r f = rw f (record { maps = λ s e b. decided right s (if_stored s e b) })
+    pub witness-mapped : MapsWitness p leaves t n work from w to work' r
+    witness-mapped = record { maps = λ s e b. decided r s (if_stored s e b) }

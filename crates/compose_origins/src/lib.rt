@@ -2,13 +2,11 @@
 #![tactic(auto)]
 
 ghost use Rattle.std.proofs.Math.Option.{some};
-ghost use Rattle.std.specs.Prelude.{◌≡◌, cond, ◌+◌, ◌≤◌, ◌<◌};
-ghost use Rattle.text.specs.declared.Number.TheVariants.{Value};
+ghost use Rattle.std.specs.Prelude.{◌≡◌, ◌+◌, ◌≤◌, ◌<◌};
 ghost use Rattle.text.specs.declared.Reader.TheVariants.{Witness};
 ghost use Rattle.text.specs.Numbers.{number_of};
 ghost use Rattle.compose_gather.specs.Inner.Counts.{names_before, CountsListed};
 ghost use Rattle.compose_gather.specs.Inner.Gathered.{words_for};
-ghost use Rattle.compose_origins.specs.declared.Origins.TheVariants as origins;
 ghost use Rattle.compose_spec.specs.Mapping.{onto_number, by_name, by_position};
 ghost use Rattle.compose_spec.specs.Composing.{is_right};
 ghost use Rattle.compose_joint.specs.Inner.Joint.{origin_word};
@@ -16,22 +14,14 @@ ghost use Rattle.compose_origins.specs.Inner.Mapped.{FewLeaves, SaysName, MapsTo
 
 use compose_joint::Leaves;
 use compose_spec::{Mapping, ModelLeaves};
-use text::Number;
 use witness_text::AagCounts;
-
-// The place after the origins, or that a literal is wrong (R9.16).
-#[derive(Clone, Copy)]
-pub enum Origins {
-    Next(usize),
-    Wrong,
-}
 
 // What a literal behind `= ` maps to.
 fn onto(model_leaves: ModelLeaves, l: u64) -> Mapping
     requires { FewLeaves model_leaves 0 }
-    ensures { result ≡ onto_number model_leaves (Value l) }
+    ensures { result ≡ onto_number model_leaves (Some l) }
 {
-    let x = lists::index(l / 2);
+    let x = (l / 2) as usize;
     if l % 2 == 1 {
         return Mapping::Wrong;
     }
@@ -50,8 +40,8 @@ fn onto_digits(model_leaves: ModelLeaves, digits: &[u8]) -> Mapping
     ensures { result ≡ onto_number model_leaves (number_of Witness digits.now) }
 {
     match text::numbers::parse_number(digits) {
-        Number::Unreadable => Mapping::Wrong,
-        Number::Value(l) => onto(model_leaves, l),
+        None => Mapping::Wrong,
+        Some(l) => onto(model_leaves, l),
     }
 }
 
@@ -114,8 +104,8 @@ fn mapping_at(
     requires { MappedAt model_leaves text.now work.now at k }
     ensures { MapsAt model_leaves named k text.now work.now at result }
 {
-    let offset = lists::index(work[at]);
-    let size = lists::index(work[at + 1]);
+    let offset = work[at] as usize;
+    let size = work[at + 1] as usize;
     mapping_of(text, offset, size, named, model_leaves, k)
 }
 
@@ -135,8 +125,8 @@ fn mapped_at(text: &[u8], words: &[u64], i: usize) -> bool
     requires { SaysAt text.now words.now i }
     ensures { TestsAt text.now words.now i result }
 {
-    let offset = lists::index(words[2 * i]);
-    let size = lists::index(words[2 * i + 1]);
+    let offset = words[2 * i] as usize;
+    let size = words[2 * i + 1] as usize;
     is_mapped(text, offset, size)
 }
 
@@ -146,12 +136,10 @@ fn any_mapped(text: &[u8], words: &[u64]) -> bool
     ensures { AnyMapped text.now words.now result }
 {
     let count = words.len() / 2;
-    let mut i = 0;
-    while i < count {
+    for i in 0..count {
         if mapped_at(text, words, i) {
             return true;
         }
-        i += 1;
     }
     false
 }
@@ -162,23 +150,18 @@ fn origin_word(w: usize, mapping: Mapping) -> u64
     ensures { result ≡ origin_word w mapping }
 {
     match mapping {
-        Mapping::Private => (2 * w + 1) as u64,
+        Mapping::Private | Mapping::Wrong => (2 * w + 1) as u64,
         Mapping::Onto(l) => l,
-        Mapping::Wrong => (2 * w + 1) as u64,
     }
 }
 
 fn is_right(mapping: Mapping) -> bool
     ensures { result ≡ is_right mapping }
 {
-    match mapping {
-        Mapping::Private => true,
-        Mapping::Onto(l) => true,
-        Mapping::Wrong => false,
-    }
+    !matches!(mapping, Mapping::Wrong)
 }
 
-// The origins of so many inputs or latches of witness w, whose names are said from one place on, from another place on. False where a literal is wrong.
+// The origins of so many inputs or latches of witness w, whose names are said from one place on, from another place on. Returns the place after them, or nothing where a literal is wrong (R9.16).
 fn store_origins(
     text: &[u8],
     work: &mut [u64],
@@ -188,21 +171,18 @@ fn store_origins(
     model_leaves: ModelLeaves,
     w: usize,
     to: usize,
-) -> bool
+) -> Option<usize>
     requires { CanMap model_leaves text.now work.old from count w to }
     ensures { StoresOrigins model_leaves text.now from count named w to work.old work.new result }
 {
-    let mut k = 0;
-    while k < count {
+    for k in 0..count {
         let mapping = mapping_at(text, work, from + 2 * k, named, model_leaves, k);
-        if is_right(mapping) {
-            work[to + k] = origin_word(w, mapping);
-            k += 1;
-        } else {
-            return false;
+        if !is_right(mapping) {
+            return None;
         }
+        work[to + k] = origin_word(w, mapping);
     }
-    true
+    Some(to + count)
 }
 
 // Where the names of the inputs, or latches, begin; the words of the text begin at a place.
@@ -222,17 +202,6 @@ fn maps_by_name(text: &[u8], counts: AagCounts, work: &[u64], from: usize) -> bo
     any_mapped(text, &work[from..end])
 }
 
-// The place after so many origins, where they were stored.
-fn stored(right: bool, to: usize, count: usize, end: usize) -> Origins
-    requires { to + count ≤ end }
-    ensures { result ≡ cond right (origins.Next (to + count)) origins.Wrong }
-{
-    if right {
-        return Origins::Next(to + count);
-    }
-    Origins::Wrong
-}
-
 // The origins of the inputs, or latches, of witness w, whose words begin at a place, from another place on.
 fn witness_origins(
     text: &[u8],
@@ -243,18 +212,17 @@ fn witness_origins(
     model_leaves: ModelLeaves,
     w: usize,
     to: usize,
-) -> Origins
+) -> Option<usize>
     requires { CanMapWitness model_leaves leaves text.now counts work.old from w to }
     ensures { MapsWitness model_leaves leaves text.now counts work.old from w to work.new result }
 {
     let named = maps_by_name(text, counts, work, from);
     let names = names_at(leaves, counts, from, to);
     let count = compose_gather::counts::leaf_count(leaves, counts);
-    let right = store_origins(text, work, names, count, named, model_leaves, w, to);
-    stored(right, to, count, work.len())
+    store_origins(text, work, names, count, named, model_leaves, w, to)
 }
 
-// The origins of the inputs, or latches, of all witnesses, from a place on.
+// The origins of the inputs, or latches, of all witnesses, from a place on. Returns the place after them, or nothing where a literal is wrong (R9.16).
 pub fn gather_origins(
     witnesses: &[u8],
     pairs: &[u64],
@@ -263,7 +231,7 @@ pub fn gather_origins(
     leaves: Leaves,
     model_leaves: ModelLeaves,
     to: usize,
-) -> Origins
+) -> Option<usize>
     requires can_map_all { CanMapAll model_leaves leaves witnesses.now pairs.now work.old to }
     requires counts_listed { CountsListed witnesses.now pairs.now counts.now }
     ensures { MapsAll model_leaves leaves witnesses.now pairs.now work.old to work.new result }
@@ -271,18 +239,12 @@ pub fn gather_origins(
     let count = pairs.len() / 2;
     let mut from = 0;
     let mut at = to;
-    let mut w = 0;
-    while w < count {
+    for w in 0..count {
         let text = compose_gather::text_at(witnesses, pairs, w);
         let n = compose_gather::counts::counts_at(counts, w);
         let next = compose_gather::after_words(n, from, at);
-        let Origins::Next(end) = witness_origins(text, n, work, from, leaves, model_leaves, w, at)
-        else {
-            return Origins::Wrong;
-        };
-        at = end;
+        at = witness_origins(text, n, work, from, leaves, model_leaves, w, at)?;
         from = next;
-        w += 1;
     }
-    Origins::Next(at)
+    Some(at)
 }

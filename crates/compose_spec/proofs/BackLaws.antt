@@ -1,4 +1,5 @@
 -- Printed sections read back: the text of sections is read, without limits, as these sections.
+use Rattle.std.specs.Prelude.{Some, None}
 use Prim.Native.Nat.{ℕ, zero, suc, ◌*◌, ◌≤◌}
 use mathlib.Core.Bool.{Bool, true, false, cond}
 use mathlib.Core.List.{List, [], ◌∷◌, ◌++◌, map, nil≢cons}
@@ -166,7 +167,7 @@ module _ (s : Sections) (p : Printable s) where
       (record { some_byte = λ e. nil≢cons (sym e); unblank = refl }, each_map decimal IsField numbers_in (each-any (λ n. IsField (decimal n)) decimal-field numbers_in))
 
   -- its numbers are read
-  numbers_read : numbers_of Witness (map decimal numbers_in) ≡ some numbers_in
+  numbers_read : numbers_of Witness (map decimal numbers_in) ≡ Some numbers_in
   numbers_read =
       let small : Small (2 * suc (variables s)) = p.small in
       ap (numbers_of Witness) (sym (fields_back (map decimal numbers_in) (each_map decimal IsField numbers_in (each-any (λ n. IsField (decimal n)) decimal-field numbers_in))))
@@ -176,7 +177,7 @@ module _ (s : Sections) (p : Printable s) where
   -- the header gives the counts of the sections
   header_back : header_of (header_line s ∷ body_lines s) ≡ got (counts_in s)
   header_back =
-      ap (λ (fs : List Bytes). five_to_nine (cond (is_header_word (head_of fs)) (numbers_of Witness (drop 1 fs)) none)) header_fields
+      ap (λ (fs : List Bytes). five_to_nine (cond (is_header_word (head_of fs)) (numbers_of Witness (drop 1 fs)) None)) header_fields
       ∙ ap five_to_nine numbers_read
 
   -- 5 does not apply without limits

@@ -1,13 +1,12 @@
 -- Which literal of the model an input or a latch of a witness maps to (R8.2, R8.3), and when a name's literal is wrong (R9.16).
-use Rattle.std.specs.Prelude.{ℕ, suc, ◌+◌, ◌*◌, Bool, true, false, cond, not, ◌&&◌, leb, ltb, length, drop}
+use Rattle.std.specs.Prelude.{ℕ, suc, ◌+◌, ◌*◌, Bool, true, false, cond, not, ◌&&◌, leb, ltb, length, drop, Some, None}
+use Rattle.std.specs.declared.option.Option as option
 use Rattle.std.proofs.Math.Option.{Option, some, none}
 use Rattle.lists.specs.Quoted.{bytes}
 use Rattle.lists.specs.Bits.{odd}
 use Rattle.lists.specs.Parts.{Bytes}
 use Rattle.lists.specs.Tests.{any}
 use Rattle.scan.specs.Same.{begins_with}
-use Rattle.text.specs.declared.Number.{Number}
-use Rattle.text.specs.declared.Number.TheVariants.{Value, Unreadable}
 use Rattle.text.specs.declared.Reader.TheVariants.{Witness}
 use Rattle.text.specs.Numbers.{number_of}
 use Rattle.aiger.specs.Gates.{variable}
@@ -34,9 +33,9 @@ abbrev pub is_of : ModelLeaves → ℕ → Bool
 is_of p l = not (odd l) && (ltb p.before (variable l) && leb (variable l) (p.before + p.count))
 
 -- R9.16, of the number behind `= `
-abbrev pub onto_number : ModelLeaves → Number → Mapping
-onto_number p Unreadable = Wrong
-onto_number p (Value l) = cond (is_of p l) (Onto l) Wrong
+abbrev pub onto_number : ModelLeaves → option.Option ℕ → Mapping
+onto_number p None = Wrong
+onto_number p (Some l) = cond (is_of p l) (Onto l) Wrong
 
 -- R8.2: what a name maps to, in a witness that maps by name
 abbrev pub by_name : ModelLeaves → Option Bytes → Mapping

@@ -1,4 +1,5 @@
 -- The two passes over the gates' lines: checking them, and writing their words.
+use Rattle.std.specs.Prelude.{Option, Some, None}
 use Prim.Native.Nat.{ℕ, ◌+◌, ◌*◌, ◌≤◌, ◌<◌}
 use mathlib.Core.Bool.{Bool, true, false}
 use mathlib.Core.List.{List, [], ◌∷◌, ◌++◌, append_assoc}
@@ -12,17 +13,16 @@ use Rattle.lists.proofs.PartLaws.{Grown, grown-none, grown-set}
 use Rattle.lists.proofs.WordLaws.{words_append}
 use Rattle.text.specs.declared.Reader.TheVariants.{Transition}
 use Rattle.text.specs.declared.Cursor.{Cursor}
+use Rattle.text.specs.declared.Parsed.{Parsed}
 use Rattle.aiger.specs.declared.Gate.{Gate}
 use Rattle.aiger.specs.Gates.{gate_words}
 use Rattle.aiger.specs.Sections.{section}
 use Rattle.aiger.proofs.SectionLaws.{Taking, taking-none, taking-more, taking_bad, taking-done, same-items, no_section}
 use Rattle.model.specs.Inner.Marking.{AddsGate, AddsGates}
 use Rattle.model.proofs.MarkingLaws.{marking_gate_lost}
-use Rattle.circuit_lines.specs.declared.TakenGate.{TakenGate}
 use Rattle.circuit_lines.specs.SectionLines.{gate_line}
 use Rattle.circuit_lines.specs.Inner.Takes.{lines_from, TakesGate}
 use Rattle.model_read.specs.Inner.Passes.{AddsNext, Found, Writes}
-use Rattle.circuit_lines.specs.declared.TakenGate.TheVariants as gate
 
 -- ---- one more gate
 
@@ -47,18 +47,19 @@ module _ (s : Bytes) (c : Cursor) (n most : ℕ) (fine : Bool) (w₀ : List ℕ)
   checking-none = record { gates = []; count = refl; taking = taking-none (gate_line Transition) n (lines_from s c); marking = λ leaves m. m }
 
   module _ (w : List ℕ) (p : Cursor) (good : Bool) (i : ℕ) (k : Checking s c n most fine w₀ w p good i) where
-    module _ (h : i < n) (t : TakenGate) (q : TakesGate Transition s p t) where
-      pub checking_bad : t ≡ gate.Bad → section (gate_line Transition) n (lines_from s c) ≡ refused 8
+    module _ (h : i < n) (t : Option (Parsed Gate)) (q : TakesGate Transition s p t) where
+      pub checking_bad : t ≡ None → section (gate_line Transition) n (lines_from s c) ≡ refused 8
       checking_bad e = taking_bad (gate_line Transition) n (lines_from s c) k.gates (lines_from s p) k.taking (omega (arith, k.count)) (rw e at q)
 
-      pub checking-more : (g : Gate) (p' : Cursor) → t ≡ gate.Got g p' → (w' : List ℕ) (r : Bool) → AddsNext most w good g w' r
-          → Checking s c n most fine w₀ w' p' r (i + 1)
-      checking-more g p' e w' r a =
-          let f : TakesGate Transition s p (gate.Got g p') = rw e at q in
+      pub checking-more : (x : Parsed Gate) → t ≡ Some x → (w' : List ℕ) (r : Bool) → AddsNext most w good x.value w' r
+          → Checking s c n most fine w₀ w' x.next r (i + 1)
+      checking-more x e w' r a =
+          let g = x.value in
+          let f : TakesGate Transition s p (Some x) = rw e at q in
           record {
             gates = k.gates ++ g ∷ [];
             count = rw (length-append k.gates (g ∷ [])) (omega (arith, k.count));
-            taking = taking-more (gate_line Transition) n (lines_from s c) k.gates (lines_from s p) k.taking (omega (arith, k.count)) g (lines_from s p') f;
+            taking = taking-more (gate_line Transition) n (lines_from s c) k.gates (lines_from s p) k.taking (omega (arith, k.count)) g (lines_from s x.next) f;
             marking = λ leaves m. a leaves k.gates (k.marking leaves m);
           }
 
@@ -102,19 +103,20 @@ module _ (s : Bytes) (c : Cursor) (n : ℕ) (o₀ : List ℕ) where
         rw (words_append gate_words k.gates (g ∷ []), append_assoc (ws ++ g.output ∷ []) (g.left ∷ []) (g.right ∷ []), append_assoc ws (g.output ∷ []) (g.left ∷ g.right ∷ [])) refl in
         rw (n₃, e) at d
 
-    module _ (h : i < n) (t : TakenGate) (q : TakesGate Transition s p t) where
-      pub writing_more : (g : Gate) (p' : Cursor) → t ≡ gate.Got g p' → length o ≡ length o₀ → 3 * n ≤ length o₀
-          → Writing s c n o₀ (set (set (set o (3 * i) g.output) (3 * i + 1) g.left) (3 * i + 2) g.right) p' (i + 1)
-      writing_more g p' e z b =
-          let f : TakesGate Transition s p (gate.Got g p') = rw e at q in
+    module _ (h : i < n) (t : Option (Parsed Gate)) (q : TakesGate Transition s p t) where
+      pub writing_more : (x : Parsed Gate) → t ≡ Some x → length o ≡ length o₀ → 3 * n ≤ length o₀
+          → Writing s c n o₀ (set (set (set o (3 * i) x.value.output) (3 * i + 1) x.value.left) (3 * i + 2) x.value.right) x.next (i + 1)
+      writing_more x e z b =
+          let g = x.value in
+          let f : TakesGate Transition s p (Some x) = rw e at q in
           record {
             gates = k.gates ++ g ∷ [];
             count = rw (length-append k.gates (g ∷ [])) (omega (arith, k.count));
-            taking = taking-more (gate_line Transition) n (lines_from s c) k.gates (lines_from s p) k.taking (omega (arith, k.count)) g (lines_from s p') f;
+            taking = taking-more (gate_line Transition) n (lines_from s c) k.gates (lines_from s p) k.taking (omega (arith, k.count)) g (lines_from s x.next) f;
             grown = three g (omega arith);
           }
 
-      pub writing_bad : t ≡ gate.Bad → Writes s c n o₀ o
+      pub writing_bad : t ≡ None → Writes s c n o₀ o
       writing_bad e gates rest f =
           no_section gates rest 8 (sym f ∙ taking_bad (gate_line Transition) n (lines_from s c) k.gates (lines_from s p) k.taking (omega (arith, k.count)) (rw e at q))
 

@@ -1,4 +1,5 @@
 -- A model whose gates are checked from their lines.
+use Rattle.std.specs.Prelude.{Option, Some, None}
 use Prim.Native.Nat.{ℕ, ◌<◌}
 use mathlib.Core.Bool.{Bool, true, false, not}
 use mathlib.Core.List.{List, []}
@@ -18,19 +19,17 @@ use Rattle.model.specs.Inner.Marking.{Marking, AddsLeaves, leaves_of_record, lit
 use Rattle.model.proofs.MarkingLaws.{marking-none}
 use Rattle.model.proofs.CheckedLaws.{defined_fails, literals-left}
 use Rattle.circuit_lines.specs.Inner.Takes.{lines_from}
-use Rattle.model_read.specs.declared.GateCheck.{GateCheck}
 use Rattle.model_read.specs.Inner.Passes.{verdict_of, Found, ChecksGates, with_gates, gates_of}
-use Rattle.model_read.specs.declared.GateCheck.TheVariants as check
 
 module _ (s : Bytes) (p : Cursor) (m : AigerTransition) (l : LentModel) (same : lent_record l ≡ m) (w : List ℕ) (h : m.max_variable < length w) (z : w ≡ zeros (length w)) (w₁ : List ℕ) (fine : Bool)
-    (a : AddsLeaves (lent_record l).max_variable w (leaves_of_record (lent_record l)) w₁ fine) (t : GateCheck) (q : ChecksGates s p m.and_count m.max_variable fine w₁ t) where
+    (a : AddsLeaves (lent_record l).max_variable w (leaves_of_record (lent_record l)) w₁ fine) (t : Option Bool) (q : ChecksGates s p m.and_count m.max_variable fine w₁ t) where
   abbrev answer : Answer (Unit {0})
   answer = verdict_of (gates_of (circuit_of m []) m.and_count (lines_from s p))
 
-  pub lines_bad : t ≡ check.Bad → refused 8 ≡ answer
-  lines_bad e = let f : ChecksGates s p m.and_count m.max_variable fine w₁ check.Bad = rw e at q in rw f refl
+  pub lines_bad : t ≡ None → refused 8 ≡ answer
+  lines_bad e = let f : ChecksGates s p m.and_count m.max_variable fine w₁ None = rw e at q in rw f refl
 
-  module _ (good : Bool) (e : t ≡ check.Done good) where
+  module _ (good : Bool) (e : t ≡ Some good) where
     found : Found s p m.and_count m.max_variable fine w₁ good
     found = rw e at q
 

@@ -1,4 +1,5 @@
 -- The reader's answer: the sections in two parts, then reason by reason.
+use Rattle.std.specs.Prelude.{Option, Some, None}
 use Prim.Native.Nat.{ℕ, ◌*◌, ◌/◌, ◌<◌, ◌≤◌}
 use mathlib.Core.Bool.{Bool, true, false, not}
 use mathlib.Core.List.{List, []}
@@ -14,6 +15,7 @@ use Rattle.lists.specs.Words.{words_of}
 use Rattle.lists.proofs.AnswerLaws.{got_same, unless-got, and_then-got, and_then_assoc, and_then-same}
 use Rattle.lists.proofs.ZeroLaws.{zeros-length, zeros-kept}
 use Rattle.text.specs.declared.Cursor.{Cursor}
+use Rattle.text.specs.declared.Parsed.{Parsed}
 use Rattle.text.specs.Lines.{lines_of}
 use Rattle.text.specs.declared.Reader.TheVariants.{Transition}
 use Rattle.text.specs.Texts.{limited, good_text}
@@ -28,8 +30,6 @@ use Rattle.model.specs.declared.AigerTransition.{AigerTransition}
 use Rattle.model.specs.declared.Counts.{Counts}
 use Rattle.model.specs.Circuit.{Circuit, circuit_of, record_of, no_circuit, no_latch}
 use Rattle.model.specs.Limits.{counted, well_defined}
-use Rattle.model_text.specs.declared.ModelHeader.{ModelHeader}
-use Rattle.circuit_lines.specs.declared.SectionEnd.{SectionEnd}
 use Rattle.circuit_lines.specs.SectionLines.{literal_line, gate_line}
 use Rattle.model_text.specs.ModelLines.{latch_line}
 use Rattle.circuit_lines.specs.Inner.Takes.{lines_from}
@@ -37,8 +37,6 @@ use Rattle.model_text.specs.Header.{header_of}
 use Rattle.model_text.specs.Inner.Takes.{Headed, TakesCounts}
 use Rattle.model_read.specs.Reading.{sections_of, model_of, body_of, read_transition, read_of, gates_after, Reads}
 use Rattle.model_read.specs.Inner.Passes.{verdict_of, Started, start_of, with_gates, record_with, Starts, TakesStart, Writes, gates_of, Readable}
-use Rattle.model_text.specs.declared.ModelHeader.TheVariants as header
-use Rattle.circuit_lines.specs.declared.SectionEnd.TheVariants as section-end
 
 -- ---- the sections in two parts: all but the gates, then the gates
 
@@ -107,18 +105,24 @@ accepts answer c d gates e q g g' w' n z m k x = record { returns = rw (e, q, k)
 refuses : (answer : Answer Circuit) (k : Refusal) → answer ≡ refused (refusal_number k) → (g w : List ℕ) (n : ℕ) → w ≡ zeros n → Reads answer g n (Err k) g w
 refuses answer k e g w n z = record { returns = ap read_of (sym e); writes = ap (λ (x : Answer Circuit). gates_after x g) (sym e); clears = z }
 
-module _ (s : Bytes) (c : Cursor) (n : Counts) (g w : List ℕ) (k : Readable n g w) (m : AigerTransition) (p : SectionEnd) (t : TakesStart s c n m p) where
+module _ (s : Bytes) (c : Cursor) (n : Counts) (g w : List ℕ) (k : Readable n g w) (h : Option (Parsed AigerTransition)) (t : TakesStart s c n h) where
   abbrev answer : Answer Circuit
   answer = model_of n (lines_from s c)
 
-  pub model_no_head : p ≡ section-end.Bad → Reads answer g (length w) (Err refusal.Line) g w
+  pub model_no_head : h ≡ None → Reads answer g (length w) (Err refusal.Line) g w
   model_no_head e =
-      let f : TakesStart s c n m section-end.Bad = rw e at t in
+      let f : TakesStart s c n None = rw e at t in
       refuses answer refusal.Line (model-split n (lines_from s c) ∙ rw f refl) g w (length w) k.clear
 
-  module _ (e : Cursor) (pe : p ≡ section-end.At e) where
+  module _ (x : Parsed AigerTransition) (is : h ≡ Some x) where
+    abbrev m : AigerTransition
+    m = x.value
+
+    abbrev e : Cursor
+    e = x.next
+
     starts : Starts s c n m e
-    starts = rw pe at t
+    starts = rw is at t
 
     answer-is : answer ≡ gates_of starts.circuit n.ands (lines_from s e)
     answer-is = model-split n (lines_from s c) ∙ rw starts.takes refl
@@ -178,16 +182,16 @@ module _ (s : Bytes) (g : List ℕ) (w : ℕ) (b : Bool) (q : b ≡ good_text li
   unfolding read_transition
   text_refused t w' z = refuses text refusal.Text (rw (← q, not-true b t) refl) g w' w z
 
-  module _ (t : not b ≡ false) (h : ModelHeader) (k : TakesCounts s h) where
-    pub header_bad : h ≡ header.Refused → (w' : List ℕ) → w' ≡ zeros w → Reads text g w (Err refusal.Header) g w'
+  module _ (t : not b ≡ false) (h : Option (Parsed Counts)) (k : TakesCounts s h) where
+    pub header_bad : h ≡ None → (w' : List ℕ) → w' ≡ zeros w → Reads text g w (Err refusal.Header) g w'
     unfolding read_transition
     header_bad e w' z = let f : header_of (lines_of s) ≡ refused 4 = rw e at k in refuses text refusal.Header (rw (← q, not-false b t, f) refl) g w' w z
 
-    pub header_read : (n : Counts) (c : Cursor) → h ≡ header.Got n c → (w₁ : List ℕ) → w₁ ≡ zeros w → (r : Result AigerTransition Refusal) (g' w' : List ℕ)
-        → Reads (body_of (length g) (length w₁) (lines_from s c) n) g (length w₁) r g' w' → Reads text g w r g' w'
+    pub header_read : (p : Parsed Counts) → h ≡ Some p → (w₁ : List ℕ) → w₁ ≡ zeros w → (r : Result AigerTransition Refusal) (g' w' : List ℕ)
+        → Reads (body_of (length g) (length w₁) (lines_from s p.next) p.value) g (length w₁) r g' w' → Reads text g w r g' w'
     unfolding read_transition
-    header_read n c e w₁ z r g' w' x =
-        let f : Headed s n c = rw e at k in
+    header_read p e w₁ z r g' w' x =
+        let f : Headed s p.value p.next = rw e at k in
         let y : length w₁ ≡ w = ap length z ∙ zeros-length w in
-        let a : read_transition s (length g) w ≡ body_of (length g) w (lines_from s c) n = rw (← q, not-false b t, f.counts, f.rest) refl in
+        let a : read_transition s (length g) w ≡ body_of (length g) w (lines_from s p.next) p.value = rw (← q, not-false b t, f.counts, f.rest) refl in
         rw (a, ← y) x

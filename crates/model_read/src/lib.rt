@@ -9,40 +9,13 @@ ghost use Rattle.model.specs.Circuit.{circuit_of, record_of, no_circuit};
 ghost use Rattle.model.specs.Limits.{counted};
 ghost use Rattle.circuit_lines.specs.Inner.Takes.{lines_from};
 ghost use Rattle.model_read.specs.Reading.{model_of, body_of, read_transition, Reads};
-ghost use Rattle.model_read.specs.Inner.Passes.{TakesStart, TakesLiterals, AddsNext, ChecksGates, Writes, gates_of, verdict_of, Readable};
+ghost use Rattle.model_read.specs.Inner.Passes.{TakesStart, AddsNext, ChecksGates, Writes, gates_of, verdict_of, Readable};
 
 use aiger::{Gate, Refusal};
-use circuit_lines::{SectionEnd, TakenGate};
+use circuit_lines::LiteralLine;
 use model::{AigerLatch, AigerTransition, Counts, LentModel};
-use model_text::ModelHeader;
-use text::{Cursor, Reader};
-
-// A model without its gates, and the place of the gates' lines.
-#[derive(Clone, Copy)]
-struct Head {
-    place: SectionEnd,
-    model: AigerTransition,
-}
-
-// The inputs of a section, with zeros past them; and the outputs.
-#[derive(Clone, Copy)]
-struct TakenInputs {
-    place: SectionEnd,
-    inputs: [u64; 64],
-}
-
-#[derive(Clone, Copy)]
-struct TakenOutputs {
-    place: SectionEnd,
-    outputs: [u64; 128],
-}
-
-// Whether the definitions hold, or that a gate's line is missing or bad.
-#[derive(Clone, Copy)]
-enum GateCheck {
-    Done(bool),
-    Bad,
-}
+use model_text::LatchLine;
+use text::{Cursor, Parsed, Reader};
 
 // One more gate is checked and marked, where those before hold.
 fn define_next(work: &mut [u64], most: usize, fine: bool, gate: Gate) -> bool
@@ -54,7 +27,8 @@ fn define_next(work: &mut [u64], most: usize, fine: bool, gate: Gate) -> bool
     false
 }
 
-// Checks the gates of the n lines from a cursor on. All lines are looked at, since a bad one counts more than a definition that fails.
+// Checks the gates of the n lines from a cursor on, and answers whether the definitions hold; none where a line is missing or bad. All
+// lines are looked at, since a bad one counts more than a definition that fails.
 fn check_gates(
     s: &[u8],
     cursor: Cursor,
@@ -62,24 +36,17 @@ fn check_gates(
     most: usize,
     fine: bool,
     work: &mut [u64],
-) -> GateCheck
+) -> Option<bool>
     ensures { ChecksGates s.now cursor n most fine work.old result }
 {
-    let mut p = cursor;
     let mut good = fine;
-    let mut i = 0;
-    while i < n {
-        let taken = circuit_lines::take_gate(Reader::Transition, s, p);
-        match taken {
-            TakenGate::Got { gate, next } => {
-                good = define_next(work, most, good, gate);
-                p = next;
-                i += 1;
-            }
-            TakenGate::Bad => return GateCheck::Bad,
-        }
+    let mut next = cursor;
+    for i in 0..n {
+        let gate = circuit_lines::take_gate(Reader::Transition, s, next)?;
+        good = define_next(work, most, good, gate.value);
+        next = gate.next;
     }
-    GateCheck::Done(good)
+    Some(good)
 }
 
 // Writes the gates of the n lines from a cursor on, three words each.
@@ -87,46 +54,15 @@ fn write_gates(s: &[u8], cursor: Cursor, n: usize, gates: &mut [u64])
     requires { 3 * n ≤ length gates.old }
     ensures { Writes s.now cursor n gates.old gates.new }
 {
-    let mut p = cursor;
-    let mut i = 0;
-    while i < n {
-        let taken = circuit_lines::take_gate(Reader::Transition, s, p);
-        match taken {
-            TakenGate::Got { gate, next } => {
-                gates[3 * i] = gate.output;
-                gates[3 * i + 1] = gate.left;
-                gates[3 * i + 2] = gate.right;
-                p = next;
-                i += 1;
-            }
-            TakenGate::Bad => return,
-        }
-    }
-}
-
-// The inputs of the n lines from a cursor on.
-fn take_inputs(s: &[u8], cursor: Cursor, n: usize) -> TakenInputs
-    requires { n ≤ 64 }
-    ensures { TakesLiterals 64 s.now cursor n result.place result.inputs }
-{
-    let mut inputs = [0; 64];
-    let place = circuit_lines::take_literals(Reader::Transition, s, cursor, &mut inputs[..n]);
-    TakenInputs {
-        place: place,
-        inputs: inputs,
-    }
-}
-
-// The outputs of the n lines from a cursor on.
-fn take_outputs(s: &[u8], cursor: Cursor, n: usize) -> TakenOutputs
-    requires { n ≤ 128 }
-    ensures { TakesLiterals 128 s.now cursor n result.place result.outputs }
-{
-    let mut outputs = [0; 128];
-    let place = circuit_lines::take_literals(Reader::Transition, s, cursor, &mut outputs[..n]);
-    TakenOutputs {
-        place: place,
-        outputs: outputs,
+    let mut next = cursor;
+    for i in 0..n {
+        let Some(gate) = circuit_lines::take_gate(Reader::Transition, s, next) else {
+            return;
+        };
+        gates[3 * i] = gate.value.output;
+        gates[3 * i + 1] = gate.value.left;
+        gates[3 * i + 2] = gate.value.right;
+        next = gate.next;
     }
 }
 
@@ -149,39 +85,27 @@ pub fn no_model() -> AigerTransition
     }
 }
 
-// What stands for the sections where a line of them is missing or bad.
-fn bad_head() -> Head
-    ensures { result.place ≡ SectionEnd.Bad }
-{
-    Head {
-        place: SectionEnd::Bad,
-        model: no_model(),
-    }
-}
-
-// The inputs, latches and outputs from a cursor on.
-fn take_head(s: &[u8], cursor: Cursor, counts: Counts) -> Head
+// The inputs, latches and outputs from a cursor on: a model without its gates, and the place of the gates' lines.
+fn take_head(s: &[u8], cursor: Cursor, counts: Counts) -> Option<Parsed<AigerTransition>>
     requires { counted counts ≡ true }
-    ensures { TakesStart s.now cursor counts result.model result.place }
+    ensures { TakesStart s.now cursor counts result }
 {
-    let ins = take_inputs(s, cursor, counts.inputs);
-    let in_place = ins.place;
-    let SectionEnd::At(p) = in_place else {
-        return bad_head();
+    let literal = LiteralLine {
+        reader: Reader::Transition,
     };
-    let las = model_text::take_latches(s, p, counts.latches);
-    let latch_place = las.place;
-    let SectionEnd::At(q) = latch_place else {
-        return bad_head();
+    let blank = AigerLatch {
+        current: 0,
+        next: 0,
     };
-    let outs = take_outputs(s, q, counts.outputs);
-    let place = outs.place;
-    let inputs = ins.inputs;
-    let latches = las.latches;
-    let outputs = outs.outputs;
-    Head {
-        place: place,
-        model: AigerTransition {
+    let inputs = circuit_lines::take_array(literal, s, cursor, counts.inputs, 0)?;
+    let latches = circuit_lines::take_array(LatchLine {}, s, inputs.next, counts.latches, blank)?;
+    let outputs = circuit_lines::take_array(literal, s, latches.next, counts.outputs, 0)?;
+    let next = outputs.next;
+    let inputs = inputs.value;
+    let latches = latches.value;
+    let outputs = outputs.value;
+    Some(Parsed {
+        value: AigerTransition {
             max_variable: counts.max_variable,
             input_count: counts.inputs,
             inputs,
@@ -191,7 +115,8 @@ fn take_head(s: &[u8], cursor: Cursor, counts: Counts) -> Head
             outputs,
             and_count: counts.ands,
         },
-    }
+        next,
+    })
 }
 
 // Whether a model is well defined with the gates of the lines from a cursor on. The work words are all 0 at first.
@@ -201,7 +126,7 @@ fn check_model(s: &[u8], cursor: Cursor, model: AigerTransition, work: &mut [u64
 {
     let lent = LentModel::from(&model);
     let fine = lent.define_leaves(work);
-    let GateCheck::Done(good) = check_gates(
+    let Some(good) = check_gates(
         s,
         cursor,
         model.and_count,
@@ -228,16 +153,14 @@ fn read_model(
     requires { Readable counts gates.old work.old }
     ensures { Reads (model_of counts (lines_from s.now cursor)) gates.old (length work.old) result gates.new work.new }
 {
-    let head = take_head(s, cursor, counts);
-    let place = head.place;
-    let SectionEnd::At(p) = place else {
+    let Some(head) = take_head(s, cursor, counts) else {
         return Err(Refusal::Line);
     };
-    let model = head.model;
-    let checked = check_model(s, p, model, work);
+    let model = head.value;
+    let checked = check_model(s, head.next, model, work);
     work.fill(0);
     checked?;
-    write_gates(s, p, counts.ands, gates);
+    write_gates(s, head.next, counts.ands, gates);
     Ok(model)
 }
 
@@ -272,8 +195,8 @@ pub fn parse_ascii_aiger_transition(s: &[u8], gates: &mut [u64], work: &mut [u64
     if !text::good_text(Reader::Transition, s) {
         return Err(Refusal::Text);
     }
-    let ModelHeader::Got { counts, next } = model_text::take_model_header(s) else {
+    let Some(header) = model_text::take_model_header(s) else {
         return Err(Refusal::Header);
     };
-    read_body(s, next, counts, gates, work)
+    read_body(s, header.next, header.value, gates, work)
 }

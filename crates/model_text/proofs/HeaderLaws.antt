@@ -1,7 +1,7 @@
 -- Laws of `header_of`, for the code that takes the header.
+use Rattle.std.specs.Prelude.{Option, Some, None}
 use Prim.Native.Nat.{ℕ}
 use mathlib.Core.List.{List, [], ◌∷◌}
-use mathlib.Core.Option.{Option, some, none}
 use mathlib.Core.Path.{◌≡◌, refl, ap, sym, ◌∙◌}
 use native.Mathlib.Omega.{arith}
 use lib.ListN.{length, get_or}
@@ -12,15 +12,13 @@ use Rattle.text.specs.declared.Cursor.{Cursor}
 use Rattle.text.specs.declared.Reader.TheVariants.{Transition}
 use Rattle.text.specs.Lines.{lines_of}
 use Rattle.model.specs.declared.Counts.{Counts}
-use Rattle.circuit_lines.specs.declared.HeaderCount.{HeaderCount}
+use Rattle.text.specs.declared.Parsed.{Parsed}
 use Rattle.circuit_lines.specs.SectionLines.{first_numbers}
 use Rattle.circuit_lines.specs.Inner.OneLine.{at_most}
 use Rattle.circuit_lines.specs.Inner.Takes.{Headed, TakesHeaderNumbers}
 use Rattle.circuit_lines.proofs.NumbersLaws.{stored-all, stored-length}
 use Rattle.model_text.specs.Header.{counts_from, five_counts}
 use Rattle.model_text.specs.Inner.Takes.{TakesCounts}
-use Rattle.circuit_lines.specs.declared.HeaderCount.TheVariants as numbers
-use Rattle.model_text.specs.declared.ModelHeader.TheVariants as header
 
 -- ---- counts_of_lem
 
@@ -30,35 +28,35 @@ counts-are ns m i l o a p q r s t = rw (p, q, r, s, t)
 
 -- ---- take_model_header
 
-counts_of_five : (ns : List ℕ) → length ns ≡ 5 → got (counts_from ns) ≡ five_counts (some ns)
+counts_of_five : (ns : List ℕ) → length ns ≡ 5 → got (counts_from ns) ≡ five_counts (Some ns)
 counts_of_five ns h = rw (eq-eqb (length ns) 5 h)
 
-not_five : (ns : List ℕ) → (length ns ≡ 5 → ⊥) → refused 4 ≡ five_counts (some ns)
+not_five : (ns : List ℕ) → (length ns ≡ 5 → ⊥) → refused 4 ≡ five_counts (Some ns)
 not_five ns h = rw (ne_eqb (length ns) 5 h)
 
-over_five : (x : Option (List ℕ)) → at_most 5 x ≡ none → refused 4 ≡ five_counts x
-over_five none h = refl
-over_five (some ns) h = not_five ns (λ e. five ns e h)
+over_five : (x : Option (List ℕ)) → at_most 5 x ≡ None → refused 4 ≡ five_counts x
+over_five None h = refl
+over_five (Some ns) h = not_five ns (λ e. five ns e h)
   where
-    five : (ms : List ℕ) → length ms ≡ 5 → at_most 5 (some ms) ≡ none → ⊥
-    five ms e k = let g : some ms ≡ none = simp (le-leb (length ms) 5 (omega arith)) at k in let z : ◌≡◌ {A = ℕ} 0 1 = cc in omega arith
+    five : (ms : List ℕ) → length ms ≡ 5 → at_most 5 (Some ms) ≡ None → ⊥
+    five ms e k = let g : Some ms ≡ None = simp (le-leb (length ms) 5 (omega arith)) at k in let z : ◌≡◌ {A = ℕ} 0 1 = cc in omega arith
 
 abbrev zeros5 : List ℕ
 zeros5 = 0 ∷ 0 ∷ 0 ∷ 0 ∷ 0 ∷ []
 
-module _ (s : Bytes) (ns : List ℕ) (r : HeaderCount) (q : TakesHeaderNumbers Transition s zeros5 ns r) where
-  pub header_bad : r ≡ numbers.Refused → TakesCounts s header.Refused
+module _ (s : Bytes) (ns : List ℕ) (r : Option (Parsed ℕ)) (q : TakesHeaderNumbers Transition s zeros5 ns r) where
+  pub header_bad : r ≡ None → TakesCounts s None
   header_bad k = sym (over_five (first_numbers Transition (lines_of s)) (rw k at q))
 
-  module _ (m : ℕ) (c : Cursor) (k : r ≡ numbers.Got m c) where
-    headed : Headed Transition s zeros5 ns m c
+  module _ (x : Parsed ℕ) (k : r ≡ Some x) where
+    headed : Headed Transition s zeros5 ns x.value x.next
     headed = rw k at q
 
-    pub header_got : m ≡ 5 → (n : Counts) → n ≡ counts_from ns → TakesCounts s (header.Got n c)
+    pub header_got : x.value ≡ 5 → (n : Counts) → n ≡ counts_from ns → TakesCounts s (Some (record { value = n; next = x.next }))
     header_got e n p =
-        let are : first_numbers Transition (lines_of s) ≡ some ns = stored-all zeros5 ns (first_numbers Transition (lines_of s)) m headed.stored e in
-        let five : length ns ≡ 5 = stored-length zeros5 ns (first_numbers Transition (lines_of s)) m headed.stored in
+        let are : first_numbers Transition (lines_of s) ≡ Some ns = stored-all zeros5 ns (first_numbers Transition (lines_of s)) x.value headed.stored e in
+        let five : length ns ≡ 5 = stored-length zeros5 ns (first_numbers Transition (lines_of s)) x.value headed.stored in
         record { counts = ap five_counts are ∙ sym (counts_of_five ns five) ∙ ap got (sym p); rest = headed.rest }
 
-    pub header_other : (m ≡ 5 → ⊥) → TakesCounts s header.Refused
+    pub header_other : (x.value ≡ 5 → ⊥) → TakesCounts s None
     header_other h = ap five_counts headed.stored.are ∙ sym (not_five headed.stored.numbers (λ e. h (headed.stored.count ∙ e)))

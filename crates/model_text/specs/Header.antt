@@ -1,6 +1,5 @@
 -- The header of a transition text (R5.2; refusal R9.4).
-use Rattle.std.specs.Prelude.{ℕ, List, eqb, length, get_or}
-use Rattle.std.proofs.Math.Option.{Option, some, none}
+use Rattle.std.specs.Prelude.{ℕ, List, eqb, length, get_or, Option, Some, None}
 use Rattle.lists.specs.Answer.{Answer, got, refused, unless}
 use Rattle.lists.specs.Parts.{Bytes}
 use Rattle.text.specs.declared.Reader.TheVariants.{Transition}
@@ -20,8 +19,8 @@ counts_from ns =
 
 -- R5.2: the counts, where the numbers are readable and five
 abbrev pub five_counts : Option (List ℕ) → Answer Counts
-five_counts none = refused 4
-five_counts (some ns) = unless 4 (eqb (length ns) 5) (got (counts_from ns))
+five_counts None = refused 4
+five_counts (Some ns) = unless 4 (eqb (length ns) 5) (got (counts_from ns))
 
 -- R9.4: the counts of the first line; refused where there is none, without the word `aag`, and without five numbers behind it
 abbrev pub header_of : List Bytes → Answer Counts

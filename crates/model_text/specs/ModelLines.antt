@@ -1,12 +1,10 @@
 -- The latch lines of a transition text (R5.6). One with too few or too many fields, a number that cannot be read or a wrong initializer is
 -- refused with 8 (R9.8).
-use Rattle.std.specs.Prelude.{ℕ, Bool, false, ◌||◌, List, [], ◌∷◌, eqb}
+use Rattle.std.specs.Prelude.{ℕ, Bool, false, ◌||◌, List, [], ◌∷◌, eqb, Option, Some, None}
 use Rattle.lists.specs.Quoted.{bytes}
 use Rattle.lists.specs.Answer.{Answer, got, refused, unless, and_then}
 use Rattle.lists.specs.Parts.{Bytes}
 use Rattle.scan.specs.Same.{same_bytes}
-use Rattle.text.specs.declared.Number.{Number}
-use Rattle.text.specs.declared.Number.TheVariants.{Value, Unreadable}
 use Rattle.text.specs.declared.Reader.TheVariants.{Transition}
 use Rattle.text.specs.Numbers.{number_of}
 use Rattle.text.specs.Fields.{fields_of}
@@ -14,9 +12,9 @@ use Rattle.model.specs.declared.AigerLatch.{AigerLatch}
 use Rattle.circuit_lines.specs.SectionLines.{readable}
 
 -- R5.6: the number is n
-abbrev pub is_number : Number → ℕ → Bool
-is_number (Value v) n = eqb v n
-is_number Unreadable n = false
+abbrev pub is_number : Option ℕ → ℕ → Bool
+is_number (Some v) n = eqb v n
+is_number None n = false
 
 -- R5.6: an initializer of the latch `current`: the one byte 48 or 49, or a number that is its literal
 abbrev pub initializer : ℕ → Bytes → Bool

@@ -1,8 +1,8 @@
 -- Which of R9's numbers each call can answer.
+use Rattle.std.specs.Prelude.{Option, Some, None}
 use Prim.Native.Nat.{ℕ, ◌+◌, ◌*◌, ◌^◌}
 use mathlib.Core.Bool.{Bool, true, false, ◌&&◌}
 use mathlib.Core.List.{List, [], ◌∷◌}
-use mathlib.Core.Option.{Option, some, none}
 use mathlib.Core.Path.{refl}
 use lib.Dec.{eqb, leb, ltb}
 use lib.ListN.{length, drop}
@@ -45,8 +45,8 @@ use Rattle.nitrasovy.proofs.ReasonLaws.{Has, among-got, among-refused, among-unl
 -- ---- the transition reader
 
 five_counts_lem : (ns : Option (List ℕ)) → Among read_reasons (model_header.five_counts ns)
-five_counts_lem none = among-refused read_reasons 4 refl
-five_counts_lem (some ns) = among-unless read_reasons 4 (eqb (length ns) 5) (got (model_header.counts_from ns)) refl (among-got read_reasons _)
+five_counts_lem None = among-refused read_reasons 4 refl
+five_counts_lem (Some ns) = among-unless read_reasons 4 (eqb (length ns) 5) (got (model_header.counts_from ns)) refl (among-got read_reasons _)
 
 after_header_lem : (g w : ℕ) (ls : List Bytes) (n : Counts) → Among read_reasons (transition.body_of g w ls n)
 after_header_lem g w ls n =
@@ -117,8 +117,8 @@ terminal_among q bad states lent =
 
 module _ (reasons : List ℕ) (three : Has reasons 3) (four : Has reasons 4) (five : Has reasons 5) (six : Has reasons 6) (eight : Has reasons 8) (nine : Has reasons 9) (ten : Has reasons 10) (eleven : Has reasons 11) where
   five_to_nine_lem : (ns : Option (List ℕ)) → Among reasons (witness_header.five_to_nine ns)
-  five_to_nine_lem none = among-refused reasons 4 four
-  five_to_nine_lem (some ns) =
+  five_to_nine_lem None = among-refused reasons 4 four
+  five_to_nine_lem (Some ns) =
       among-unless reasons 4 (leb 5 (length ns)) _ four
       (among-unless reasons 4 (leb (length ns) 9) (got (witness_header.counts_from ns)) four (among-got reasons _))
 

@@ -1,13 +1,14 @@
 -- The composer's promise, of the flat answer.
-use Prim.Native.Nat.{ℕ}
+use Rattle.std.specs.Prelude.{ℕ, Result}
 use mathlib.Core.List.{List}
 use mathlib.Core.Path.{◌≡◌, refl, sym, ap, ◌∙◌}
 use lib.ListN.{length}
 use Rattle.lists.specs.Answer.{Answer, got, refused}
 use Rattle.lists.specs.Parts.{Bytes}
 use Rattle.compose_spec.specs.Calling.{compose_call}
-use Rattle.compose.specs.declared.Composed.{Composed}
-use Rattle.compose.specs.declared.Composed.TheVariants as composed
+use Rattle.aiger.specs.declared.Refusal.{Refusal}
+use Rattle.aiger.specs.Refusals.{answered}
+use Rattle.aiger.proofs.AnsweredLaws.{answered-got}
 use Rattle.compose.specs.Promise.{composed_answer, Composes}
 use Rattle.nitrasovy.specs.declared.compositions.NitComposed.{NitComposed}
 use Rattle.nitrasovy.specs.Reasons.{compose_reasons, Among}
@@ -21,12 +22,12 @@ flat_answer (got text) = refl
 flat_answer (refused n) = refl
 
 -- reason 0 is that of a text
-text_accepted : (a : Answer Bytes) → Among compose_reasons a → (r : NitComposed) → r ≡ flat_composed a → r.reason ≡ 0 → composed_answer a ≡ composed.Got r.bytes
-text_accepted (got text) h r e z = ap composed.Got (sym (ap (λ (x : NitComposed). x.bytes) e))
+text_accepted : (a : Answer Bytes) → Among compose_reasons a → (r : NitComposed) → r ≡ flat_composed a → r.reason ≡ 0 → composed_answer a ≡ got r.bytes
+text_accepted (got text) h r e z = ap got (sym (ap (λ (x : NitComposed). x.bytes) e))
 text_accepted (refused n) h r e z = no_reason compose_reasons n refl (h.numbered n refl) (sym (ap (λ (x : NitComposed). x.reason) e) ∙ z)
 
-pub composes_flat : (model buffer : Bytes) (pairs work : List ℕ) (out : Bytes) (work' : List ℕ) (out' : Bytes) (x : Composed) (r : NitComposed)
-    → Composes model buffer pairs work out work' out' x → r ≡ flat_bytes x → ComposesFlat model buffer pairs work out work' out' r
+pub composes_flat : (model buffer : Bytes) (pairs work : List ℕ) (out : Bytes) (work' : List ℕ) (out' : Bytes) (x : Result ℕ Refusal) (r : NitComposed)
+    → Composes model buffer pairs work out work' out' x → r ≡ flat_bytes (answered x) → ComposesFlat model buffer pairs work out work' out' r
 composes_flat model buffer pairs work out work' out' x r k e =
     let answer = compose_call (length work) (length out) model buffer pairs in
     let flat : r ≡ flat_composed answer = e ∙ ap flat_bytes k.returns ∙ flat_answer answer in
@@ -35,5 +36,5 @@ composes_flat model buffer pairs work out work' out' x r k e =
       numbered = compose-among (length work) (length out) model buffer pairs;
       result = k.result;
       zero = k.zero;
-      means = λ z. k.means r.bytes (k.returns ∙ text_accepted answer (compose-among (length work) (length out) model buffer pairs) r flat z);
+      means = λ z. k.means r.bytes (answered-got x r.bytes (k.returns ∙ text_accepted answer (compose-among (length work) (length out) model buffer pairs) r flat z));
     }

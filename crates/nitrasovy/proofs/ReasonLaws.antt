@@ -1,8 +1,8 @@
 -- Which numbers an answer can have, from its parts; and those of section lines.
+use Rattle.std.specs.Prelude.{Option, Some, None}
 use Prim.Native.Nat.{ℕ, zero, suc}
 use mathlib.Core.Bool.{Bool, true, false}
 use mathlib.Core.List.{List, [], ◌∷◌}
-use mathlib.Core.Option.{Option, some, none}
 use mathlib.Core.Path.{◌≡◌, refl, sym, ap, ◌∙◌}
 use lib.Dec.{eqb}
 use Rattle.lists.specs.Answer.{Answer, got, refused, unless, and_then}
@@ -10,8 +10,6 @@ use Rattle.lists.specs.Parts.{Bytes}
 use Rattle.lists.specs.Tests.{any}
 use Rattle.lists.proofs.AnswerLaws.{got-refused, Only}
 use Rattle.lists.proofs.BoolLaws.{true-false}
-use Rattle.text.specs.declared.Number.{Number}
-use Rattle.text.specs.declared.Number.TheVariants.{Value, Unreadable}
 use Rattle.text.specs.declared.Reader.{Reader}
 use Rattle.text.specs.declared.Reader.TheVariants.{Transition, Witness}
 use Rattle.text.specs.Fields.{fields_of}
@@ -58,20 +56,20 @@ no_reason reasons n f h z = true-false (ap (λ (k : ℕ). any (eqb k) reasons) (
 -- ---- section lines
 
 module _ (reasons : List ℕ) (eight : Has reasons 8) where
-  readable-among : (n : Number) → Among reasons (readable n)
-  readable-among (Value v) = among-got reasons _
-  readable-among Unreadable = among-refused reasons 8 eight
+  readable-among : (n : Option ℕ) → Among reasons (readable n)
+  readable-among (Some v) = among-got reasons _
+  readable-among None = among-refused reasons 8 eight
 
   literal-among : (reader : Reader) (l : Bytes) → Among reasons (literal_line reader l)
   literal-among reader l = readable-among (literal_of reader l)
 
   gate_numbers_lem : (ns : Option (List ℕ)) → Among reasons (gate_numbers ns)
-  gate_numbers_lem none = among-refused reasons 8 eight
-  gate_numbers_lem (some []) = among-refused reasons 8 eight
-  gate_numbers_lem (some (o ∷ [])) = among-refused reasons 8 eight
-  gate_numbers_lem (some (o ∷ a ∷ [])) = among-refused reasons 8 eight
-  gate_numbers_lem (some (o ∷ a ∷ b ∷ [])) = among-got reasons _
-  gate_numbers_lem (some (o ∷ a ∷ b ∷ n ∷ ns)) = among-refused reasons 8 eight
+  gate_numbers_lem None = among-refused reasons 8 eight
+  gate_numbers_lem (Some []) = among-refused reasons 8 eight
+  gate_numbers_lem (Some (o ∷ [])) = among-refused reasons 8 eight
+  gate_numbers_lem (Some (o ∷ a ∷ [])) = among-refused reasons 8 eight
+  gate_numbers_lem (Some (o ∷ a ∷ b ∷ [])) = among-got reasons _
+  gate_numbers_lem (Some (o ∷ a ∷ b ∷ n ∷ ns)) = among-refused reasons 8 eight
 
   gate_among : (reader : Reader) (l : Bytes) → Among reasons (gate_line reader l)
   gate_among reader l = gate_numbers_lem (numbers_of reader (fields_of l))
@@ -87,12 +85,12 @@ module _ (reasons : List ℕ) (eight : Has reasons 8) where
   latch_fields_lem (c ∷ n ∷ i ∷ f ∷ fs) = among-refused reasons 8 eight
 
   latch_numbers_lem : (ns : Option (List ℕ)) → Among reasons (witness_lines.latch_numbers ns)
-  latch_numbers_lem none = among-refused reasons 8 eight
-  latch_numbers_lem (some []) = among-refused reasons 8 eight
-  latch_numbers_lem (some (c ∷ [])) = among-refused reasons 8 eight
-  latch_numbers_lem (some (c ∷ n ∷ [])) = among-got reasons _
-  latch_numbers_lem (some (c ∷ n ∷ r ∷ [])) = among-got reasons _
-  latch_numbers_lem (some (c ∷ n ∷ r ∷ m ∷ ms)) = among-refused reasons 8 eight
+  latch_numbers_lem None = among-refused reasons 8 eight
+  latch_numbers_lem (Some []) = among-refused reasons 8 eight
+  latch_numbers_lem (Some (c ∷ [])) = among-refused reasons 8 eight
+  latch_numbers_lem (Some (c ∷ n ∷ [])) = among-got reasons _
+  latch_numbers_lem (Some (c ∷ n ∷ r ∷ [])) = among-got reasons _
+  latch_numbers_lem (Some (c ∷ n ∷ r ∷ m ∷ ms)) = among-refused reasons 8 eight
 
   section-among : {A : Type 0} (item : Bytes → Answer A) → ((l : Bytes) → Among reasons (item l)) → (n : ℕ) (ls : List Bytes) → Among reasons (section item n ls)
   section-among item h zero ls = among-got reasons _

@@ -1,10 +1,10 @@
 -- The worked cases R13 and the composing case R14.7 as one statement, each row of the definitions that the calls promise.
+use Rattle.std.specs.Prelude.{Some, None}
 use mathlib.Core.Bool.{true, false}
 use mathlib.Core.List.{[], ◌∷◌, ◌++◌}
 use mathlib.Core.Path.{◌≡◌}
 use Rattle.lists.specs.Quoted.{bytes}
 use Rattle.lists.specs.Answer.{got, refused, and_then}
-use Rattle.text.specs.declared.Number.TheVariants.{Value, Unreadable}
 use Rattle.text.specs.declared.Reader.TheVariants.{Transition, Witness}
 use Rattle.text.specs.Numbers.{number_of}
 use Rattle.text.proofs.Examples.{plus_seven, plus_seven_witness, zero_seven_witness}
@@ -32,8 +32,8 @@ pub record Table : Type 0 where
   pub q_state_1 : step_from model_q 4 1 0 ≡ outcome 0 0
   pub q_complete : (relation_row (plain model_q) 1 (1 ∷ []) enough ≡ got q_row) × Unsatisfiable 3 q_row
   -- R13.7
-  pub plus_7 : (number_of Transition (bytes "+7") ≡ Value 7) × (number_of Witness (bytes "+7") ≡ Value 7)
-  pub zero_7 : number_of Witness (bytes "07") ≡ Unreadable
+  pub plus_7 : (number_of Transition (bytes "+7") ≡ Some 7) × (number_of Witness (bytes "+7") ≡ Some 7)
+  pub zero_7 : number_of Witness (bytes "07") ≡ None
   -- R14.7
   pub composes : compose_call 1104 82 model (first ++ second) (0 ∷ 20 ∷ 20 ∷ 20 ∷ []) ≡ got together
 

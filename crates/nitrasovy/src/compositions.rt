@@ -1,9 +1,10 @@
 // The composer.
 ghost use Rattle.std.specs.Prelude.{◌≡◌};
+ghost use Rattle.aiger.specs.Refusals.{answered};
 ghost use Rattle.nitrasovy.specs.Inner.FlatEnums.{flat_bytes};
 ghost use Rattle.nitrasovy.specs.FlatCompositions.{ComposesFlat};
 
-use compose::Composed;
+use aiger::Refusal;
 
 // Reason 0 and how many bytes the text has, or the number of the reason and 0.
 #[repr(C)]
@@ -13,16 +14,13 @@ pub struct NitComposed {
     pub bytes: usize,
 }
 
-fn flat_bytes(composed: Composed) -> NitComposed
-    ensures { result ≡ flat_bytes composed }
+fn flat_bytes(composed: Result<usize, Refusal>) -> NitComposed
+    ensures { result ≡ flat_bytes (answered composed) }
 {
     match composed {
-        Composed::Got(bytes) => NitComposed {
-            reason: 0,
-            bytes: bytes,
-        },
-        Composed::Refused(reason) => NitComposed {
-            reason: reason,
+        Ok(bytes) => NitComposed { reason: 0, bytes },
+        Err(refusal) => NitComposed {
+            reason: u64::from(refusal),
             bytes: 0,
         },
     }

@@ -1,9 +1,8 @@
 // `take_literal` over a cursor that is lent (R2.3, R12.5).
 ghost use Rattle.std.specs.Prelude.{◌≡◌};
-ghost use Rattle.nitrasovy.specs.Inner.FlatEnums.{flat_moved};
-ghost use Rattle.nitrasovy.specs.FlatLiterals.{literal_from, TakesFlat};
+ghost use Rattle.nitrasovy.specs.FlatLiterals.{flat_value, literal_from, TakesFlat};
 
-use text::{Cursor, Literal, Reader};
+use text::{Cursor, Reader};
 
 // A place in a text.
 #[repr(C)]
@@ -20,48 +19,24 @@ pub struct NitTaken {
     pub value: u64,
 }
 
-// The answer, and the place after the line.
-#[derive(Clone, Copy)]
-struct Moved {
-    taken: NitTaken,
-    next: usize,
-}
-
-fn flat_moved(literal: Literal) -> Moved
-    ensures { result ≡ flat_moved literal }
+fn flat_value(value: Option<u64>) -> NitTaken
+    ensures { result ≡ flat_value value }
 {
-    match literal {
-        Literal::Got { value, next } => Moved {
-            taken: NitTaken {
-                reason: 0,
-                value: value,
-            },
-            next: next.at,
-        },
-        Literal::Refused { next } => Moved {
-            taken: NitTaken {
-                reason: 8,
-                value: 0,
-            },
-            next: next.at,
+    match value {
+        Some(value) => NitTaken { reason: 0, value },
+        None => NitTaken {
+            reason: 8,
+            value: 0,
         },
     }
 }
 
-// The literal of the line at a place, by the witness reader's rule for numbers.
-fn take_at(text: &[u8], at: usize) -> Moved
-    ensures { result ≡ flat_moved (literal_from text.now at) }
-{
-    flat_moved(text::take_literal(Reader::Witness, text, Cursor { at: at }))
-}
-
-// Takes the line at a lent cursor as one literal, and moves the cursor past it, also where it is refused; with no line left it stays.
+// Takes the line at a lent cursor as one literal, by the witness reader's rule for numbers, and moves the cursor past it, also where it is refused; with no line left it stays.
 #[unsafe(no_mangle)]
 pub extern "C" fn nit_take_literal(text: &[u8], cursor: &mut NitCursor) -> NitTaken
     ensures { TakesFlat (literal_from text.now cursor.old.at) result cursor.new.at }
 {
-    let at = cursor.at;
-    let moved = take_at(text, at);
-    cursor.at = moved.next;
-    moved.taken
+    let literal = text::take_literal(Reader::Witness, text, Cursor { at: cursor.at });
+    cursor.at = literal.next.at;
+    flat_value(literal.value)
 }

@@ -1,11 +1,13 @@
 // The witness reader.
 ghost use Rattle.std.specs.Prelude.{◌≡◌};
+ghost use Rattle.aiger.specs.Refusals.{answered};
 ghost use Rattle.text.specs.Texts.{limited};
 ghost use Rattle.witness_read.specs.Reading.{read_aag};
 ghost use Rattle.nitrasovy.specs.Inner.FlatEnums.{flat_counts};
 ghost use Rattle.nitrasovy.specs.FlatWitnesses.{CountsFlat};
 
-use witness_read::ReadAag;
+use aiger::Refusal;
+use witness_text::AagCounts;
 
 // Reason 0 and the counts, or the number of the reason and zeros.
 #[repr(C)]
@@ -21,11 +23,11 @@ pub struct NitWitness {
     pub constraints: usize,
 }
 
-fn flat_counts(read: ReadAag) -> NitWitness
-    ensures { result ≡ flat_counts read }
+fn flat_counts(read: Result<AagCounts, Refusal>) -> NitWitness
+    ensures { result ≡ flat_counts (answered read) }
 {
     match read {
-        ReadAag::Got(n) => NitWitness {
+        Ok(n) => NitWitness {
             reason: 0,
             max_variable: n.max_variable,
             inputs: n.inputs,
@@ -35,8 +37,8 @@ fn flat_counts(read: ReadAag) -> NitWitness
             bads: n.bads,
             constraints: n.constraints,
         },
-        ReadAag::Refused(reason) => NitWitness {
-            reason: reason,
+        Err(refusal) => NitWitness {
+            reason: u64::from(refusal),
             max_variable: 0,
             inputs: 0,
             latches: 0,

@@ -9,7 +9,6 @@ ghost use Rattle.model.specs.Lent.{lent_record};
 ghost use Rattle.obligation_check.specs.Questions.{asked_in};
 ghost use Rattle.obligation_check.specs.Inner.Boundary.{indexes, predicate_holds, Bounds, IsState, ClaimsStates, ClaimsOutcomes, no_outcome, outcome_fits, Checks};
 
-use lists::PartEnd;
 use aiger::Refusal;
 use model::LentModel;
 use model_step::Outcome;
@@ -44,7 +43,7 @@ fn predicate_holds(predicate_pairs: &[u64], predicate_literals: &[u32], n: u32) 
     let count = predicate_pairs.len() / 2;
     let mut end = 0;
     for i in 0..count {
-        let PartEnd::At(next) = lists::pair_end(predicate_pairs, i, end, size) else {
+        let Some(next) = lists::pair_end(predicate_pairs, i, end, size) else {
             return false;
         };
         let offset = predicate_pairs[2 * i] as usize;

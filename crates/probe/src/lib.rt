@@ -10,13 +10,12 @@ ghost use Rattle.scan.specs.Same.{same_bytes, begins_with};
 ghost use Rattle.text.specs.Texts.{limited, good_text};
 ghost use Rattle.text_decimal.specs.Decimal.{decimal};
 ghost use Rattle.text_decimal.specs.Inner.Writing.{written, written_at};
-ghost use Rattle.probe.specs.Inner.Flat.{reader_of, flat_number, flat_literal, flat_line, flat_field, flat_written, cursor_at};
+ghost use Rattle.probe.specs.Inner.Flat.{reader_of, flat_number, flat_literal, no_part, flat_line, flat_field, flat_written, cursor_at};
 
 pub mod models;
 pub mod witnesses;
 
-use text::{Cursor, Field, Line, Literal, Number, Reader};
-use text_decimal::Written;
+use text::{Cursor, Field, Line, Literal, Reader};
 
 #[repr(C)]
 #[derive(Clone, Copy)]
@@ -58,18 +57,12 @@ fn reader_of(witness: bool) -> Reader
     Reader::Transition
 }
 
-fn flat_number(number: Number) -> ProbeNumber
+fn flat_number(number: Option<u64>) -> ProbeNumber
     ensures { result ≡ flat_number number }
 {
-    match number {
-        Number::Value(v) => ProbeNumber {
-            readable: true,
-            value: v,
-        },
-        Number::Unreadable => ProbeNumber {
-            readable: false,
-            value: 0,
-        },
+    ProbeNumber {
+        readable: number.is_some(),
+        value: number.unwrap_or(0),
     }
 }
 
@@ -83,17 +76,10 @@ pub extern "C" fn probe_parse(witness: bool, f: &[u8]) -> ProbeNumber
 fn flat_literal(literal: Literal) -> ProbeLiteral
     ensures { result ≡ flat_literal literal }
 {
-    match literal {
-        Literal::Got { value, next } => ProbeLiteral {
-            readable: true,
-            value: value,
-            at: next.at,
-        },
-        Literal::Refused { next } => ProbeLiteral {
-            readable: false,
-            value: 0,
-            at: next.at,
-        },
+    ProbeLiteral {
+        readable: literal.value.is_some(),
+        value: literal.value.unwrap_or(0),
+        at: literal.next.at,
     }
 }
 
@@ -101,25 +87,32 @@ fn flat_literal(literal: Literal) -> ProbeLiteral
 pub extern "C" fn probe_take_literal(witness: bool, bytes: &[u8], at: usize) -> ProbeLiteral
     ensures { result ≡ flat_literal (literal_at (reader_of witness) bytes.now (cursor_at at)) }
 {
-    flat_literal(text::take_literal(reader_of(witness), bytes, Cursor { at: at }))
+    flat_literal(text::take_literal(reader_of(witness), bytes, Cursor { at }))
 }
 
-fn flat_line(line: Line) -> ProbePart
+// What stands for a line or a field that is not there.
+fn no_part() -> ProbePart
+    ensures { result ≡ no_part }
+{
+    ProbePart {
+        found: false,
+        start: 0,
+        end: 0,
+        next: 0,
+    }
+}
+
+fn flat_line(line: Option<Line>) -> ProbePart
     ensures { result ≡ flat_line line }
 {
-    match line {
-        Line::At { start, end, next } => ProbePart {
-            found: true,
-            start: start,
-            end: end,
-            next: next.at,
-        },
-        Line::None => ProbePart {
-            found: false,
-            start: 0,
-            end: 0,
-            next: 0,
-        },
+    let Some(line) = line else {
+        return no_part();
+    };
+    ProbePart {
+        found: true,
+        start: line.start,
+        end: line.end,
+        next: line.next.at,
     }
 }
 
@@ -127,25 +120,20 @@ fn flat_line(line: Line) -> ProbePart
 pub extern "C" fn probe_line(bytes: &[u8], at: usize) -> ProbePart
     ensures { result ≡ flat_line (line_at bytes.now at) }
 {
-    flat_line(text::next_line(bytes, Cursor { at: at }))
+    flat_line(text::next_line(bytes, Cursor { at }))
 }
 
-fn flat_field(field: Field) -> ProbePart
+fn flat_field(field: Option<Field>) -> ProbePart
     ensures { result ≡ flat_field field }
 {
-    match field {
-        Field::At { start, end } => ProbePart {
-            found: true,
-            start: start,
-            end: end,
-            next: end,
-        },
-        Field::None => ProbePart {
-            found: false,
-            start: 0,
-            end: 0,
-            next: 0,
-        },
+    let Some(field) = field else {
+        return no_part();
+    };
+    ProbePart {
+        found: true,
+        start: field.start,
+        end: field.end,
+        next: field.end,
     }
 }
 
@@ -156,18 +144,12 @@ pub extern "C" fn probe_field(line: &[u8], at: usize) -> ProbePart
     flat_field(text::next_field(line, at))
 }
 
-fn flat_written(written: Written) -> ProbeWritten
-    ensures { result ≡ flat_written written }
+fn flat_written(next: Option<usize>) -> ProbeWritten
+    ensures { result ≡ flat_written next }
 {
-    match written {
-        Written::Next(next) => ProbeWritten {
-            fits: true,
-            next: next,
-        },
-        Written::NoRoom => ProbeWritten {
-            fits: false,
-            next: 0,
-        },
+    ProbeWritten {
+        fits: next.is_some(),
+        next: next.unwrap_or(0),
     }
 }
 

@@ -1,18 +1,20 @@
 // The witness texts' loader under a plain C signature.
 ghost use Rattle.std.specs.Prelude.{◌≡◌};
+ghost use Rattle.aiger.specs.Refusals.{answered};
 ghost use Rattle.text.specs.Texts.{limited};
 ghost use Rattle.witness_read.specs.Reading.{read_aag};
 ghost use Rattle.probe.specs.Inner.FlatLoads.{reason_read, LoadsFlat};
 
-use witness_read::ReadAag;
+use aiger::Refusal;
+use witness_text::AagCounts;
 
 // The number of an answer: 0 where there are counts.
-fn reason_of(read: ReadAag) -> u64
-    ensures { result ≡ reason_read read }
+fn reason_of(read: Result<AagCounts, Refusal>) -> u64
+    ensures { result ≡ reason_read (answered read) }
 {
     match read {
-        ReadAag::Got(n) => 0,
-        ReadAag::Refused(reason) => reason,
+        Ok(_) => 0,
+        Err(refusal) => u64::from(refusal),
     }
 }
 

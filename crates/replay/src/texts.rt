@@ -2,7 +2,7 @@
 use nitrasovy::witnesses::NitWitness;
 use nitrasovy::{compositions, witnesses};
 use replay_text::{form, show};
-use text::{Cursor, Literal, Reader};
+use text::{Cursor, Reader};
 
 // Prints an answer of the witness reader.
 fn show_counts(read: NitWitness, out: &mut [u8], at: usize) -> usize {
@@ -107,21 +107,14 @@ pub fn literal_case(numbers: &[u64], text: &[u8], out: &mut [u8], at: usize) -> 
     }
     let rule = reader(lists::word(numbers, 2));
     let named = text_print::print_bytes(out, at, b"literal");
-    let taken = text::take_literal(
+    let literal = text::take_literal(
         rule,
         text,
         Cursor {
             at: form::size(numbers, 3),
         },
     );
-    match taken {
-        Literal::Got { value, next } => {
-            let answer: [u64; 3] = [0, value, next.at as u64];
-            show::words(out, named, &answer)
-        }
-        Literal::Refused { next } => {
-            let answer: [u64; 3] = [8, 0, next.at as u64];
-            show::words(out, named, &answer)
-        }
-    }
+    let reason = if literal.value.is_some() { 0 } else { 8 };
+    let answer = [reason, literal.value.unwrap_or(0), literal.next.at as u64];
+    show::words(out, named, &answer)
 }

@@ -1,4 +1,5 @@
 -- Bytes written one after the other into a buffer, and what is still to be written.
+use Rattle.std.specs.Prelude.{Option, Some, None}
 use Prim.Native.Nat.{ℕ, ◌+◌, ◌≤◌, ◌<◌, ◌^◌}
 use mathlib.Core.Path.{◌≡◌, refl, sym, ap, ◌∙◌}
 use mathlib.Core.List.{[], ◌∷◌, ◌++◌}
@@ -6,8 +7,6 @@ use native.Mathlib.Omega.{arith}
 use lib.ListN.{length, length-append}
 use Rattle.lists.specs.Parts.{Bytes, put}
 use Rattle.lists.proofs.PartLaws.{put-none, put-put, put-length}
-use Rattle.text_decimal.specs.declared.Written.{Written}
-use Rattle.text_decimal.specs.declared.Written.TheVariants.{Next, NoRoom}
 use Rattle.text_decimal.specs.Decimal.{decimal}
 use Rattle.text_decimal.specs.Inner.Writing.{written_at, written, Wrote}
 use Rattle.text_decimal.proofs.DecimalLaws.{decimal-length-word}
@@ -28,31 +27,31 @@ pub wrote-length : (o : Bytes) (at : ℕ) (bytes o' : Bytes) (n : ℕ) → Wrote
 wrote-length o at bytes o' n w = ap length w.is ∙ put-length o at bytes (omega (arith, w.after, w.fits))
 
 -- bytes and then the digits of a word, where there is room
-module _ (o : Bytes) (at : ℕ) (bytes : Bytes) (n : ℕ) (room : at + (length bytes + 20) ≤ length o) (word : n < 2 ^ 64) (o₁ : Bytes) (r₁ : Written) (e₁ : r₁ ≡ written_at (length o) at bytes) (k₁ : o₁ ≡ written o at bytes) where
-  pub number_no_bytes : r₁ ≡ NoRoom → Prints o at (bytes ++ decimal n) (length bytes + 20) o₁ at
+module _ (o : Bytes) (at : ℕ) (bytes : Bytes) (n : ℕ) (room : at + (length bytes + 20) ≤ length o) (word : n < 2 ^ 64) (o₁ : Bytes) (r₁ : Option ℕ) (e₁ : r₁ ≡ written_at (length o) at bytes) (k₁ : o₁ ≡ written o at bytes) where
+  pub number_no_bytes : r₁ ≡ None → Prints o at (bytes ++ decimal n) (length bytes + 20) o₁ at
   number_no_bytes m = absurd (omega (arith, (kept o at bytes o₁ r₁ e₁ k₁ m).over))
 
-  module _ (start : ℕ) (m₁ : r₁ ≡ Next start) (o₂ : Bytes) (r₂ : Written) (e₂ : r₂ ≡ written_at (length o₁) start (decimal n)) (k₂ : o₂ ≡ written o₁ start (decimal n)) where
+  module _ (start : ℕ) (m₁ : r₁ ≡ Some start) (o₂ : Bytes) (r₂ : Option ℕ) (e₂ : r₂ ≡ written_at (length o₁) start (decimal n)) (k₂ : o₂ ≡ written o₁ start (decimal n)) where
     first : Wrote o at bytes o₁ start
     first = wrote o at bytes o₁ r₁ start e₁ k₁ m₁
 
-    pub number_no_digits : r₂ ≡ NoRoom → Prints o at (bytes ++ decimal n) (length bytes + 20) o₂ at
+    pub number_no_digits : r₂ ≡ None → Prints o at (bytes ++ decimal n) (length bytes + 20) o₂ at
     number_no_digits m =
         absurd
         (omega
         (arith, (kept o₁ start (decimal n) o₂ r₂ e₂ k₂ m).over, decimal-length-word n word, first.after, wrote-length o at bytes o₁ start first))
 
-    pub number-written : (end : ℕ) → r₂ ≡ Next end → Prints o at (bytes ++ decimal n) (length bytes + 20) o₂ end
+    pub number-written : (end : ℕ) → r₂ ≡ Some end → Prints o at (bytes ++ decimal n) (length bytes + 20) o₂ end
     number-written end m =
         let second : Wrote o₁ start (decimal n) o₂ end = wrote o₁ start (decimal n) o₂ r₂ end e₂ k₂ m in
         record { wrote = wrote-both o at bytes o₁ start (decimal n) o₂ end first second; few = omega (arith, first.after, second.after, decimal-length-word n word) }
 
 -- one byte, where there is room
-module _ (o : Bytes) (at b : ℕ) (room : at < length o) (o' : Bytes) (r : Written) (e : r ≡ written_at (length o) at (b ∷ [])) (k : o' ≡ written o at (b ∷ [])) where
-  pub byte_no_room : r ≡ NoRoom → Prints o at (b ∷ []) 1 o' at
+module _ (o : Bytes) (at b : ℕ) (room : at < length o) (o' : Bytes) (r : Option ℕ) (e : r ≡ written_at (length o) at (b ∷ [])) (k : o' ≡ written o at (b ∷ [])) where
+  pub byte_no_room : r ≡ None → Prints o at (b ∷ []) 1 o' at
   byte_no_room m = absurd (omega (arith, (kept o at (b ∷ []) o' r e k m).over))
 
-  pub byte_written : (end : ℕ) → r ≡ Next end → Prints o at (b ∷ []) 1 o' end
+  pub byte_written : (end : ℕ) → r ≡ Some end → Prints o at (b ∷ []) 1 o' end
   byte_written end m =
       let w : Wrote o at (b ∷ []) o' end = wrote o at (b ∷ []) o' r end e k m in
       record { wrote = w; few = omega (arith, w.after) }

@@ -1,4 +1,5 @@
 -- The pieces of a line between single spaces, taken one after the other.
+use Rattle.std.specs.Prelude.{Option, Some, None}
 use Prim.Native.Nat.{ℕ, ◌+◌, ◌-◌, ◌≤◌, ◌<◌}
 use mathlib.Core.Path.{◌≡◌, refl, sym, ap, ◌∙◌}
 use mathlib.Core.Bool.{Bool, true, false, cond}
@@ -13,8 +14,6 @@ use Rattle.lists.specs.Answer.{Answer, got, refused, and_then}
 use Rattle.lists.specs.Parts.{Bytes, part}
 use Rattle.scan.specs.Spans.{span}
 use Rattle.scan.proofs.SpanLaws.{span-within}
-use Rattle.text.specs.declared.Number.{Number}
-use Rattle.text.specs.declared.Number.TheVariants.{Value, Unreadable}
 use Rattle.text.specs.declared.Reader.TheVariants.{Transition}
 use Rattle.text.specs.Lines.{cons_head}
 use Rattle.text.specs.Numbers.{number_of}
@@ -92,11 +91,11 @@ module _ (l : Bytes) (s₀ s : List ℕ) (count at : ℕ) (k : Taking l s₀ s c
     pub piece_within : e ≤ length l
     piece_within = omega (arith, span-within in_piece l at h)
 
-    module _ (r : Number) (p : r ≡ number_of Transition (part l at e)) where
+    module _ (r : Option ℕ) (p : r ≡ number_of Transition (part l at e)) where
       numbers : numbers_of (pieces_from l at) ≡ and_then (piece_number r) (λ n. and_then (numbers_of (pieces_from l (e + 1))) (λ ns. got (n ∷ ns)))
       numbers = ap numbers_of (pieces-first l at e h q) ∙ rw p
 
-      pub taking-more : (v : ℕ) → r ≡ Value v → Taking l s₀ (set s count v) (count + 1) (e + 1)
+      pub taking-more : (v : ℕ) → r ≡ Some v → Taking l s₀ (set s count v) (count + 1) (e + 1)
       taking-more v m =
           let known : numbers_of (pieces_from l at) ≡ and_then (numbers_of (pieces_from l (e + 1))) (λ ns. got (v ∷ ns)) = rw m at numbers in
           record {
@@ -110,7 +109,7 @@ module _ (l : Bytes) (s₀ s : List ℕ) (count at : ℕ) (k : Taking l s₀ s c
             same = length-set s count v ∙ k.same;
           }
 
-      pub taking_bad : r ≡ Unreadable → refused 14 ≡ numbers_of (pieces l)
+      pub taking_bad : r ≡ None → refused 14 ≡ numbers_of (pieces l)
       taking_bad m =
           let known : numbers_of (pieces_from l at) ≡ refused 14 = rw m at numbers in
           ap (λ (a : Answer (List ℕ)). and_then a (λ ns. got (take count s ++ ns))) (sym known) ∙ k.is

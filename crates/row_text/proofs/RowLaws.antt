@@ -1,4 +1,5 @@
 -- From the input to the row: the first line, the model, and what is lent.
+use Rattle.std.specs.Prelude.{Option, Some, None}
 use Prim.Native.Nat.{ℕ, ◌+◌, ◌≤◌, ◌<◌}
 use Rattle.std.specs.Prelude.{Result, Ok, Err}
 use mathlib.Core.Path.{◌≡◌, refl, sym, ap, ◌∙◌}
@@ -20,8 +21,6 @@ use Rattle.model.specs.declared.AigerTransition.{AigerTransition}
 use Rattle.model.specs.Circuit.{Circuit, record_of}
 use Rattle.model_read.specs.Reading.{read_transition, read_of, Reads}
 use Rattle.obligation_spec.specs.Calls.{relation_row}
-use Rattle.row_text.specs.declared.Numbers.{Numbers}
-use Rattle.row_text.specs.declared.Numbers.TheVariants.{Count, OtherForm}
 use Rattle.row_text.specs.RowProgram.{first_line, after_line, pieces, numbers_of, row_answer, printed, row_text, bare, bare_of, row_in, RowWrites}
 use Rattle.row_text.specs.Inner.Steps.{answer_in}
 use Rattle.row_text.specs.Inner.Made.{PrintsIn, PrintsFor}
@@ -104,15 +103,15 @@ module _ (o t o' : Bytes) (n : ℕ) where
   unfolding row_text row_answer
   too_long h w = rw (lt-leb (length t) 16384 h) w
 
-  module _ (h : length t ≤ 16384) (end : ℕ) (e : end ≡ 0 + span in_line (drop 0 t)) (r : Numbers) (s : List ℕ) (k : answer_in r s ≡ numbers_of (pieces (take end t))) where
+  module _ (h : length t ≤ 16384) (end : ℕ) (e : end ≡ 0 + span in_line (drop 0 t)) (r : Option ℕ) (s : List ℕ) (k : answer_in r s ≡ numbers_of (pieces (take end t))) where
     line : numbers_of (pieces (first_line t)) ≡ answer_in r s
     line = sym (k ∙ ap (λ (j : ℕ). numbers_of (pieces (take j t))) (e ∙ zero-add (span in_line t)))
 
-    pub other_form : r ≡ OtherForm → Wrote o 0 (printed (refused 14)) o' n → Wrote o 0 (row_text t) o' n
+    pub other_form : r ≡ None → Wrote o 0 (printed (refused 14)) o' n → Wrote o 0 (row_text t) o' n
     unfolding row_text row_answer
     other_form m w = rw (le-leb (length t) 16384 h, line, m) w
 
-    pub numbers_read : (count : ℕ) → r ≡ Count count → (ns rest : List ℕ) → ns ≡ take count s → rest ≡ drop (end + 1) t
+    pub numbers_read : (count : ℕ) → r ≡ Some count → (ns rest : List ℕ) → ns ≡ take count s → rest ≡ drop (end + 1) t
         → PrintsFor ns rest o n o' → Wrote o 0 (row_text t) o' n
     unfolding row_text row_answer
     numbers_read count m ns rest p q w =

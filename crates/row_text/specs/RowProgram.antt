@@ -1,11 +1,9 @@
 -- What the row program (R14) prints for every input.
-use Rattle.std.specs.Prelude.{ℕ, ◌+◌, ◌≤◌, ◌<◌, cond, List, [], ◌∷◌, ◌++◌, ◌≡◌, leb, eqb, length, take, drop}
+use Rattle.std.specs.Prelude.{ℕ, ◌+◌, ◌≤◌, ◌<◌, cond, List, [], ◌∷◌, ◌++◌, ◌≡◌, leb, eqb, length, take, drop, Option, Some, None}
 use Rattle.lists.specs.Quoted.{bytes}
 use Rattle.lists.specs.Answer.{Answer, got, refused, unless, and_then}
 use Rattle.lists.specs.Parts.{Bytes, front, zeros}
 use Rattle.scan.specs.Spans.{span, in_line}
-use Rattle.text.specs.declared.Number.{Number}
-use Rattle.text.specs.declared.Number.TheVariants.{Value, Unreadable}
 use Rattle.text.specs.declared.Reader.TheVariants.{Transition}
 use Rattle.text.specs.Lines.{cons_head}
 use Rattle.text.specs.Numbers.{number_of}
@@ -30,9 +28,9 @@ pieces [] = [] ∷ []
 pieces (b ∷ bs) = cond (eqb b 32) ([] ∷ pieces bs) (cons_head b (pieces bs))
 
 -- R14.3: each piece of the line is a number by the transition reader's rule, else 14
-abbrev pub piece_number : Number → Answer ℕ
-piece_number (Value n) = got n
-piece_number Unreadable = refused 14
+abbrev pub piece_number : Option ℕ → Answer ℕ
+piece_number (Some n) = got n
+piece_number None = refused 14
 
 abbrev pub numbers_of : List Bytes → Answer (List ℕ)
 numbers_of [] = got []

@@ -16,15 +16,6 @@ ghost use Rattle.row_text.specs.Inner.Made.{made_answer, Printable, PrintsIn, Pr
 use aiger::Refusal;
 use cnf::ClauseCounts;
 use model::AigerTransition;
-use text::Number;
-use text_decimal::Written;
-
-// How many numbers a line has, or that its form is another one.
-#[derive(Clone, Copy)]
-pub enum Numbers {
-    Count(usize),
-    OtherForm,
-}
 
 // Where what stands between two spaces ends.
 fn piece_end(line: &[u8], at: usize) -> usize
@@ -40,8 +31,8 @@ fn piece_end(line: &[u8], at: usize) -> usize
     i
 }
 
-// The numbers of a line, with single spaces between them.
-fn read_numbers(line: &[u8], numbers: &mut [u64]) -> Numbers
+// The numbers of a line, with single spaces between them, and how many they are; none where the line has another form.
+fn read_numbers(line: &[u8], numbers: &mut [u64]) -> Option<usize>
     requires { length line.now < length numbers.old }
     ensures { answer_in result numbers.new ≡ numbers_of (pieces line.now) }
 {
@@ -49,14 +40,11 @@ fn read_numbers(line: &[u8], numbers: &mut [u64]) -> Numbers
     let mut at = 0;
     while at <= line.len() {
         let end = piece_end(line, at);
-        let Number::Value(v) = text::numbers::parse_usize(&line[at..end]) else {
-            return Numbers::OtherForm;
-        };
-        numbers[count] = v;
+        numbers[count] = text::numbers::parse_usize(&line[at..end])?;
         count += 1;
         at = end + 1;
     }
-    Numbers::Count(count)
+    Some(count)
 }
 
 // Writes some bytes and then the digits of a number, which has at most 20.
@@ -64,10 +52,10 @@ fn write_number(out: &mut [u8], at: usize, before: &[u8], n: u64) -> usize
     requires { at + (length before.now + 20) ≤ length out.old }
     ensures { Prints out.old at (before.now ++ decimal n) (length before.now + 20) out.new result }
 {
-    let Written::Next(start) = text_decimal::write_bytes(out, at, before) else {
+    let Some(start) = text_decimal::write_bytes(out, at, before) else {
         return at;
     };
-    let Written::Next(end) = text_decimal::write_decimal(out, start, n) else {
+    let Some(end) = text_decimal::write_decimal(out, start, n) else {
         return at;
     };
     end
@@ -120,7 +108,7 @@ fn write_end(out: &mut [u8], at: usize) -> usize
     requires { at < length out.old }
     ensures { Prints out.old at (10 ∷ []) 1 out.new result }
 {
-    let Written::Next(end) = text_decimal::write_byte(out, at, 10) else {
+    let Some(end) = text_decimal::write_byte(out, at, 10) else {
         return at;
     };
     end
@@ -262,7 +250,7 @@ fn print_text(input: &[u8], out: &mut [u8]) -> usize
     }
     let mut numbers = [0u64; 16385];
     let end = scan::line_end(input, 0);
-    let Numbers::Count(n) = read_numbers(&input[..end], &mut numbers) else {
+    let Some(n) = read_numbers(&input[..end], &mut numbers) else {
         return write_refused(out, 14);
     };
     print_lent(lists::first(&numbers, n), after_line(input, end), out)

@@ -1,4 +1,5 @@
 -- `digits_after` at a position of a field: one step of the loop that reads it.
+use Rattle.std.specs.Prelude.{Option, Some, None}
 use Prim.Native.Nat.{ℕ, suc, ◌+◌, ◌-◌, ◌*◌, ◌/◌, ◌^◌, ◌≤◌, ◌<◌}
 use mathlib.Core.Path.{◌≡◌, refl, ap, sym, ◌∙◌}
 use mathlib.Core.List.{List, [], ◌∷◌}
@@ -11,8 +12,6 @@ use lib.Dec.{leb}
 use lib.Seq.{drop-cons, drop-drop}
 use Rattle.lists.proofs.BoolLaws.{and_left, and_right}
 use Rattle.scan.specs.Spans.{span, between}
-use Rattle.text.specs.declared.Number.{Number}
-use Rattle.text.specs.declared.Number.TheVariants.{Value, Unreadable}
 use Rattle.text.specs.Numbers.{tenfold, digits_after, digits_of}
 
 pub tenfold_grows : (v : ℕ) (bs : List ℕ) → v ≤ tenfold v bs
@@ -23,13 +22,13 @@ module _ (v b : ℕ) (bs : List ℕ) where
   in_step : 48 ≤ b → b ≤ 57 → digits_after v (b ∷ bs) ≡ digits_after (v * 10 + (b - 48)) bs
   in_step h k = simp (le-leb 48 b h, le-leb b 57 k)
 
-  low_step : b < 48 → digits_after v (b ∷ bs) ≡ Unreadable
+  low_step : b < 48 → digits_after v (b ∷ bs) ≡ None
   low_step h = simp (lt-leb 48 b h)
 
-  high_step : 57 < b → digits_after v (b ∷ bs) ≡ Unreadable
+  high_step : 57 < b → digits_after v (b ∷ bs) ≡ None
   high_step h = simp (lt-leb b 57 h, and-false)
 
-  over-step : 2 ^ 64 ≤ v * 10 + (b - 48) → digits_after v (b ∷ bs) ≡ Unreadable
+  over-step : 2 ^ 64 ≤ v * 10 + (b - 48) → digits_after v (b ∷ bs) ≡ None
   over-step h = simp (le-ltb (tenfold v (b ∷ bs)) (2 ^ 64) (omega (arith, tenfold_grows (v * 10 + (b - 48)) bs)), and-false)
 
 -- zeros in front change nothing
@@ -53,16 +52,16 @@ module _ (v : ℕ) (f : List ℕ) (i : ℕ) where
   pub digits_in_lem : i < length f → 48 ≤ get_or f i 0 → get_or f i 0 ≤ 57 → digits_after v (drop i f) ≡ digits_after (v * 10 + (get_or f i 0 - 48)) (drop (i + 1) f)
   digits_in_lem h = rw (add-one, drop-cons f i 0 h) (in_step v (get_or f i 0) (drop (suc i) f))
 
-  pub digits_low : i < length f → get_or f i 0 < 48 → digits_after v (drop i f) ≡ Unreadable
+  pub digits_low : i < length f → get_or f i 0 < 48 → digits_after v (drop i f) ≡ None
   digits_low h = rw (drop-cons f i 0 h) (low_step v (get_or f i 0) (drop (suc i) f))
 
-  pub digits_high : i < length f → 57 < get_or f i 0 → digits_after v (drop i f) ≡ Unreadable
+  pub digits_high : i < length f → 57 < get_or f i 0 → digits_after v (drop i f) ≡ None
   digits_high h = rw (drop-cons f i 0 h) (high_step v (get_or f i 0) (drop (suc i) f))
 
-  pub digits-over : i < length f → 2 ^ 64 ≤ v * 10 + (get_or f i 0 - 48) → digits_after v (drop i f) ≡ Unreadable
+  pub digits-over : i < length f → 2 ^ 64 ≤ v * 10 + (get_or f i 0 - 48) → digits_after v (drop i f) ≡ None
   digits-over h = rw (drop-cons f i 0 h) (over-step v (get_or f i 0) (drop (suc i) f))
 
-  pub digits-end : length f ≤ i → v < 2 ^ 64 → digits_after v (drop i f) ≡ Value v
+  pub digits-end : length f ≤ i → v < 2 ^ 64 → digits_after v (drop i f) ≡ Some v
   digits-end h k = rw (drop_of_length-le f h) (simp (lt-ltb v (2 ^ 64) k))
 
 module _ (f : List ℕ) (i : ℕ) where
@@ -72,21 +71,21 @@ module _ (f : List ℕ) (i : ℕ) where
   pub digits-start-at : i < length f → (r : ℕ) → digits_after 0 (drop r f) ≡ digits_after 0 (drop i f) → digits_of (drop i f) ≡ digits_after 0 (drop r f)
   digits-start-at h r k = digits-start h ∙ sym k
 
-  pub digits-none : length f ≤ i → digits_of (drop i f) ≡ Unreadable
+  pub digits-none : length f ≤ i → digits_of (drop i f) ≡ None
   digits-none h = rw (drop_of_length-le f h)
 
 -- the same for the loop: n is what its invariant says of v and i
-module _ (n : Number) (v : ℕ) (f : List ℕ) (i : ℕ) (k : n ≡ digits_after v (drop i f)) where
-  pub at_low : i < length f → get_or f i 0 < 48 → Unreadable ≡ n
+module _ (n : Option ℕ) (v : ℕ) (f : List ℕ) (i : ℕ) (k : n ≡ digits_after v (drop i f)) where
+  pub at_low : i < length f → get_or f i 0 < 48 → None ≡ n
   at_low h e = sym (k ∙ digits_low v f i h e)
 
-  pub at_high : i < length f → 57 < get_or f i 0 → Unreadable ≡ n
+  pub at_high : i < length f → 57 < get_or f i 0 → None ≡ n
   at_high h e = sym (k ∙ digits_high v f i h e)
 
-  pub at-over : i < length f → (d : ℕ) → d ≡ get_or f i 0 → (18446744073709551615 - (d - 48)) / 10 < v → Unreadable ≡ n
+  pub at-over : i < length f → (d : ℕ) → d ≡ get_or f i 0 → (18446744073709551615 - (d - 48)) / 10 < v → None ≡ n
   at-over h d q e = sym (k ∙ digits-over v f i h (omega arith))
 
-  pub at-end : length f ≤ i → v < 2 ^ 64 → Value v ≡ n
+  pub at-end : length f ≤ i → v < 2 ^ 64 → Some v ≡ n
   at-end h e = sym (k ∙ digits-end v f i h e)
 
   pub at_digit : i < length f → (d : ℕ) → d ≡ get_or f i 0 → 48 ≤ get_or f i 0 → get_or f i 0 ≤ 57 → n ≡ digits_after (v * 10 + (d - 48)) (drop (i + 1) f)

@@ -1,13 +1,14 @@
 -- Worked examples of the definitions: the readers' case R13.7, the limits of each test, and what is easily misread.
+use Rattle.std.specs.Prelude.{Some, None}
 use mathlib.Core.Path.{◌≡◌, refl}
+use Prim.Native.Nat.{ℕ}
 use mathlib.Core.Bool.{true, false}
 use mathlib.Core.List.{List, [], ◌∷◌, map}
 use Rattle.lists.specs.Quoted.{bytes}
 use Rattle.lists.specs.Parts.{Bytes}
 use Rattle.lists.specs.Tests.{every}
 use Rattle.text.specs.declared.Reader.TheVariants.{Transition, Witness}
-use Rattle.text.specs.declared.Number.TheVariants.{Value, Unreadable}
-use Rattle.text.specs.declared.Literal.TheVariants.{Got, Refused}
+use Rattle.text.specs.declared.Literal.{Literal}
 use Rattle.text.specs.Numbers.{is_digit, number_of}
 use Rattle.text.specs.Lines.{lines_of}
 use Rattle.text.specs.Fields.{is_blank, fields_of, first_field, has_header_word}
@@ -17,20 +18,20 @@ use Rattle.text.specs.Texts.{limited, free, good_text}
 -- ---- numbers
 
 -- `+7` is 7
-pub plus_seven : number_of Transition (bytes "+7") ≡ Value 7
+pub plus_seven : number_of Transition (bytes "+7") ≡ Some 7
 unfolding number_of
 plus_seven = refl
 
-pub plus_seven_witness : number_of Witness (bytes "+7") ≡ Value 7
+pub plus_seven_witness : number_of Witness (bytes "+7") ≡ Some 7
 unfolding number_of
 plus_seven_witness = refl
 
 -- `07` is a number for the transition reader only
-pub zero_seven_witness : number_of Witness (bytes "07") ≡ Unreadable
+pub zero_seven_witness : number_of Witness (bytes "07") ≡ None
 unfolding number_of
 zero_seven_witness = refl
 
-pub zero_seven_transition : number_of Transition (bytes "07") ≡ Value 7
+pub zero_seven_transition : number_of Transition (bytes "07") ≡ Some 7
 unfolding number_of
 zero_seven_transition = refl
 
@@ -45,12 +46,12 @@ odd-numbers =
     ∷ bytes "7+" ∷ bytes " 7" ∷ []
 
 pub odd_transition : map (number_of Transition) odd-numbers
-    ≡ Value 0 ∷ Value 0 ∷ Value 0 ∷ Value 7 ∷ Unreadable ∷ Unreadable ∷ Unreadable ∷ Unreadable ∷ Unreadable ∷ Unreadable ∷ []
+    ≡ Some 0 ∷ Some 0 ∷ Some 0 ∷ Some 7 ∷ None ∷ None ∷ None ∷ None ∷ None ∷ None ∷ []
 unfolding number_of
 odd_transition = refl
 
 pub odd-witness : map (number_of Witness) odd-numbers
-    ≡ Value 0 ∷ Unreadable ∷ Value 0 ∷ Value 7 ∷ Unreadable ∷ Unreadable ∷ Unreadable ∷ Unreadable ∷ Unreadable ∷ Unreadable ∷ []
+    ≡ Some 0 ∷ None ∷ Some 0 ∷ Some 7 ∷ None ∷ None ∷ None ∷ None ∷ None ∷ None ∷ []
 unfolding number_of
 odd-witness = refl
 
@@ -61,11 +62,11 @@ largest = bytes "18446744073709551615"
 abbrev pub too_large : Bytes
 too_large = bytes "18446744073709551616"
 
-pub largest_read : map (number_of Transition) (largest ∷ (48 ∷ 48 ∷ largest) ∷ too_large ∷ []) ≡ Value 18446744073709551615 ∷ Value 18446744073709551615 ∷ Unreadable ∷ []
+pub largest_read : map (number_of Transition) (largest ∷ (48 ∷ 48 ∷ largest) ∷ too_large ∷ []) ≡ Some 18446744073709551615 ∷ Some 18446744073709551615 ∷ None ∷ []
 unfolding number_of
 largest_read = refl
 
-pub largest_read_witness : map (number_of Witness) (largest ∷ (48 ∷ 48 ∷ largest) ∷ too_large ∷ []) ≡ Value 18446744073709551615 ∷ Unreadable ∷ Unreadable ∷ []
+pub largest_read_witness : map (number_of Witness) (largest ∷ (48 ∷ 48 ∷ largest) ∷ too_large ∷ []) ≡ Some 18446744073709551615 ∷ None ∷ None ∷ []
 unfolding number_of
 largest_read_witness = refl
 
@@ -109,15 +110,18 @@ header_words = refl
 abbrev pub four_lines : Bytes
 four_lines = bytes "x\n\n4\ny"
 
+-- no literal, and the place n after it
+abbrev pub refused_to : ℕ → Literal
+refused_to n = record { value = None; next = record { at = n } }
+
 -- the place moves past a line that is refused, also past an empty one and a last one without byte 10, and stays at and past the end
 pub literals : map (λ n. literal_at Witness four_lines (record { at = n })) (0 ∷ 2 ∷ 3 ∷ 5 ∷ 6 ∷ 9 ∷ [])
-    ≡ Refused (record { at = 2 }) ∷ Refused (record { at = 3 }) ∷ Got 4 (record { at = 5 }) ∷ Refused (record { at = 6 })
-    ∷ Refused (record { at = 6 }) ∷ Refused (record { at = 9 }) ∷ []
+    ≡ refused_to 2 ∷ refused_to 3 ∷ record { value = Some 4; next = record { at = 5 } } ∷ refused_to 6 ∷ refused_to 6 ∷ refused_to 9 ∷ []
 unfolding number_of
 literals = refl
 
 -- two numbers are one too many
-pub two_numbers : literal_at Transition (bytes "4 4") (record { at = 0 }) ≡ Refused (record { at = 3 })
+pub two_numbers : literal_at Transition (bytes "4 4") (record { at = 0 }) ≡ refused_to 3
 unfolding number_of
 two_numbers = refl
 

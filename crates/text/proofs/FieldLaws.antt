@@ -1,4 +1,5 @@
 -- Laws of `is_blank` and `field_at`: their cases for the code that finds fields, and what `field_at` says of `fields_of`.
+use Rattle.std.specs.Prelude.{Option, Some, None}
 use Prim.Native.Nat.{ℕ, ◌+◌, ◌≤◌, ◌<◌}
 use mathlib.Core.Path.{◌≡◌, refl, ap, sym, ◌∙◌}
 use mathlib.Core.Bool.{and-false, or-false, Bool, true, false}
@@ -11,7 +12,6 @@ use lib.Seq.{drop-drop, get_or-drop}
 use lib.Dec.{leb, ltb}
 use Rattle.scan.proofs.SpanLaws.{span_in, span-ends, span-within, span-passes}
 use Rattle.text.specs.declared.Field.{Field}
-use Rattle.text.specs.declared.Field.TheVariants.{At, None}
 use Rattle.scan.specs.Spans.{span}
 use Rattle.text.specs.Lines.{cons_head}
 use Rattle.lists.specs.Parts.{Bytes, part}
@@ -37,7 +37,7 @@ module _ (b : ℕ) where
   blank_rest n h = simp (le-leb 9 b h, ne_eqb b 32 n) (sym (or-false (leb b 13)))
 
 module _ (l : List ℕ) (at a : ℕ) (q : a ≡ at + span is_blank (drop at l)) where
-  pub field-some : (e : ℕ) → a < length l → e ≡ a + span in_field (drop a l) → At a e ≡ field_at l at
+  pub field-some : (e : ℕ) → a < length l → e ≡ a + span in_field (drop a l) → Some (record { start = a; end = e }) ≡ field_at l at
   field-some e h k = simp (← q, lt-ltb a (length l) h, ← k)
 
   pub field-none : length l ≤ a → None ≡ field_at l at
@@ -79,70 +79,73 @@ from l a h e =
     rw (add-sub_cancel_left a (span in_field (drop a l)), ← drop-drop (span in_field (drop a l)) a l)
     (first (drop a l) (omega (arith, length-drop a l)) (rw (get_or-drop, add-zero) e))
 
-never : {r : Field} {a e : ℕ} → r ≡ At a e → r ≡ None → ⊥
+never : {r : Option Field} {f : Field} → r ≡ Some f → r ≡ None → ⊥
 never p k = let z : ◌≡◌ {A = ℕ} 0 1 = cc in omega arith
 
 -- what is known of the field that was found
-record Found (l : List ℕ) (at a e : ℕ) : Type 0 where
-  fields : fields_of (drop at l) ≡ part l a e ∷ fields_of (drop e l)
-  after : at ≤ a
-  some_byte : a < e
-  within : e ≤ length l
-  unblank : all in_field (part l a e) ≡ true
+record Found (l : List ℕ) (at : ℕ) (f : Field) : Type 0 where
+  fields : fields_of (drop at l) ≡ part l f.start f.end ∷ fields_of (drop f.end l)
+  after : at ≤ f.start
+  some_byte : f.start < f.end
+  within : f.end ≤ length l
+  unblank : all in_field (part l f.start f.end) ≡ true
 
 -- `field_at` with the start of the field as a variable, so that nothing of it unfolds
-module _ (l : List ℕ) (at b : ℕ) (same : fields_of (drop at l) ≡ fields_of (drop b l)) (r : Field) where
+module _ (l : List ℕ) (at b : ℕ) (same : fields_of (drop at l) ≡ fields_of (drop b l)) (r : Option Field) where
   on_none : (t : Bool) → ltb b (length l) ≡ t → r ≡ field_from l b → r ≡ None → fields_of (drop at l) ≡ []
   on_none true e q k = absurd (never (simp e at q) k)
   on_none false e q k = same ∙ ap fields_of (drop_of_length-le l (ltb-false b (length l) e))
 
-  module _ (before : at ≤ b) (stop : b < length l → is_blank (get_or l b 0) ≡ false) (a e : ℕ) where
-    on_some : (t : Bool) → ltb b (length l) ≡ t → r ≡ field_from l b → r ≡ At a e → Found l at a e
-    on_some true g q k =
-        let h : b < length l = ltb-true b (length l) g in
-        let q' : r ≡ At b (b + span in_field (drop b l)) = simp g at q in
-        let ea : a ≡ b = cc in
-        let ee : e ≡ b + span in_field (drop b l) = cc in
+  module _ (before : at ≤ b) (stop : b < length l → is_blank (get_or l b 0) ≡ false) where
+    found-from : b < length l → Found l at (record { start = b; end = b + span in_field (drop b l) })
+    found-from h =
         let s : b + span in_field (drop b l) ≡ b + 1 + span in_field (drop (b + 1) l) = span_in in_field l b h (rw (stop h)) in
         record {
-          fields = rw (ea, ee) (same ∙ from l b h (stop h));
-          after = omega arith;
+          fields = same ∙ from l b h (stop h);
+          after = before;
           some_byte = omega arith;
-          within = omega (arith, span-within in_field l b (omega arith));
-          unblank = rw (ea, ee, add-sub_cancel_left b (span in_field (drop b l))) (span-passes in_field (drop b l));
+          within = span-within in_field l b (omega arith);
+          unblank = rw (add-sub_cancel_left b (span in_field (drop b l))) (span-passes in_field (drop b l));
         }
-    on_some false g q k = absurd (never k (simp g at q))
+
+    on_some : (f : Field) (t : Bool) → ltb b (length l) ≡ t → r ≡ field_from l b → r ≡ Some f → Found l at f
+    on_some f true g q k =
+        let q' : r ≡ Some (record { start = b; end = b + span in_field (drop b l) }) = simp g at q in
+        let is : f ≡ record { start = b; end = b + span in_field (drop b l) } = cc in
+        rw is (found-from (ltb-true b (length l) g))
+    on_some f false g q k = absurd (never k (simp g at q))
 
 -- what a caller that holds `r ≡ field_at l at` and r's case learns
-module _ (l : List ℕ) (at : ℕ) (r : Field) (q : r ≡ field_at l at) where
+module _ (l : List ℕ) (at : ℕ) (r : Option Field) (q : r ≡ field_at l at) where
   to_start : fields_of (drop at l) ≡ fields_of (drop (at + span is_blank (drop at l)) l)
   to_start = skip (drop at l) ∙ ap fields_of (drop-drop (span is_blank (drop at l)) at l)
 
   pub fields_none : r ≡ None → fields_of (drop at l) ≡ []
   fields_none k = on_none l at (at + span is_blank (drop at l)) to_start r (ltb (at + span is_blank (drop at l)) (length l)) refl q k
 
-  module _ (a e : ℕ) (k : r ≡ At a e) where
-    found : Found l at a e
+  module _ (f : Field) (k : r ≡ Some f) where
+    found : Found l at f
     found =
-        on_some l at (at + span is_blank (drop at l)) to_start r (omega arith) (span-ends is_blank l at) a e (ltb (at + span is_blank (drop at l)) (length l)) refl q k
+        on_some l at (at + span is_blank (drop at l)) to_start r (omega arith) (span-ends is_blank l at) f
+        (ltb (at + span is_blank (drop at l)) (length l)) refl q k
 
-    pub fields_some : fields_of (drop at l) ≡ part l a e ∷ fields_of (drop e l)
+    pub fields_some : fields_of (drop at l) ≡ part l f.start f.end ∷ fields_of (drop f.end l)
     fields_some = found.fields
 
     -- a field is never empty: it has a byte, no blank, and stands at or after the position
-    pub field-some_byte : a < e
+    pub field-some_byte : f.start < f.end
     field-some_byte = found.some_byte
 
-    pub field-ordered : a ≤ e
+    pub field-ordered : f.start ≤ f.end
     field-ordered = omega (arith, found.some_byte)
 
-    pub field-within : e ≤ length l
+    pub field-within : f.end ≤ length l
     field-within = found.within
 
-    pub field_unblank : all in_field (part l a e) ≡ true
+    pub field_unblank : all in_field (part l f.start f.end) ≡ true
     field_unblank = found.unblank
 
-    pub first_some : at ≡ 0 → part l a e ≡ first_field l
+    pub first_some : at ≡ 0 → part l f.start f.end ≡ first_field l
     first_some z = sym (ap head_of (rw z at fields_some))
 
   pub first-none : at ≡ 0 → r ≡ None → [] ≡ first_field l

@@ -1,4 +1,5 @@
 -- Laws of `line_at`: its cases for the code that finds lines, and what it says of `lines_of`.
+use Rattle.std.specs.Prelude.{Option, Some, None}
 use Prim.Native.Nat.{ℕ, suc, ◌+◌, ◌-◌, ◌≤◌, ◌<◌}
 use mathlib.Core.Path.{◌≡◌, refl, ap, ◌∙◌}
 use mathlib.Core.List.{List, [], ◌∷◌, ◌++◌, append-nil}
@@ -12,7 +13,6 @@ use lib.Dec.{eqb, ltb}
 use Rattle.text.specs.declared.Cursor.{Cursor}
 use Rattle.scan.proofs.SpanLaws.{span-within, span-passes}
 use Rattle.text.specs.declared.Line.{Line}
-use Rattle.text.specs.declared.Line.TheVariants.{At, None}
 use Rattle.scan.specs.Spans.{span, in_line}
 use Rattle.text.specs.Lines.{cons_head, lines_of, line_from, line_at}
 use Rattle.lists.specs.Parts.{Bytes, part}
@@ -22,10 +22,10 @@ use Rattle.lists.proofs.BoolLaws.{and_left, and_right}
 pub line-none : (s : List ℕ) (at : ℕ) → length s ≤ at → None ≡ line_at s at
 line-none s at h = simp (le-ltb at (length s) h)
 
-pub line-more : (s : List ℕ) (at e : ℕ) → at < length s → e ≡ at + span in_line (drop at s) → e < length s → At at e (record { at = e + 1 }) ≡ line_at s at
+pub line-more : (s : List ℕ) (at e : ℕ) → at < length s → e ≡ at + span in_line (drop at s) → e < length s → Some (record { start = at; end = e; next = record { at = e + 1 } }) ≡ line_at s at
 line-more s at e h q k = simp (← q, lt-ltb at (length s) h, lt-ltb e (length s) k)
 
-pub line_last : (s : List ℕ) (at e : ℕ) → at < length s → e ≡ at + span in_line (drop at s) → length s ≤ e → At at e (record { at = e }) ≡ line_at s at
+pub line_last : (s : List ℕ) (at e : ℕ) → at < length s → e ≡ at + span in_line (drop at s) → length s ≤ e → Some (record { start = at; end = e; next = record { at = e } }) ≡ line_at s at
 line_last s at e h q k = simp (← q, lt-ltb at (length s) h, le-ltb e (length s) k)
 
 -- ---- what `line_at` says of `lines_of`: the lines from a position on are the line that it finds and those from the next cursor on
@@ -44,7 +44,7 @@ unfolding Cut
 cut [] h = absurd (omega arith)
 cut (b ∷ bs) h = cut_at b bs (cut bs) (eqb b 10) refl h
 
-never : {r : Line} {a e : ℕ} {n : Cursor} → r ≡ At a e n → r ≡ None → ⊥
+never : {r : Option Line} {l : Line} → r ≡ Some l → r ≡ None → ⊥
 never p k = let z : ◌≡◌ {A = ℕ} 0 1 = cc in omega arith
 
 module _ (s : List ℕ) (at k : ℕ) (h : at < length s) (q : k ≡ span in_line (drop at s)) where
@@ -60,76 +60,78 @@ module _ (s : List ℕ) (at k : ℕ) (h : at < length s) (q : k ≡ span in_line
       rw (drop_of_length-le s n) (rw (drop_of_length-le s {i = at + suc k} (omega arith)) at cut_k)
 
 -- what is known of the line that was found
-record Found (s : List ℕ) (at a e : ℕ) (n : Cursor) : Type 0 where
-  lines : lines_of (drop at s) ≡ part s a e ∷ lines_of (drop n.at s)
-  starts : a ≡ at
-  ordered : a ≤ e
-  within : e ≤ length s
-  plain : all in_line (part s a e) ≡ true
-  moves : at < n.at
-  stays_within : n.at ≤ length s
+record Found (s : List ℕ) (at : ℕ) (l : Line) : Type 0 where
+  lines : lines_of (drop at s) ≡ part s l.start l.end ∷ lines_of (drop l.next.at s)
+  starts : l.start ≡ at
+  ordered : l.start ≤ l.end
+  within : l.end ≤ length s
+  plain : all in_line (part s l.start l.end) ≡ true
+  moves : at < l.next.at
+  stays_within : l.next.at ≤ length s
 
 moved : (at e size : ℕ) → at < size → at ≤ e → e ≤ size → (t : Bool) → ltb e size ≡ t → (at < cond t (e + 1) e) × (cond t (e + 1) e ≤ size)
 moved at e size h k l true g = (omega arith, omega (arith, ltb-true e size g))
 moved at e size h k l false g = (omega (arith, ltb-false e size g), l)
 
-on_some : (s : List ℕ) (at : ℕ) (r : Line) (a e : ℕ) (n : Cursor) → r ≡ At a e n → (t : Bool) → ltb at (length s) ≡ t → r ≡ line_at s at → Found s at a e n
-on_some s at r a e n k true g q =
-    let h : at < length s = ltb-true at (length s) g in
-    let q' : r ≡ line_from s at (at + span in_line (drop at s)) = simp g at q in
-    let ea : a ≡ at = cc in
-    let ee : e ≡ at + span in_line (drop at s) = cc in
-    let en : n.at ≡ cond (ltb (at + span in_line (drop at s)) (length s)) (at + span in_line (drop at s) + 1) (at + span in_line (drop at s)) = cc in
-    let m = moved at (at + span in_line (drop at s)) (length s) h (omega arith) (span-within in_line s at (omega arith)) (ltb (at + span in_line (drop at s)) (length s)) refl in
+found-from : (s : List ℕ) (at : ℕ) → at < length s → Found s at (line_from s at (at + span in_line (drop at s)))
+found-from s at h =
+    let e = at + span in_line (drop at s) in
+    let m = moved at e (length s) h (omega arith) (span-within in_line s at (omega arith)) (ltb e (length s)) refl in
     record {
-      lines = rw (en, ea, ee) (next-at s at (span in_line (drop at s)) h refl (ltb (at + span in_line (drop at s)) (length s)) refl);
-      starts = ea;
+      lines = next-at s at (span in_line (drop at s)) h refl (ltb e (length s)) refl;
+      starts = refl;
       ordered = omega arith;
-      within = omega (arith, span-within in_line s at (omega arith));
-      plain = rw (ea, ee, add-sub_cancel_left at (span in_line (drop at s))) (span-passes in_line (drop at s));
-      moves = rw en m.0;
-      stays_within = rw en m.1;
+      within = span-within in_line s at (omega arith);
+      plain = rw (add-sub_cancel_left at (span in_line (drop at s))) (span-passes in_line (drop at s));
+      moves = m.0;
+      stays_within = m.1;
     }
-on_some s at r a e n k false g q = absurd (never k (simp g at q))
 
-on_none : (s : List ℕ) (at : ℕ) (r : Line) → r ≡ None → (t : Bool) → ltb at (length s) ≡ t → r ≡ line_at s at → lines_of (drop at s) ≡ []
+on_some : (s : List ℕ) (at : ℕ) (r : Option Line) (l : Line) → r ≡ Some l → (t : Bool) → ltb at (length s) ≡ t → r ≡ line_at s at → Found s at l
+on_some s at r l k true g q =
+    let q' : r ≡ Some (line_from s at (at + span in_line (drop at s))) = simp g at q in
+    let same : l ≡ line_from s at (at + span in_line (drop at s)) = cc in
+    rw same (found-from s at (ltb-true at (length s) g))
+on_some s at r l k false g q = absurd (never k (simp g at q))
+
+on_none : (s : List ℕ) (at : ℕ) (r : Option Line) → r ≡ None → (t : Bool) → ltb at (length s) ≡ t → r ≡ line_at s at → lines_of (drop at s) ≡ []
 on_none s at r k true g q = absurd (never (simp g at q) k)
 on_none s at r k false g q = ap lines_of (drop_of_length-le s (ltb-false at (length s) g))
 
 -- what a caller that holds `r ≡ line_at s at` and r's case learns
-module _ (s : List ℕ) (at : ℕ) (r : Line) (q : r ≡ line_at s at) where
+module _ (s : List ℕ) (at : ℕ) (r : Option Line) (q : r ≡ line_at s at) where
   pub lines_none : r ≡ None → lines_of (drop at s) ≡ []
   lines_none k = on_none s at r k (ltb at (length s)) refl q
 
-  module _ (a e : ℕ) (n : Cursor) (k : r ≡ At a e n) where
-    found : Found s at a e n
-    found = on_some s at r a e n k (ltb at (length s)) refl q
+  module _ (l : Line) (k : r ≡ Some l) where
+    found : Found s at l
+    found = on_some s at r l k (ltb at (length s)) refl q
 
-    pub lines-some : lines_of (drop at s) ≡ part s a e ∷ lines_of (drop n.at s)
+    pub lines-some : lines_of (drop at s) ≡ part s l.start l.end ∷ lines_of (drop l.next.at s)
     lines-some = found.lines
 
-    pub line-starts : a ≡ at
+    pub line-starts : l.start ≡ at
     line-starts = found.starts
 
-    pub line-ordered : a ≤ e
+    pub line-ordered : l.start ≤ l.end
     line-ordered = found.ordered
 
-    pub line-within : e ≤ length s
+    pub line-within : l.end ≤ length s
     line-within = found.within
 
     -- the line has no byte 10
-    pub line_plain : all in_line (part s a e) ≡ true
+    pub line_plain : all in_line (part s l.start l.end) ≡ true
     line_plain = found.plain
 
     -- the cursor moves, and stays within the text
-    pub line-moves : at < n.at
+    pub line-moves : at < l.next.at
     line-moves = found.moves
 
-    pub line-next-within : n.at ≤ length s
+    pub line-next-within : l.next.at ≤ length s
     line-next-within = found.stays_within
 
     -- so less of the text is left, for a loop over lines
-    pub line-less : length s - n.at < length s - at
+    pub line-less : length s - l.next.at < length s - at
     line-less = omega (arith, line-moves, line-next-within)
 
 -- ---- bytes of a line in front of others, as lists

@@ -1,4 +1,5 @@
 -- Laws of `number_of`: its cases for the code that reads numbers, and what callers may rely on.
+use Rattle.std.specs.Prelude.{Option, Some, None}
 use Prim.Native.Nat.{ℕ, ◌^◌, ◌≤◌, ◌<◌}
 use mathlib.Core.Path.{◌≡◌, refl, ap, ◌∙◌}
 use mathlib.Core.Bool.{Bool, true, false, cond, ◌&&◌}
@@ -12,8 +13,6 @@ use Rattle.lists.specs.Tests.{all}
 use Rattle.lists.proofs.BoolLaws.{and_left, and_right}
 use Rattle.text.specs.declared.Reader.{Reader}
 use Rattle.text.specs.declared.Reader.TheVariants.{Transition, Witness}
-use Rattle.text.specs.declared.Number.{Number}
-use Rattle.text.specs.declared.Number.TheVariants.{Value, Unreadable}
 use Rattle.text.specs.Numbers.{is_digit, tenfold, digits_after, digits_of, unsigned, long_zero, number_of}
 
 -- the plus sign: an empty field, a field with one, another
@@ -30,74 +29,74 @@ sign_plain [] n h = absurd (n refl)
 sign_plain (b ∷ bs) n h = simp (ne_eqb b 43 h)
 
 -- the transition reader
-pub usize-digits : (f : Bytes) (r : Number) (at : ℕ) → drop at f ≡ unsigned f → r ≡ digits_of (drop at f) → r ≡ number_of Transition f
+pub usize-digits : (f : Bytes) (r : Option ℕ) (at : ℕ) → drop at f ≡ unsigned f → r ≡ digits_of (drop at f) → r ≡ number_of Transition f
 unfolding number_of
 usize-digits f r at k e = e ∙ ap digits_of k
 
 -- the witness reader: a field of at most one byte, a longer one that begins with 0, another
-pub number_short : (f : Bytes) (r : Number) → length f < 2 → r ≡ number_of Transition f → r ≡ number_of Witness f
+pub number_short : (f : Bytes) (r : Option ℕ) → length f < 2 → r ≡ number_of Transition f → r ≡ number_of Witness f
 unfolding number_of
 number_short [] r h e = e
 number_short (b ∷ []) r h e = e
 number_short (b ∷ c ∷ bs) r h e = absurd (omega arith)
 
-pub number-zero : (f : Bytes) → 2 ≤ length f → get_or f 0 0 ≡ 48 → Unreadable ≡ number_of Witness f
+pub number-zero : (f : Bytes) → 2 ≤ length f → get_or f 0 0 ≡ 48 → None ≡ number_of Witness f
 unfolding number_of
 number-zero [] h e = absurd (omega arith)
 number-zero (b ∷ []) h e = absurd (omega arith)
 number-zero (b ∷ c ∷ bs) h e = simp (eq-eqb b 48 e)
 
-pub number_long : (f : Bytes) (r : Number) → 2 ≤ length f → (get_or f 0 0 ≡ 48 → ⊥) → r ≡ number_of Transition f → r ≡ number_of Witness f
+pub number_long : (f : Bytes) (r : Option ℕ) → 2 ≤ length f → (get_or f 0 0 ≡ 48 → ⊥) → r ≡ number_of Transition f → r ≡ number_of Witness f
 unfolding number_of
 number_long [] r h n e = absurd (omega arith)
 number_long (b ∷ []) r h n e = absurd (omega arith)
 number_long (b ∷ c ∷ bs) r h n e = simp (ne_eqb b 48 n) e
 
-pub number_transition : (reader : Reader) (f : Bytes) (r : Number) → reader ≡ Transition → r ≡ number_of Transition f → r ≡ number_of reader f
+pub number_transition : (reader : Reader) (f : Bytes) (r : Option ℕ) → reader ≡ Transition → r ≡ number_of Transition f → r ≡ number_of reader f
 number_transition reader f r k e = rw k e
 
-pub number-witness : (reader : Reader) (f : Bytes) (r : Number) → reader ≡ Witness → r ≡ number_of Witness f → r ≡ number_of reader f
+pub number-witness : (reader : Reader) (f : Bytes) (r : Option ℕ) → reader ≡ Witness → r ≡ number_of Witness f → r ≡ number_of reader f
 number-witness reader f r k e = rw k e
 
 -- digits alone, with no zero in front of others (R1.3): both readers take them
-digits-plain : (f : Bytes) → 0 < length f → all is_digit f ≡ true → tenfold 0 f < 2 ^ 64 → digits_of (unsigned f) ≡ Value (tenfold 0 f)
+digits-plain : (f : Bytes) → 0 < length f → all is_digit f ≡ true → tenfold 0 f < 2 ^ 64 → digits_of (unsigned f) ≡ Some (tenfold 0 f)
 digits-plain [] h d s = absurd (omega arith)
 digits-plain (b ∷ bs) h d s =
     let low : 48 ≤ b = leb-true 48 b (and_left (leb 48 b) (leb b 57) (and_left (is_digit b) (all is_digit bs) d)) in
     rw (ne_eqb b 43 (λ e. omega arith)) (rw (d, lt-ltb (tenfold 0 (b ∷ bs)) (2 ^ 64) s))
 
 pub number-plain : (reader : Reader) (f : Bytes) → long_zero f ≡ false → 0 < length f → all is_digit f ≡ true → tenfold 0 f < 2 ^ 64
-    → number_of reader f ≡ Value (tenfold 0 f)
+    → number_of reader f ≡ Some (tenfold 0 f)
 unfolding number_of
 number-plain Transition f z h d s = digits-plain f h d s
 number-plain Witness f z h d s = rw z (digits-plain f h d s)
 
 -- ---- for callers, who never open `number_of`
 
-after-below : (v n : ℕ) (bs : Bytes) → digits_after n bs ≡ Value v → v < 2 ^ 64
+after-below : (v n : ℕ) (bs : Bytes) → digits_after n bs ≡ Some v → v < 2 ^ 64
 after-below v n bs e = go (all is_digit bs && ltb (tenfold n bs) (2 ^ 64)) refl e
   where
-    go : (q : Bool) → (all is_digit bs && ltb (tenfold n bs) (2 ^ 64)) ≡ q → cond q (Value (tenfold n bs)) Unreadable ≡ Value v → v < 2 ^ 64
+    go : (q : Bool) → (all is_digit bs && ltb (tenfold n bs) (2 ^ 64)) ≡ q → cond q (Some (tenfold n bs)) None ≡ Some v → v < 2 ^ 64
     go true h k =
         let s : tenfold n bs ≡ v = cc in
         rw (← s) (ltb-true (tenfold n bs) (2 ^ 64) (and_right (all is_digit bs) (ltb (tenfold n bs) (2 ^ 64)) h))
     go false h k = let never : ◌≡◌ {A = ℕ} 0 1 = cc in absurd (omega arith)
 
-digits-below : (v : ℕ) (f : Bytes) → digits_of f ≡ Value v → v < 2 ^ 64
+digits-below : (v : ℕ) (f : Bytes) → digits_of f ≡ Some v → v < 2 ^ 64
 digits-below v [] e = let never : ◌≡◌ {A = ℕ} 0 1 = cc in absurd (omega arith)
 digits-below v (b ∷ bs) e = after-below v 0 (b ∷ bs) e
 
 -- what the witness reader takes, the transition reader takes for the same number
-pub number-both : (f : Bytes) (v : ℕ) → number_of Witness f ≡ Value v → number_of Transition f ≡ Value v
+pub number-both : (f : Bytes) (v : ℕ) → number_of Witness f ≡ Some v → number_of Transition f ≡ Some v
 unfolding number_of
 number-both f v e = go (long_zero f) e
   where
-    go : (q : Bool) → cond q Unreadable (digits_of (unsigned f)) ≡ Value v → digits_of (unsigned f) ≡ Value v
+    go : (q : Bool) → cond q None (digits_of (unsigned f)) ≡ Some v → digits_of (unsigned f) ≡ Some v
     go true k = let never : ◌≡◌ {A = ℕ} 0 1 = cc in absurd (omega arith)
     go false k = k
 
 -- R1.1: a number that is read is less than 2^64
-pub number-below : (reader : Reader) (f : Bytes) (v : ℕ) → number_of reader f ≡ Value v → v < 2 ^ 64
+pub number-below : (reader : Reader) (f : Bytes) (v : ℕ) → number_of reader f ≡ Some v → v < 2 ^ 64
 unfolding number_of
 number-below Transition f v e = digits-below v (unsigned f) e
 number-below Witness f v e = digits-below v (unsigned f) (number-both f v e)
@@ -110,7 +109,7 @@ number_digits Witness b [] h k = simp (ne_eqb b 43 (λ e. omega arith))
 number_digits Witness b (c ∷ bs) h k = simp (ne_eqb b 48 (λ e. omega arith), ne_eqb b 43 (λ e. omega arith))
 
 -- `0` alone is 0
-pub number_of_zero : (reader : Reader) → number_of reader (48 ∷ []) ≡ Value 0
+pub number_of_zero : (reader : Reader) → number_of reader (48 ∷ []) ≡ Some 0
 unfolding number_of
 number_of_zero Transition = refl
 number_of_zero Witness = refl

@@ -1,4 +1,5 @@
 -- Laws of `IsRun`: the loop that reads plain digits, the tests behind it, and what they say of `taken_at` and of a plain number.
+use Rattle.std.specs.Prelude.{Some}
 use Prim.Native.Nat.{ℕ, zero, suc, ◌+◌, ◌-◌, ◌*◌, ◌^◌, ◌≤◌, ◌<◌, min}
 use mathlib.Core.Path.{◌≡◌, refl, ap, sym, ◌∙◌}
 use mathlib.Core.Bool.{Bool, true, false}
@@ -17,7 +18,6 @@ use Rattle.lists.proofs.TestLaws.{all_snoc}
 use Rattle.scan.specs.Spans.{span}
 use Rattle.scan.proofs.SpanLaws.{span_in, span_out, span-end, span-ends}
 use Rattle.text.specs.declared.Reader.{Reader}
-use Rattle.text.specs.declared.Number.TheVariants.{Value}
 use Rattle.text.specs.declared.Taken.TheVariants as taken
 use Rattle.text.specs.Numbers.{is_digit, tenfold, long_zero, number_of}
 use Rattle.text.specs.Fields.{is_blank, in_field}
@@ -124,7 +124,7 @@ module _ (l : Bytes) (a e : ℕ) where
 
 -- z is the answer of the test above
 module _ (l : Bytes) (a e v : ℕ) (k : IsRun l a e v) (z : Bool) (zero : z ≡ false → long_zero (part l a e) ≡ false) (u : z ≡ false) where
-  run_number : e ≤ length l → a < e → (reader : Reader) → number_of reader (part l a e) ≡ Value v
+  run_number : e ≤ length l → a < e → (reader : Reader) → number_of reader (part l a e) ≡ Some v
   run_number h some_byte reader =
       rw k.value
       (number-plain reader (part l a e) (zero u) (rw (part_length l a e h) (omega arith)) k.digits (rw (← k.value) k.small))
@@ -151,4 +151,4 @@ module _ (reader : Reader) (l : Bytes) (at a : ℕ) (q : a ≡ at + span is_blan
   taken_run r w t =
       let ends : e ≡ a + span in_field (drop a l) = sym (k.inside ∙ w t) in
       let n = run_number l a e v k z zero u (from-within l a e h ends) (omega (arith, some_byte)) reader in
-      taken-from reader l at a q (taken.Got v e) (taken-got reader l a e h ends (Value v) (sym n) v refl)
+      taken-from reader l at a q (taken.Got v e) (taken-got reader l a e h ends (Some v) (sym n) v refl)

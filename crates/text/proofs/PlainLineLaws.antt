@@ -1,9 +1,9 @@
 -- Lines of plain numbers: what plain numbers that stand one after the other say of the lines and of `literal_at`.
+use Rattle.std.specs.Prelude.{Option, Some}
 use Prim.Native.Nat.{ℕ, ◌+◌, ◌≤◌, ◌<◌}
 use mathlib.Core.Path.{◌≡◌, refl, ap, sym, ◌∙◌}
 use mathlib.Core.Bool.{Bool, true}
 use mathlib.Core.List.{List, [], ◌∷◌, ◌++◌}
-use mathlib.Core.Option.{some}
 use native.Mathlib.Omega.{arith}
 use native.Mathlib.Nat.{add-sub_cancel_left}
 use borrow.Author.Tests.{leb-true}
@@ -19,16 +19,11 @@ use Rattle.scan.proofs.SpanLaws.{span_out, line-goes, line-stops}
 use Rattle.scan.proofs.BlockLaws.{span-block}
 use Rattle.text.specs.declared.Cursor.{Cursor}
 use Rattle.text.specs.declared.Reader.{Reader}
-use Rattle.text.specs.declared.Number.{Number}
-use Rattle.text.specs.declared.Number.TheVariants.{Value}
-use Rattle.text.specs.declared.Plain.{Plain}
-use Rattle.text.specs.declared.Plain.TheVariants as plain
-use Rattle.text.specs.declared.Literal.TheVariants.{Got}
-use Rattle.text.specs.declared.Line.TheVariants as line
+use Rattle.text.specs.declared.Parsed.{Parsed}
 use Rattle.text.specs.Numbers.{is_digit}
 use Rattle.text.specs.Lines.{lines_of, line_at}
 use Rattle.text.specs.Fields.{in_field, fields_of}
-use Rattle.text.specs.Literals.{numbers_of, one_of, literal_of, literal_number, literal_line, literal_at}
+use Rattle.text.specs.Literals.{numbers_of, one_of, literal_of, literal_line, literal_at}
 use Rattle.text.specs.Inner.PlainDigits.{IsPlain, ReadsPlain}
 use Rattle.text.proofs.FieldLaws.{IsField, field_in_front, field-alone, blank_above}
 use Rattle.text.proofs.LineLaws.{line-front, line_in_front, line-more}
@@ -59,7 +54,7 @@ module _ (s : Bytes) (a stop v n : ℕ) (k : IsPlain s a stop v n) where
   plain_in_line : all in_line k.field ≡ true
   plain_in_line = digits_pass in_line digit_in_line k.field k.digits
 
-  plain-alone : (reader : Reader) → numbers_of reader (fields_of k.field) ≡ some (v ∷ [])
+  plain-alone : (reader : Reader) → numbers_of reader (fields_of k.field) ≡ Some (v ∷ [])
   plain-alone reader = rw (field-alone k.field plain-field, k.value reader)
 
 -- ---- a line, or the rest of one, of plain numbers
@@ -68,7 +63,7 @@ module _ (s : Bytes) (a stop v n : ℕ) (k : IsPlain s a stop v n) where
 pub record PlainLine (s : Bytes) (a : ℕ) (vs : List ℕ) (n : ℕ) : Type 0 where
   pub line : Bytes
   pub lines : lines_of (drop a s) ≡ line ∷ lines_of (drop n s)
-  pub numbers : (reader : Reader) → numbers_of reader (fields_of line) ≡ some vs
+  pub numbers : (reader : Reader) → numbers_of reader (fields_of line) ≡ Some vs
 
 module _ (s : Bytes) (a v : ℕ) where
   pub plain_last : (n : ℕ) → IsPlain s a 10 v n → PlainLine s a (v ∷ []) n
@@ -108,14 +103,14 @@ module _ (s : Bytes) (a v n : ℕ) (k : IsPlain s a 10 v n) where
       ∙ span-block in_line s a (a + length k.field) (omega arith) (omega (arith, inside)) true (sym (rw is_field (plain_in_line s a 10 v n k))) refl
       (a + span in_line (drop a s)) refl
 
-  is-line : line.At a (a + length k.field) (record { at = n }) ≡ line_at s a
+  is-line : Some (record { start = a; end = a + length k.field; next = record { at = n } }) ≡ line_at s a
   is-line = rw k.next (line-more s a (a + length k.field) (omega (arith, inside)) ends inside)
 
-  is-literal : (reader : Reader) → literal_of reader (part s a (a + length k.field)) ≡ Value v
+  is-literal : (reader : Reader) → literal_of reader (part s a (a + length k.field)) ≡ Some v
   is-literal reader = rw is_field (ap one_of (plain-alone s a 10 v n k reader))
 
-module _ (reader : Reader) (s : Bytes) (c : Cursor) (r : Plain) (q : ReadsPlain s c.at 10 r) (v n : ℕ) (u : r ≡ plain.Got v n) where
-  pub literal-plain : Got v (record { at = n }) ≡ literal_at reader s c
+module _ (reader : Reader) (s : Bytes) (c : Cursor) (r : Option (Parsed ℕ)) (q : ReadsPlain s c.at 10 r) (p : Parsed ℕ) (u : r ≡ Some p) where
+  pub literal-plain : record { value = Some p.value; next = p.next } ≡ literal_at reader s c
   literal-plain =
-      let k : IsPlain s c.at 10 v n = rw u at q in
-      ap (λ (m : Number). literal_number m (record { at = n })) (sym (is-literal s c.at v n k reader)) ∙ ap (literal_line reader s c) (is-line s c.at v n k)
+      let k : IsPlain s c.at 10 p.value p.next.at = rw u at q in
+      rw (sym (is-literal s c.at p.value p.next.at k reader)) (ap (literal_line reader s c) (is-line s c.at p.value p.next.at k))

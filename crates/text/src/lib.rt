@@ -7,7 +7,7 @@ ghost use Rattle.scan.specs.Spans.{span};
 ghost use Rattle.text.specs.Lines.{line_at};
 ghost use Rattle.text.specs.Fields.{is_blank, in_field, field_from, field_at, first_field, is_header_word, has_header_word};
 ghost use Rattle.text.specs.Numbers.{long_zero};
-ghost use Rattle.text.specs.Literals.{taken_field, taken_at, literal_at};
+ghost use Rattle.text.specs.Literals.{taken_field, taken_at, literal_of, literal_at};
 ghost use Rattle.text.specs.Inner.PlainDigits.{IsRun, ReadsPlain};
 ghost use Rattle.text.specs.Texts.{limited, good_bytes, good_end, good_text};
 
@@ -21,30 +21,30 @@ pub enum Reader {
 }
 
 #[derive(Clone, Copy)]
-pub enum Number {
-    Value(u64),
-    Unreadable,
-}
-
-#[derive(Clone, Copy)]
 pub struct Cursor {
     pub at: usize,
 }
 
+// Where a line stands, without its byte 10, and the place of the next line.
 #[derive(Clone, Copy)]
-pub enum Line {
-    At {
-        start: usize,
-        end: usize,
-        next: Cursor,
-    },
-    None,
+pub struct Line {
+    pub start: usize,
+    pub end: usize,
+    pub next: Cursor,
 }
 
+// Where a field of a line stands.
 #[derive(Clone, Copy)]
-pub enum Field {
-    At { start: usize, end: usize },
-    None,
+pub struct Field {
+    pub start: usize,
+    pub end: usize,
+}
+
+// What was read of a text, and the place after it.
+#[derive(Clone, Copy)]
+pub struct Parsed<T> {
+    pub value: T,
+    pub next: Cursor,
 }
 
 // A number of a line, and where to go on in the line.
@@ -55,13 +55,6 @@ pub enum Taken {
     Missing,
 }
 
-// A number of plain digits, and the place after the byte behind them; or something else, which the longer way reads.
-#[derive(Clone, Copy)]
-pub enum Plain {
-    Got { value: u64, next: usize },
-    Other,
-}
-
 // Where digits of a line end, and the number that they write.
 #[derive(Clone, Copy)]
 struct Run {
@@ -69,35 +62,28 @@ struct Run {
     value: u64,
 }
 
-// The number of a line that has nothing else, and the place of the next line.
+// The number of a line that has one and nothing else; and the place of the next line, whether or not the line has.
 #[derive(Clone, Copy)]
-pub enum Literal {
-    Got { value: u64, next: Cursor },
-    Refused { next: Cursor },
+pub struct Literal {
+    pub value: Option<u64>,
+    pub next: Cursor,
 }
 
 // The line at a cursor, without its byte 10.
-pub fn next_line(s: &[u8], cursor: Cursor) -> Line
+pub fn next_line(s: &[u8], cursor: Cursor) -> Option<Line>
     ensures { result ≡ line_at s.now cursor.at }
 {
-    let at = cursor.at;
-    if s.len() <= at {
-        return Line::None;
+    let start = cursor.at;
+    if s.len() <= start {
+        return None;
     }
-    let end = scan::line_end(s, at);
-    if end < s.len() {
-        Line::At {
-            start: at,
-            end: end,
-            next: Cursor { at: end + 1 },
-        }
-    } else {
-        Line::At {
-            start: at,
-            end: end,
-            next: Cursor { at: end },
-        }
-    }
+    let end = scan::line_end(s, start);
+    let at = if end < s.len() { end + 1 } else { end };
+    Some(Line {
+        start,
+        end,
+        next: Cursor { at },
+    })
 }
 
 fn is_blank(b: u8) -> bool
@@ -148,29 +134,25 @@ fn field_end(l: &[u8], at: usize) -> usize
 }
 
 // The next field at or after a position of a line.
-pub fn next_field(l: &[u8], at: usize) -> Field
+pub fn next_field(l: &[u8], at: usize) -> Option<Field>
     ensures { result ≡ field_at l.now at }
 {
     let start = blanks_end(l, at);
-    if start < l.len() {
-        let end = field_end(l, start);
-        Field::At {
-            start: start,
-            end: end,
-        }
-    } else {
-        Field::None
+    if l.len() <= start {
+        return None;
     }
+    let end = field_end(l, start);
+    Some(Field { start, end })
 }
 
 // The first field of a line; empty where it has none.
 pub fn first_field(l: &[u8]) -> &[u8]
     ensures { result.now ≡ first_field l.now }
 {
-    let Field::At { start, end } = next_field(l, 0) else {
-        return &l[0..0];
+    let Some(field) = next_field(l, 0) else {
+        return &l[..0];
     };
-    &l[start..end]
+    &l[field.start..field.end]
 }
 
 // Whether a field is the header word.
@@ -193,13 +175,10 @@ fn any_number(reader: Reader, l: &[u8], start: usize) -> Taken
     ensures { result ≡ taken_field reader l.now (field_from l.now start) }
 {
     let end = field_end(l, start);
-    let Number::Value(v) = numbers::parse_for(reader, &l[start..end]) else {
+    let Some(value) = numbers::parse_for(reader, &l[start..end]) else {
         return Taken::Unreadable;
     };
-    Taken::Got {
-        value: v,
-        next: end,
-    }
+    Taken::Got { value, next: end }
 }
 
 // The digits from a place on and the number that they write: at most 18 of them, so that no digit needs a test for room.
@@ -237,29 +216,21 @@ fn long_zero(l: &[u8], at: usize, end: usize) -> bool
     false
 }
 
-// The number that plain digits from a place on write, where the byte `stop` follows them: one pass over the bytes, for texts in the
-// form in which circuits are printed.
-pub fn plain_number(s: &[u8], at: usize, stop: u8) -> Plain
-    ensures { ReadsPlain s.now at stop result }
+// The number that plain digits from a place on write, where the byte `stop` follows them, and the place behind that byte: one pass
+// over the bytes, for texts in the form in which circuits are printed. Anything else is left to the longer way.
+pub fn plain_number(s: &[u8], cursor: Cursor, stop: u8) -> Option<Parsed<u64>>
+    ensures { ReadsPlain s.now cursor.at stop result }
 {
+    let at = cursor.at;
     let run = digits_run(s, at);
     let end = run.end;
-    if s.len() <= end {
-        return Plain::Other;
+    if s.len() <= end || end <= at || long_zero(s, at, end) || s[end] != stop {
+        return None;
     }
-    if end <= at {
-        return Plain::Other;
-    }
-    if long_zero(s, at, end) {
-        return Plain::Other;
-    }
-    if s[end] == stop {
-        return Plain::Got {
-            value: run.value,
-            next: end + 1,
-        };
-    }
-    Plain::Other
+    Some(Parsed {
+        value: run.value,
+        next: Cursor { at: end + 1 },
+    })
 }
 
 // Whether no field goes on at a place of a line.
@@ -294,27 +265,32 @@ pub fn next_number(reader: Reader, l: &[u8], at: usize) -> Taken
     any_number(reader, l, start)
 }
 
+// The number of a line that has one and nothing else.
+pub fn line_literal(reader: Reader, l: &[u8]) -> Option<u64>
+    ensures { result ≡ literal_of reader l.now }
+{
+    let Taken::Got { value, next } = next_number(reader, l, 0) else {
+        return None;
+    };
+    if next_field(l, next).is_some() {
+        return None;
+    }
+    Some(value)
+}
+
 // The number of the line at a cursor, which has nothing else, in whatever form; the line is passed also when it is refused.
 fn any_literal(reader: Reader, s: &[u8], cursor: Cursor) -> Literal
     ensures { result ≡ literal_at reader s.now cursor }
 {
-    let Line::At { start, end, next } = next_line(s, cursor) else {
-        return Literal::Refused { next: cursor };
+    let Some(line) = next_line(s, cursor) else {
+        return Literal {
+            value: None,
+            next: cursor,
+        };
     };
-    let l = &s[start..end];
-    let taken = next_number(reader, l, 0);
-    match taken {
-        Taken::Got { value, next: at } => {
-            let Field::None = next_field(l, at) else {
-                return Literal::Refused { next: next };
-            };
-            Literal::Got {
-                value: value,
-                next: next,
-            }
-        }
-        Taken::Unreadable => Literal::Refused { next: next },
-        Taken::Missing => Literal::Refused { next: next },
+    Literal {
+        value: line_literal(reader, &s[line.start..line.end]),
+        next: line.next,
     }
 }
 
@@ -322,12 +298,12 @@ fn any_literal(reader: Reader, s: &[u8], cursor: Cursor) -> Literal
 pub fn take_literal(reader: Reader, s: &[u8], cursor: Cursor) -> Literal
     ensures { result ≡ literal_at reader s.now cursor }
 {
-    let Plain::Got { value, next } = plain_number(s, cursor.at, 10) else {
+    let Some(number) = plain_number(s, cursor, 10) else {
         return any_literal(reader, s, cursor);
     };
-    Literal::Got {
-        value: value,
-        next: Cursor { at: next },
+    Literal {
+        value: Some(number.value),
+        next: number.next,
     }
 }
 

@@ -2,7 +2,7 @@
 ghost use Rattle.std.specs.Prelude.{◌≡◌, drop};
 ghost use Rattle.text.specs.Numbers.{digits_after, digits_of, unsigned, number_of};
 
-use super::{Number, Reader};
+use super::Reader;
 
 // A byte as a wider number.
 pub fn wide(x: u8) -> u64
@@ -22,30 +22,30 @@ fn zeros_end(f: &[u8], at: usize) -> usize
 }
 
 // The digits of f from a position on.
-fn digits(f: &[u8], at: usize) -> Number
+fn digits(f: &[u8], at: usize) -> Option<u64>
     ensures { result ≡ digits_of (drop at f.now) }
 {
     if f.len() <= at {
-        return Number::Unreadable;
+        return None;
     }
     let mut v: u64 = 0;
     let mut i = zeros_end(f, at);
     while i < f.len() {
         let b = f[i];
         if b < 48 {
-            return Number::Unreadable;
+            return None;
         }
         if 57 < b {
-            return Number::Unreadable;
+            return None;
         }
         let d = wide(b) - 48;
         if (18446744073709551615 - d) / 10 < v {
-            return Number::Unreadable;
+            return None;
         }
         v = v * 10 + d;
         i += 1;
     }
-    Number::Value(v)
+    Some(v)
 }
 
 // Where the digits of a field begin: behind a plus sign, if it has one (R1.2).
@@ -62,27 +62,27 @@ fn sign_end(f: &[u8]) -> usize
 }
 
 // The transition reader's number (R1.4).
-pub fn parse_usize(f: &[u8]) -> Number
+pub fn parse_usize(f: &[u8]) -> Option<u64>
     ensures { result ≡ number_of Reader.Transition f.now }
 {
     digits(f, sign_end(f))
 }
 
 // The witness reader's number (R1.3).
-pub fn parse_number(f: &[u8]) -> Number
+pub fn parse_number(f: &[u8]) -> Option<u64>
     ensures { result ≡ number_of Reader.Witness f.now }
 {
     if f.len() < 2 {
         return parse_usize(f);
     }
     if f[0] == 48 {
-        return Number::Unreadable;
+        return None;
     }
     parse_usize(f)
 }
 
 // The number that a field writes for a reader.
-pub fn parse_for(reader: Reader, f: &[u8]) -> Number
+pub fn parse_for(reader: Reader, f: &[u8]) -> Option<u64>
     ensures { result ≡ number_of reader f.now }
 {
     match reader {

@@ -1,9 +1,9 @@
 -- Printed fields, numbers and lines read back: R1 and R2 find what was printed.
+use Rattle.std.specs.Prelude.{Some}
 use Prim.Native.Nat.{ℕ, ◌^◌, ◌<◌}
 use mathlib.Core.Path.{◌≡◌, refl, ap, ◌∙◌}
 use mathlib.Core.Bool.{Bool, true}
 use mathlib.Core.List.{List, [], ◌∷◌, ◌++◌, map}
-use mathlib.Core.Option.{some}
 use Rattle.lists.specs.Parts.{Bytes}
 use Rattle.lists.specs.Tests.{all, Each}
 use Rattle.lists.proofs.TestLaws.{all_append}
@@ -36,12 +36,12 @@ all_fields : (ns : List ℕ) → Each IsField (map decimal ns)
 all_fields [] = tt
 all_fields (n ∷ ns) = (decimal-field n, all_fields ns)
 
-numbers-back : (reader : Reader) (ns : List ℕ) → Each (λ n. n < 2 ^ 64) ns → numbers_of reader (map decimal ns) ≡ some ns
+numbers-back : (reader : Reader) (ns : List ℕ) → Each (λ n. n < 2 ^ 64) ns → numbers_of reader (map decimal ns) ≡ Some ns
 numbers-back reader [] e = refl
 numbers-back reader (n ∷ ns) e = rw (decimal_read reader n e.0, numbers-back reader ns e.1)
 
 -- both readers find the numbers of a printed line
-pub number-line-back : (reader : Reader) (ns : List ℕ) → Each (λ n. n < 2 ^ 64) ns → numbers_of reader (fields_of (number_line ns)) ≡ some ns
+pub number-line-back : (reader : Reader) (ns : List ℕ) → Each (λ n. n < 2 ^ 64) ns → numbers_of reader (fields_of (number_line ns)) ≡ Some ns
 number-line-back reader ns e = ap (numbers_of reader) (fields_back (map decimal ns) (all_fields ns)) ∙ numbers-back reader ns e
 
 -- ---- lines

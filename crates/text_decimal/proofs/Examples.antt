@@ -1,8 +1,8 @@
 -- Worked examples of the definitions. (`decimal-zero` of DecimalLaws is the first.)
+use Rattle.std.specs.Prelude.{Some, None}
 use mathlib.Core.Path.{◌≡◌, refl}
 use mathlib.Core.List.{[], ◌∷◌}
 use Rattle.lists.specs.Quoted.{bytes}
-use Rattle.text_decimal.specs.declared.Written.TheVariants.{Next, NoRoom}
 use Rattle.text_decimal.specs.Decimal.{decimal}
 use Rattle.text_decimal.specs.Printed.{number_line, text_of}
 use Rattle.text_decimal.specs.Inner.Writing.{written, written_at}
@@ -34,7 +34,7 @@ pub fits : written (1 ∷ 2 ∷ 3 ∷ []) 1 (8 ∷ 9 ∷ []) ≡ 1 ∷ 8 ∷ 9 �
 unfolding written
 fits = refl
 
-pub fits-answer : written_at 3 1 (8 ∷ 9 ∷ []) ≡ Next 3
+pub fits-answer : written_at 3 1 (8 ∷ 9 ∷ []) ≡ Some 3
 unfolding written_at
 fits-answer = refl
 
@@ -42,6 +42,6 @@ pub too_long : written (1 ∷ 2 ∷ 3 ∷ []) 2 (8 ∷ 9 ∷ []) ≡ 1 ∷ 2 ∷
 unfolding written
 too_long = refl
 
-pub too_long_answer : written_at 3 2 (8 ∷ 9 ∷ []) ≡ NoRoom
+pub too_long_answer : written_at 3 2 (8 ∷ 9 ∷ []) ≡ None
 unfolding written_at
 too_long_answer = refl

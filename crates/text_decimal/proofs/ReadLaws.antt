@@ -1,4 +1,5 @@
 -- The digits of a number read back: R1 takes them, and they are plain bytes of one field of one line.
+use Rattle.std.specs.Prelude.{Some}
 use Prim.Native.Nat.{ℕ, zero, suc, ◌+◌, ◌/◌, ◌%◌, ◌^◌, ◌<◌}
 use mathlib.Core.Path.{◌≡◌, sym, ap, ◌∙◌}
 use mathlib.Core.Bool.{true}
@@ -7,7 +8,6 @@ use borrow.Author.Tests.{lt-ltb, le-leb, lt-leb, ne_eqb}
 use Rattle.lists.specs.Tests.{all}
 use Rattle.text.specs.declared.Reader.{Reader}
 use Rattle.text.specs.declared.Reader.TheVariants.{Transition, Witness}
-use Rattle.text.specs.declared.Number.TheVariants.{Value}
 use Rattle.text.specs.Numbers.{is_digit, tenfold, digits_after, number_of}
 use Rattle.scan.specs.Spans.{in_line}
 use Rattle.text.specs.Fields.{in_field}
@@ -49,11 +49,11 @@ decimal-value =
 pub decimal_injective : (m n : ℕ) → decimal m ≡ decimal n → m ≡ n
 decimal_injective m n e = sym (decimal-value m) ∙ ap (tenfold 0) e ∙ decimal-value n
 
-read_digits : (n : ℕ) → n < 2 ^ 64 → digits_after 0 (decimal n) ≡ Value n
+read_digits : (n : ℕ) → n < 2 ^ 64 → digits_after 0 (decimal n) ≡ Some n
 read_digits n h = rw (decimal-digits n, decimal-value n, lt-ltb n (2 ^ 64) h)
 
 -- both readers take the digits for the number
-pub decimal_read : (reader : Reader) (n : ℕ) → n < 2 ^ 64 → number_of reader (decimal n) ≡ Value n
+pub decimal_read : (reader : Reader) (n : ℕ) → n < 2 ^ 64 → number_of reader (decimal n) ≡ Some n
 decimal_read reader zero h = rw decimal-zero (number_of_zero reader)
 decimal_read reader (suc n) h =
     let r = decimal-lead (suc n) (omega arith) in

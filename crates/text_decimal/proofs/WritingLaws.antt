@@ -1,4 +1,5 @@
 -- A buffer while bytes are stored in it, and the answers of the functions that write.
+use Rattle.std.specs.Prelude.{Option, Some, None}
 use Prim.Native.Nat.{ℕ, suc, ◌+◌, ◌-◌, ◌/◌, ◌%◌, ◌≤◌, ◌<◌, ◌^◌}
 use mathlib.Core.Path.{◌≡◌, refl, sym, ap, ◌∙◌}
 use mathlib.Core.Bool.{Bool, true, false, cond}
@@ -11,10 +12,7 @@ use lib.Seq.{drop-cons, append_snoc, get_or-set_same, take-set-le, drop-set-lt}
 use Rattle.lists.specs.Parts.{Bytes, part, put}
 use Rattle.lists.proofs.PartLaws.{put-none, put_one, put-part}
 use Rattle.text.specs.declared.Reader.{Reader}
-use Rattle.text.specs.declared.Number.TheVariants.{Value}
 use Rattle.text.specs.Numbers.{number_of}
-use Rattle.text_decimal.specs.declared.Written.{Written}
-use Rattle.text_decimal.specs.declared.Written.TheVariants.{Next, NoRoom}
 use Rattle.text_decimal.specs.Decimal.{decimal}
 use Rattle.text_decimal.specs.Inner.Writing.{written_at, written, Wrote}
 use Rattle.text_decimal.proofs.ReadLaws.{decimal_read}
@@ -23,12 +21,12 @@ use Rattle.text_decimal.proofs.FigureLaws.{figures, figures_length, decimal_figu
 -- ---- the answers
 
 module _ (o : Bytes) (at : ℕ) (bytes : Bytes) where
-  pub no_room : length o < at + length bytes → (NoRoom ≡ written_at (length o) at bytes) × (o ≡ written o at bytes)
+  pub no_room : length o < at + length bytes → (None ≡ written_at (length o) at bytes) × (o ≡ written o at bytes)
   unfolding written_at written
   no_room h = (rw (lt-leb (at + length bytes) (length o) h), rw (lt-leb (at + length bytes) (length o) h))
 
   pub room : (o' : Bytes) (size : ℕ) → size ≡ length bytes → at + size ≤ length o → o' ≡ put o at bytes
-      → (Next (at + size) ≡ written_at (length o) at bytes) × (o' ≡ written o at bytes)
+      → (Some (at + size) ≡ written_at (length o) at bytes) × (o' ≡ written o at bytes)
   unfolding written_at written
   room o' size n h e =
       let fits : leb (at + length bytes) (length o) ≡ true = le-leb (at + length bytes) (length o) (omega arith) in
@@ -40,13 +38,13 @@ pub record Kept (o : Bytes) (at : ℕ) (bytes o' : Bytes) : Type 0 where
   pub over : length o < at + length bytes
   pub is : o' ≡ o
 
-module _ (o : Bytes) (at : ℕ) (bytes o' : Bytes) (r : Written) where
-  pub wrote : (next : ℕ) → r ≡ written_at (length o) at bytes → o' ≡ written o at bytes → r ≡ Next next → Wrote o at bytes o' next
+module _ (o : Bytes) (at : ℕ) (bytes o' : Bytes) (r : Option ℕ) where
+  pub wrote : (next : ℕ) → r ≡ written_at (length o) at bytes → o' ≡ written o at bytes → r ≡ Some next → Wrote o at bytes o' next
   unfolding written_at written
   wrote next e k m = by-room (leb (at + length bytes) (length o)) refl e k
     where
       by-room :
-          (q : Bool) → leb (at + length bytes) (length o) ≡ q → r ≡ cond q (Next (at + length bytes)) NoRoom → o' ≡ cond q (put o at bytes) o
+          (q : Bool) → leb (at + length bytes) (length o) ≡ q → r ≡ cond q (Some (at + length bytes)) None → o' ≡ cond q (put o at bytes) o
           → Wrote o at bytes o' next
       by-room true t e k =
           let n : next ≡ at + length bytes = cc in
@@ -55,12 +53,12 @@ module _ (o : Bytes) (at : ℕ) (bytes o' : Bytes) (r : Written) where
           let never : ◌≡◌ {A = ℕ} 0 1 = cc in
           absurd (omega arith)
 
-  pub kept : r ≡ written_at (length o) at bytes → o' ≡ written o at bytes → r ≡ NoRoom → Kept o at bytes o'
+  pub kept : r ≡ written_at (length o) at bytes → o' ≡ written o at bytes → r ≡ None → Kept o at bytes o'
   unfolding written_at written
   kept e k m = by-room (leb (at + length bytes) (length o)) refl e k
     where
       by-room :
-          (q : Bool) → leb (at + length bytes) (length o) ≡ q → r ≡ cond q (Next (at + length bytes)) NoRoom → o' ≡ cond q (put o at bytes) o
+          (q : Bool) → leb (at + length bytes) (length o) ≡ q → r ≡ cond q (Some (at + length bytes)) None → o' ≡ cond q (put o at bytes) o
           → Kept o at bytes o'
       by-room true t e k =
           let never : ◌≡◌ {A = ℕ} 0 1 = cc in
@@ -72,13 +70,13 @@ module _ (o : Bytes) (at : ℕ) (o' : Bytes) (next : ℕ) where
   pub wrote-part : (bytes : Bytes) → Wrote o at bytes o' next → part o' at next ≡ bytes
   wrote-part bytes w = rw (w.is, w.after) (put-part o at bytes (omega (arith, w.fits, w.after)))
 
-  pub wrote-reads : (reader : Reader) (n : ℕ) → n < 2 ^ 64 → Wrote o at (decimal n) o' next → number_of reader (part o' at next) ≡ Value n
+  pub wrote-reads : (reader : Reader) (n : ℕ) → n < 2 ^ 64 → Wrote o at (decimal n) o' next → number_of reader (part o' at next) ≡ Some n
   wrote-reads reader n h w = rw (wrote-part (decimal n) w) (decimal_read reader n h)
 
 -- ---- parts of the buffer
 
 module _ (o : Bytes) (at : ℕ) where
-  pub room_for_byte : (b : ℕ) → at < length o → (Next (at + 1) ≡ written_at (length o) at (b ∷ [])) × (set o at b ≡ written o at (b ∷ []))
+  pub room_for_byte : (b : ℕ) → at < length o → (Some (at + 1) ≡ written_at (length o) at (b ∷ [])) × (set o at b ≡ written o at (b ∷ []))
   room_for_byte b h = room o at (b ∷ []) (set o at b) 1 refl (omega arith) (sym (put_one o at b h))
 
   drop-stored : (b : ℕ) → at < length o → drop at (set o at b) ≡ b ∷ drop (suc at) o

@@ -1,4 +1,5 @@
 -- Laws of `Prints`: texts printed one after the other, and `Printing`, a loop that prints.
+use Rattle.std.specs.Prelude.{Option, Some, None}
 use Prim.Native.Nat.{ℕ, ◌+◌, ◌≤◌, ◌<◌}
 use mathlib.Core.Path.{◌≡◌, refl, sym, ap, ◌∙◌}
 use mathlib.Core.List.{[], ◌++◌, append_assoc, append-nil}
@@ -6,8 +7,6 @@ use native.Mathlib.Omega.{arith}
 use lib.ListN.{length, length-append}
 use Rattle.lists.specs.Parts.{Bytes, put}
 use Rattle.lists.proofs.PartLaws.{put-none, put-put}
-use Rattle.text_decimal.specs.declared.Written.{Written}
-use Rattle.text_decimal.specs.declared.Written.TheVariants.{Next, NoRoom}
 use Rattle.text_decimal.specs.Inner.Writing.{written_at, written}
 use Rattle.text_decimal.proofs.WritingLaws.{wrote, kept}
 use Rattle.text_print.specs.Inner.Prints.{capped, Prints}
@@ -32,13 +31,13 @@ module _ (o : Bytes) (at : ℕ) where
     prints-put o' h e = record { next = omega arith; stands = λ k. e }
 
   -- the answers of the functions that write
-  module _ (bytes o' : Bytes) (answer : Written) (e : answer ≡ written_at (length o) at bytes) (k : o' ≡ written o at bytes) where
-    pub prints-wrote : (next : ℕ) → answer ≡ Next next → Word (length o) → Prints o at bytes o' next
+  module _ (bytes o' : Bytes) (answer : Option ℕ) (e : answer ≡ written_at (length o) at bytes) (k : o' ≡ written o at bytes) where
+    pub prints-wrote : (next : ℕ) → answer ≡ Some next → Word (length o) → Prints o at bytes o' next
     prints-wrote next m h =
         let w = wrote o at bytes o' answer next e k m in
         record { next = omega (arith, w.after, w.fits); stands = λ j. w.is }
 
-    pub prints-kept : (r : ℕ) → answer ≡ NoRoom → r ≡ capped (at + length bytes) → Prints o at bytes o' r
+    pub prints-kept : (r : ℕ) → answer ≡ None → r ≡ capped (at + length bytes) → Prints o at bytes o' r
     prints-kept r m c =
         let w = kept o at bytes o' answer e k m in
         record { next = c; stands = λ j. absurd (omega (arith, w.over)) }

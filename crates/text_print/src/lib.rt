@@ -10,7 +10,6 @@ ghost use Rattle.text_print.specs.Inner.Lines.{literal_lines, literals_from, gat
 ghost use Rattle.text_print.specs.Inner.DigitPairs.{digit_pairs};
 ghost use Rattle.text_print.specs.Inner.Elements.{elements, elements_in};
 
-use text_decimal::Written;
 
 // The place n bytes further on. Places that no word can hold are the largest word.
 pub fn advance(at: usize, n: usize) -> usize
@@ -27,7 +26,7 @@ pub fn advance(at: usize, n: usize) -> usize
 pub fn print_byte(out: &mut [u8], at: usize, b: u8) -> usize
     ensures { Prints out.old at (b ∷ []) out.new result }
 {
-    let Written::Next(end) = text_decimal::write_byte(out, at, b) else {
+    let Some(end) = text_decimal::write_byte(out, at, b) else {
         return advance(at, 1);
     };
     end
@@ -37,7 +36,7 @@ pub fn print_byte(out: &mut [u8], at: usize, b: u8) -> usize
 pub fn print_bytes(out: &mut [u8], at: usize, bytes: &[u8]) -> usize
     ensures { Prints out.old at bytes.now out.new result }
 {
-    let Written::Next(end) = text_decimal::write_bytes(out, at, bytes) else {
+    let Some(end) = text_decimal::write_bytes(out, at, bytes) else {
         return advance(at, bytes.len());
     };
     end

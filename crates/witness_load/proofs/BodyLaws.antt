@@ -1,4 +1,5 @@
 -- The sections of a body one by one, and their literals stored one after the other.
+use Rattle.std.specs.Prelude.{Option, Some, None}
 use Prim.Native.Nat.{ℕ, ◌+◌, ◌*◌, ◌≤◌}
 use mathlib.Core.List.{List, ◌++◌, append_assoc}
 use mathlib.Core.Path.{◌≡◌, refl, sym, ap, ◌∙◌}
@@ -15,8 +16,6 @@ use Rattle.text.specs.declared.Reader.TheVariants.{Witness}
 use Rattle.aiger.specs.declared.Gate.{Gate}
 use Rattle.aiger.specs.Sections.{Section, section}
 use Rattle.aiger.proofs.SectionLaws.{section_of, same-items, same_rest, section-length, section-rest, section-join}
-use Rattle.circuit_lines.specs.declared.SectionEnd.{SectionEnd}
-use Rattle.circuit_lines.specs.declared.SectionEnd.TheVariants as section-end
 use Rattle.circuit_lines.specs.SectionLines.{literal_line, gate_line}
 use Rattle.circuit_lines.specs.Inner.Takes.{lines_from}
 use Rattle.witness_text.specs.declared.AagCounts.{AagCounts}
@@ -38,26 +37,26 @@ middle n ls d p =
 
 -- ---- load_rest
 
-module _ (s : Bytes) (c : Cursor) (n : AagCounts) (at : ℕ) (o₀ o₁ : List ℕ) (r₁ : SectionEnd) (k₁ : LoadsSection (literal_line Witness) literal_word s c (literal_count n) o₀ at o₁ r₁) where
-  pub rest_no_literals : r₁ ≡ section-end.Bad → (e : Cursor) → LoadsRest s c n o₀ at o₁ e
+module _ (s : Bytes) (c : Cursor) (n : AagCounts) (at : ℕ) (o₀ o₁ : List ℕ) (r₁ : Option Cursor) (k₁ : LoadsSection (literal_line Witness) literal_word s c (literal_count n) o₀ at o₁ r₁) where
+  pub rest_no_literals : r₁ ≡ None → (e : Cursor) → LoadsRest s c n o₀ at o₁ e
   rest_no_literals u e x y f g = got-refused f (rw u at k₁)
 
-  module _ (c₁ : Cursor) (u₁ : r₁ ≡ section-end.At c₁) where
+  module _ (c₁ : Cursor) (u₁ : r₁ ≡ Some c₁) where
     stored₁ : Stored (literal_line Witness) literal_word s c (literal_count n) o₀ at o₁ c₁
     stored₁ = rw u₁ at k₁
 
     same₁ : (x : Section ℕ) → section (literal_line Witness) (literal_count n) (lines_from s c) ≡ got x → section_of stored₁.items (lines_from s c₁) ≡ got x
     same₁ x f = sym stored₁.takes ∙ f
 
-    module _ (o₂ : List ℕ) (r₂ : SectionEnd) (k₂ : LoadsSection (gate_line Witness) operand_words s c₁ n.gates o₁ (at + literal_count n) o₂ r₂) where
+    module _ (o₂ : List ℕ) (r₂ : Option Cursor) (k₂ : LoadsSection (gate_line Witness) operand_words s c₁ n.gates o₁ (at + literal_count n) o₂ r₂) where
       gates-are : (x : Section ℕ) (y : Section Gate) → section (literal_line Witness) (literal_count n) (lines_from s c) ≡ got x → section (gate_line Witness) n.gates x.rest ≡ got y
           → section (gate_line Witness) n.gates (lines_from s c₁) ≡ got y
       gates-are x y f g = ap (section (gate_line Witness) n.gates) (same_rest stored₁.items x.items (lines_from s c₁) x.rest (same₁ x f)) ∙ g
 
-      pub rest_no_gates : r₂ ≡ section-end.Bad → (e : Cursor) → LoadsRest s c n o₀ at o₂ e
+      pub rest_no_gates : r₂ ≡ None → (e : Cursor) → LoadsRest s c n o₀ at o₂ e
       rest_no_gates u e x y f g = got-refused (gates-are x y f g) (rw u at k₂)
 
-      pub rest-loaded : at + rest_room n ≤ length o₀ → (c₂ : Cursor) → r₂ ≡ section-end.At c₂ → LoadsRest s c n o₀ at o₂ c₂
+      pub rest-loaded : at + rest_room n ≤ length o₀ → (c₂ : Cursor) → r₂ ≡ Some c₂ → LoadsRest s c n o₀ at o₂ c₂
       rest-loaded h c₂ u x y f g =
           let k : Stored (gate_line Witness) operand_words s c₁ n.gates o₁ (at + literal_count n) o₂ c₂ = rw u at k₂ in
           let same₂ : section_of k.items (lines_from s c₂) ≡ got y = sym k.takes ∙ gates-are x y f g in
@@ -70,15 +69,15 @@ module _ (s : Bytes) (c : Cursor) (n : AagCounts) (at : ℕ) (o₀ o₁ : List �
 -- ---- load_body
 
 module _ (s : Bytes) (c : Cursor) (n : AagCounts) (at : ℕ) (o₀ : List ℕ) (c₁ : Cursor) (q₁ : lines_from s c₁ ≡ drop n.inputs (lines_from s c))
-    (o₁ : List ℕ) (r₁ : SectionEnd) (k₁ : LoadsSection latch_line stored_words s c₁ n.latches o₀ at o₁ r₁) where
+    (o₁ : List ℕ) (r₁ : Option Cursor) (k₁ : LoadsSection latch_line stored_words s c₁ n.latches o₀ at o₁ r₁) where
   latches-are : (d : Body) (p : Parts n (lines_from s c) d) → section latch_line n.latches (lines_from s c₁) ≡ section_of d.latches p.after-latches
   latches-are d p =
       ap (section latch_line n.latches) (q₁ ∙ sym (section-rest (literal_line Witness) n.inputs (lines_from s c) d.inputs p.after-inputs p.inputs)) ∙ p.latches
 
-  pub body_no_latches : r₁ ≡ section-end.Bad → (e : Cursor) → LoadsBody s c n o₀ at o₁ e
+  pub body_no_latches : r₁ ≡ None → (e : Cursor) → LoadsBody s c n o₀ at o₁ e
   body_no_latches u e d h = got-refused (latches-are d (body-parts n (lines_from s c) d h)) (rw u at k₁)
 
-  pub body-loaded : at + body_room n ≤ length o₀ → (c₂ : Cursor) → r₁ ≡ section-end.At c₂ → (o₂ : List ℕ) (e : Cursor) → LoadsRest s c₂ n o₁ (at + 2 * n.latches) o₂ e
+  pub body-loaded : at + body_room n ≤ length o₀ → (c₂ : Cursor) → r₁ ≡ Some c₂ → (o₂ : List ℕ) (e : Cursor) → LoadsRest s c₂ n o₁ (at + 2 * n.latches) o₂ e
       → LoadsBody s c n o₀ at o₂ e
   body-loaded b c₂ u o₂ e k d h =
       let p = body-parts n (lines_from s c) d h in

@@ -1,5 +1,6 @@
 -- Laws for the call that reads a text and loads it: room for the words, and what it returns.
-use Prim.Native.Nat.{ℕ, ◌+◌, ◌-◌, ◌*◌, ◌≤◌, ◌<◌}
+use Rattle.std.specs.Prelude.{ℕ, ◌+◌, ◌-◌, ◌*◌, ◌≤◌, ◌<◌, Result, Ok, Err}
+use Rattle.std.specs.Result.{IsErrAnd}
 use mathlib.Core.Bool.{Bool, true, false, not}
 use mathlib.Core.List.{List}
 use mathlib.Core.Path.{◌≡◌, refl, sym, ap, ◌∙◌}
@@ -10,17 +11,19 @@ use lib.ListN.{length}
 use Rattle.lists.specs.Answer.{got, refused}
 use Rattle.lists.specs.Parts.{Bytes}
 use Rattle.text.specs.Texts.{limited}
+use Rattle.aiger.specs.declared.Refusal.{Refusal}
+use Rattle.aiger.specs.declared.Refusal.TheVariants.{ResultRoom}
+use Rattle.aiger.specs.Refusals.{refusal_number}
+use Rattle.aiger.proofs.AnsweredLaws.{answered-err}
 use Rattle.witness_text.specs.declared.AagCounts.{AagCounts}
 use Rattle.witness_text.specs.Header.{counted}
 use Rattle.witness_text.proofs.CountLaws.{counts-gates}
-use Rattle.witness_read.specs.declared.ReadAag.{ReadAag}
 use Rattle.witness_read.specs.Sections.{Sections}
 use Rattle.witness_read.specs.Reading.{read_aag, counts_in, counts_read}
 use Rattle.witness_read.proofs.AcceptedLaws.{read_accepted, read_got, read_refused}
 use Rattle.witness_load.specs.Inner.Loaded.{word_count, Loads}
 use Rattle.witness_load.specs.Inner.Loading.{leaf_words, body_room, HasRoom, Loadable, LoadsText}
 use Rattle.witness_load.proofs.TextLaws.{words-counted}
-use Rattle.witness_read.specs.declared.ReadAag.TheVariants as read
 
 -- ---- has_room
 
@@ -71,15 +74,16 @@ module _ (n : AagCounts) (h : counted limited n ≡ true) where
 
 -- ---- load_aag
 
-module _ (s : Bytes) (witness : Bool) (w : List ℕ) (r : ReadAag) (q : r ≡ counts_read (read_aag limited witness s)) where
-  pub call_refused : (k : ℕ) → r ≡ read.Refused k → Loads s (read_aag limited witness s) w w (read.Refused k)
-  call_refused k e =
-      let f : read_aag limited witness s ≡ refused k = read_refused (read_aag limited witness s) k (sym e ∙ q) in
-      record { returns = rw f; words = rw f refl }
+module _ (s : Bytes) (witness : Bool) (w : List ℕ) where
+  pub call_refused : (m : Refusal) → refused (refusal_number m) ≡ counts_read (read_aag limited witness s) → (r : Result AagCounts Refusal) → IsErrAnd r (λ k. k ≡ m)
+      → Loads s (read_aag limited witness s) w w r
+  call_refused m q r h =
+      let f : read_aag limited witness s ≡ refused (refusal_number m) = read_refused (read_aag limited witness s) (refusal_number m) q in
+      record { returns = answered-err m r h ∙ rw f refl; words = rw f refl }
 
-  module _ (n : AagCounts) (e : r ≡ read.Got n) where
+  module _ (n : AagCounts) (q : got n ≡ counts_read (read_aag limited witness s)) where
     accepted : (x : Sections) × (read_aag limited witness s ≡ got x) × (n ≡ counts_in x)
-    accepted = read_got (read_aag limited witness s) n (sym e ∙ q)
+    accepted = read_got (read_aag limited witness s) n q
 
     needed : word_count accepted.0 ≡ leaf_words n + body_room n
     needed = words-counted accepted.0 ∙ ap (λ (m : AagCounts). leaf_words m + body_room m) (sym accepted.2)
@@ -88,7 +92,7 @@ module _ (s : Bytes) (witness : Bool) (w : List ℕ) (r : ReadAag) (q : r ≡ co
     call_counted = ap (counted limited) accepted.2 ∙ (read_accepted limited witness s accepted.0 accepted.1).limits
 
     module _ (b : Bool) (p : b ≡ leb (leaf_words n + body_room n) (length w)) where
-      pub call_no_room : not b ≡ true → Loads s (read_aag limited witness s) w w (read.Refused 20)
+      pub call_no_room : not b ≡ true → Loads s (read_aag limited witness s) w w (Err ResultRoom)
       call_no_room h =
           let f : leb (word_count accepted.0) (length w) ≡ false = rw needed (sym p ∙ not-true b h) in
           record { returns = rw (accepted.1, f); words = rw (accepted.1, f) refl }
@@ -103,9 +107,9 @@ module _ (s : Bytes) (witness : Bool) (w : List ℕ) (r : ReadAag) (q : r ≡ co
         pub call_loadable : Loadable s n w
         call_loadable = record { sections = accepted.0; accepted = has_room }
 
-        pub call_loaded : (w' : List ℕ) → LoadsText s n w w' → Loads s (read_aag limited witness s) w w' (read.Got n)
+        pub call_loaded : (w' : List ℕ) → LoadsText s n w w' → Loads s (read_aag limited witness s) w w' (Ok n)
         call_loaded w' l =
             record {
-              returns = rw (accepted.1, room) (ap read.Got accepted.2);
+              returns = rw (accepted.1, room) (ap got accepted.2);
               words = rw (accepted.1, room) (l accepted.0 has_room);
             }

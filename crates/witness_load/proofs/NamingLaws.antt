@@ -1,4 +1,5 @@
 -- The loop over the symbol lines: the words say the names of those that are passed.
+use Rattle.std.specs.Prelude.{Option, Some, None}
 use Prim.Native.Nat.{ℕ, ◌<◌}
 use mathlib.Core.Bool.{Bool, true, false}
 use mathlib.Core.List.{List, [], ◌∷◌, ◌++◌, map, append_assoc, append-nil}
@@ -15,7 +16,6 @@ use Rattle.lists.proofs.BoolLaws.{and_left, and_right}
 use Rattle.lists.proofs.ZeroLaws.{zeros-length}
 use Rattle.text.specs.declared.Cursor.{Cursor}
 use Rattle.text.specs.declared.Line.{Line}
-use Rattle.text.specs.declared.Line.TheVariants as line
 use Rattle.text.specs.Lines.{line_at}
 use Rattle.text.proofs.LineLaws.{lines_none, lines-some, line-starts, line-moves}
 use Rattle.circuit_lines.specs.Inner.Takes.{lines_from}
@@ -60,34 +60,34 @@ module _ (s : Bytes) (c : Cursor) (n : AagCounts) where
         let all : t.symbols ≡ d.done = d.is ∙ ap (λ (l : List Symbol). d.done ++ l) (ap (λ (y : Tail). y.symbols) (sym same) ∙ z) ∙ append-nil d.done in
         d.names ∙ ap (λ (l : List Symbol). map some (leaf_names n l)) (sym all)
 
-    module _ (r : Line) (q : r ≡ line_at s p.at) where
-      pub names-end : r ≡ line.None → LoadsNames s c n o
+    module _ (r : Option Line) (q : r ≡ line_at s p.at) where
+      pub names-end : r ≡ None → LoadsNames s c n o
       names-end u = ended (record { symbols = []; comments = [] }) (ap (tail_of n) (lines_none s p.at r q u)) refl
 
-      pub names-starts : (a e : ℕ) (m : Cursor) → r ≡ line.At a e m → 0 < a
-      names-starts a e m u = omega (arith, k.passed, line-starts s p.at r q a e m u)
+      pub names-starts : (f : Line) → r ≡ Some f → 0 < f.start
+      names-starts f u = omega (arith, k.passed, line-starts s p.at r q f u)
 
-      module _ (a e : ℕ) (m : Cursor) (u : r ≡ line.At a e m) (b : Bool) (v : b ≡ ends_symbols (part s a e)) where
+      module _ (f : Line) (u : r ≡ Some f) (b : Bool) (v : b ≡ ends_symbols (part s f.start f.end)) where
         pub names-stop : b ≡ true → LoadsNames s c n o
-        names-stop w = ended (record { symbols = []; comments = lines_from s m }) (ap (tail_of n) (lines-some s p.at r q a e m u) ∙ tail-comments n (part s a e) (lines_from s m) (sym v ∙ w)) refl
+        names-stop w = ended (record { symbols = []; comments = lines_from s f.next }) (ap (tail_of n) (lines-some s p.at r q f u) ∙ tail-comments n (part s f.start f.end) (lines_from s f.next) (sym v ∙ w)) refl
 
-        module _ (w : b ≡ false) (o' : List ℕ) (y : Bool) (j : NamesLine s (part s a e) n o o' y) where
-          first : (x : Answer Symbol) → symbol_of n (part s a e) ≡ x → tail_of n (lines_from s p) ≡ and_then x (λ z. and_then (tail_of n (lines_from s m)) (with_symbol z))
-          first x f = ap (tail_of n) (lines-some s p.at r q a e m u) ∙ tail-symbol n (part s a e) (lines_from s m) (sym v ∙ w) x f
+        module _ (w : b ≡ false) (o' : List ℕ) (y : Bool) (j : NamesLine s (part s f.start f.end) n o o' y) where
+          first : (x : Answer Symbol) → symbol_of n (part s f.start f.end) ≡ x → tail_of n (lines_from s p) ≡ and_then x (λ z. and_then (tail_of n (lines_from s f.next)) (with_symbol z))
+          first x h = ap (tail_of n) (lines-some s p.at r q f u) ∙ tail-symbol n (part s f.start f.end) (lines_from s f.next) (sym v ∙ w) x h
 
           pub names-refused : y ≡ false → LoadsNames s c n o'
-          names-refused f t g = got-refused (k.each t g).goes (first (refused 9) (rw f at j))
+          names-refused h t g = got-refused (k.each t g).goes (first (refused 9) (rw h at j))
 
-          pub names_more : y ≡ true → Names s c n m o'
-          names_more f = record { passed = omega (arith, line-moves s p.at r q a e m u); size = i.same ∙ k.size; each = λ t g. next t g (k.each t g) }
+          pub names_more : y ≡ true → Names s c n f.next o'
+          names_more h = record { passed = omega (arith, line-moves s p.at r q f u); size = i.same ∙ k.size; each = λ t g. next t g (k.each t g) }
             where
-              i : Named s (part s a e) n o o'
-              i = rw f at j
+              i : Named s (part s f.start f.end) n o o'
+              i = rw h at j
 
-              next : (t : Tail) → symbols_of n (lines_from s c) ≡ got t → Naming s n p o t → Naming s n m o' t
+              next : (t : Tail) → symbols_of n (lines_from s c) ≡ got t → Naming s n p o t → Naming s n f.next o' t
               next t g d =
                   let x : Symbol = i.symbol in
-                  let rest = and_then-got (tail_of n (lines_from s m)) (with_symbol x) d.left (sym (first (got x) i.is) ∙ d.goes) in
+                  let rest = and_then-got (tail_of n (lines_from s f.next)) (with_symbol x) d.left (sym (first (got x) i.is) ∙ d.goes) in
                   let l : Tail = rest.0 in
                   let left : x ∷ l.symbols ≡ d.left.symbols = ap (λ (z : Tail). z.symbols) (got_same (record { symbols = x ∷ l.symbols; comments = l.comments }) d.left rest.2) in
                   let whole : t.symbols ≡ d.done ++ x ∷ l.symbols = d.is ∙ ap (λ (z : List Symbol). d.done ++ z) (sym left) in
@@ -104,7 +104,7 @@ module _ (s : Bytes) (c : Cursor) (n : AagCounts) where
                         ∙ ap (with_name n x.kind x.index (some (some x.name))) d.names
                         ∙ said_named n x.kind x.index (some x.name) (leaf_names n d.done)
                         ∙ ap (map some)
-                        (leaf_named n x d.done (symbol-below n (part s a e) x i.is)
+                        (leaf_named n x d.done (symbol-below n (part s f.start f.end) x i.is)
                         (λ z. name_new is_input x z d.done l.symbols (and_left (distinct inputs) (distinct latches) once))
                         (λ z. name_new is_latch x z d.done l.symbols (and_right (distinct inputs) (distinct latches) once)));
                   }

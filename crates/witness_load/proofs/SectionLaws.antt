@@ -1,4 +1,5 @@
 -- Sections stored as they are taken, two words an item; and literals stored by one call.
+use Rattle.std.specs.Prelude.{Option, Some, None}
 use Prim.Native.Nat.{ℕ, ◌+◌, ◌-◌, ◌*◌, ◌≤◌, ◌<◌}
 use mathlib.Core.List.{List, [], ◌∷◌, ◌++◌, append-nil}
 use mathlib.Core.Path.{◌≡◌, refl, sym, ap, ◌∙◌}
@@ -15,10 +16,7 @@ use Rattle.text.specs.declared.Reader.TheVariants.{Witness}
 use Rattle.aiger.specs.declared.Gate.{Gate}
 use Rattle.aiger.specs.Sections.{section}
 use Rattle.aiger.proofs.SectionLaws.{section_of, Taking, taking-none, taking-more, taking_bad, taking-done}
-use Rattle.circuit_lines.specs.declared.SectionEnd.{SectionEnd}
-use Rattle.circuit_lines.specs.declared.SectionEnd.TheVariants as section-end
-use Rattle.circuit_lines.specs.declared.TakenGate.{TakenGate}
-use Rattle.circuit_lines.specs.declared.TakenGate.TheVariants as gate
+use Rattle.text.specs.declared.Parsed.{Parsed}
 use Rattle.circuit_lines.specs.SectionLines.{literal_line, gate_line}
 use Rattle.circuit_lines.specs.Inner.Takes.{lines_from, Takes, TakesGate}
 use Rattle.witness_text.specs.declared.Latch.{Latch}
@@ -59,10 +57,10 @@ module _ {A : Type 0} (item : Bytes → Answer A) (words : A → List ℕ) (s : 
               ∙ ap (put o₀ at) (sym join);
         }
 
-    loading_bad : i < n → section item 1 (lines_from s p) ≡ refused 8 → LoadsSection item words s c n o₀ at o section-end.Bad
+    loading_bad : i < n → section item 1 (lines_from s p) ≡ refused 8 → LoadsSection item words s c n o₀ at o None
     loading_bad h e = taking_bad item n (lines_from s c) k.items (lines_from s p) k.taking (omega (arith, k.count)) e
 
-    loading-done : n ≤ i → LoadsSection item words s c n o₀ at o (section-end.At p)
+    loading-done : n ≤ i → LoadsSection item words s c n o₀ at o (Some p)
     loading-done h =
         record {
           items = k.items;
@@ -85,10 +83,10 @@ module _ (s : Bytes) (c : Cursor) (n : ℕ) (o₀ : List ℕ) (at : ℕ) where
           → Latches s c n o₀ at o' p' (i + 1)
       latches-more a p' e f o' g = loading-more latch_line stored_words s c n o₀ at o p i k (λ x. refl) (omega arith) h a p' (rw e at q) o' g
 
-      pub latches_bad : t ≡ latch.Bad → LoadsSection latch_line stored_words s c n o₀ at o section-end.Bad
+      pub latches_bad : t ≡ latch.Bad → LoadsSection latch_line stored_words s c n o₀ at o None
       latches_bad e = loading_bad latch_line stored_words s c n o₀ at o p i k h (rw e at q)
 
-    pub latches-done : n ≤ i → LoadsSection latch_line stored_words s c n o₀ at o (section-end.At p)
+    pub latches-done : n ≤ i → LoadsSection latch_line stored_words s c n o₀ at o (Some p)
     latches-done h = loading-done latch_line stored_words s c n o₀ at o p i k h
 
 -- ---- gates
@@ -101,15 +99,15 @@ module _ (s : Bytes) (c : Cursor) (n : ℕ) (o₀ : List ℕ) (at : ℕ) where
   gates-none = loading-none (gate_line Witness) operand_words s c n o₀ at
 
   module _ (o : List ℕ) (p : Cursor) (i : ℕ) (k : Gates s c n o₀ at o p i) where
-    module _ (h : i < n) (t : TakenGate) (q : TakesGate Witness s p t) where
-      pub gates-more : (a : Gate) (p' : Cursor) → t ≡ gate.Got a p' → at + 2 * n ≤ length o₀ → (o' : List ℕ) → o' ≡ put o (at + 2 * i) (a.left ∷ a.right ∷ [])
-          → Gates s c n o₀ at o' p' (i + 1)
-      gates-more a p' e f o' g = loading-more (gate_line Witness) operand_words s c n o₀ at o p i k (λ x. refl) (omega arith) h a p' (rw e at q) o' g
+    module _ (h : i < n) (t : Option (Parsed Gate)) (q : TakesGate Witness s p t) where
+      pub gates-more : (a : Parsed Gate) → t ≡ Some a → at + 2 * n ≤ length o₀ → (o' : List ℕ) → o' ≡ put o (at + 2 * i) (a.value.left ∷ a.value.right ∷ [])
+          → Gates s c n o₀ at o' a.next (i + 1)
+      gates-more a e f o' g = loading-more (gate_line Witness) operand_words s c n o₀ at o p i k (λ x. refl) (omega arith) h a.value a.next (rw e at q) o' g
 
-      pub gates_bad : t ≡ gate.Bad → LoadsSection (gate_line Witness) operand_words s c n o₀ at o section-end.Bad
+      pub gates_bad : t ≡ None → LoadsSection (gate_line Witness) operand_words s c n o₀ at o None
       gates_bad e = loading_bad (gate_line Witness) operand_words s c n o₀ at o p i k h (rw e at q)
 
-    pub gates-done : n ≤ i → LoadsSection (gate_line Witness) operand_words s c n o₀ at o (section-end.At p)
+    pub gates-done : n ≤ i → LoadsSection (gate_line Witness) operand_words s c n o₀ at o (Some p)
     gates-done h = loading-done (gate_line Witness) operand_words s c n o₀ at o p i k h
 
 -- ---- literals
@@ -119,7 +117,7 @@ literal-words [] = refl
 literal-words (x ∷ l) = ap (λ (t : List ℕ). x ∷ t) (literal-words l)
 
 -- the part `&mut o[at..at + n]`, given back with the literals
-pub literals-stored : (s : Bytes) (c : Cursor) (n : ℕ) (o : List ℕ) (at : ℕ) → at + n ≤ length o → (r : SectionEnd) (b : List ℕ) → length b ≡ length (part o at (at + n))
+pub literals-stored : (s : Bytes) (c : Cursor) (n : ℕ) (o : List ℕ) (at : ℕ) → at + n ≤ length o → (r : Option Cursor) (b : List ℕ) → length b ≡ length (part o at (at + n))
     → Takes (literal_line Witness) s c (length (part o at (at + n))) r b → LoadsSection (literal_line Witness) literal_word s c n o at (put_mid at (at + n - at) o b) r
 literals-stored s c n o at h r b g k = by r (rw size at k)
   where
@@ -131,6 +129,6 @@ literals-stored s c n o at h r b g k = by r (rw size at k)
         let e : b ≡ front (part o at (at + n)) b = sym (rw (drop_of_length-le (part o at (at + n)) {i = length b} (omega (arith, g))) (append-nil b)) in
         ap (put_mid at (at + n - at) o) e ∙ put_back o at b (omega arith) (at + n) (omega (arith, g, size)) h
 
-    by : (p : SectionEnd) → Takes (literal_line Witness) s c n p b → LoadsSection (literal_line Witness) literal_word s c n o at (put_mid at (at + n - at) o b) p
-    by (section-end.At e) t = record { items = b; takes = t; stand = whole ∙ ap (put o at) (sym (literal-words b)) }
-    by section-end.Bad t = t
+    by : (p : Option Cursor) → Takes (literal_line Witness) s c n p b → LoadsSection (literal_line Witness) literal_word s c n o at (put_mid at (at + n - at) o b) p
+    by (Some e) t = record { items = b; takes = t; stand = whole ∙ ap (put o at) (sym (literal-words b)) }
+    by None t = t

@@ -14,9 +14,9 @@ ghost use Rattle.witness_read.specs.Reading.{read_aag};
 ghost use Rattle.witness_load.specs.Inner.Loaded.{operand_words, Loads};
 ghost use Rattle.witness_load.specs.Inner.Loading.{stored_words, literal_word, LoadsSection, rest_room, LoadsRest, body_room, LoadsBody, leaf_words, with_words, NamesLine, LoadsNames, Loadable, LoadsText};
 
-use circuit_lines::{SectionEnd, TakenGate};
-use text::{Cursor, Line, Reader};
-use witness_read::ReadAag;
+use aiger::Refusal;
+use circuit_lines::LiteralLine;
+use text::{Cursor, Reader};
 use witness_text::{AagCounts, Kind, SymbolLine, TakenLatch, WitnessHeader};
 
 // The cursor after n lines, or at the end where there are fewer.
@@ -26,10 +26,10 @@ fn pass_lines(s: &[u8], cursor: Cursor, n: usize) -> Cursor
     let mut p = cursor;
     let mut i = 0;
     while i < n {
-        let Line::At { start, end, next } = text::next_line(s, p) else {
+        let Some(line) = text::next_line(s, p) else {
             return p;
         };
-        p = next;
+        p = line.next;
         i += 1;
     }
     p
@@ -44,7 +44,7 @@ fn store_pair(out: &mut [u64], at: usize, x: u64, y: u64)
 }
 
 // Next literal and reset of the latches of the n lines from a cursor on, stored from a place on.
-fn load_latches(s: &[u8], cursor: Cursor, n: usize, out: &mut [u64], at: usize) -> SectionEnd
+fn load_latches(s: &[u8], cursor: Cursor, n: usize, out: &mut [u64], at: usize) -> Option<Cursor>
     requires { at + 2 * n ≤ length out.old }
     ensures { LoadsSection latch_line stored_words s.now cursor n out.old at out.new result }
 {
@@ -52,40 +52,43 @@ fn load_latches(s: &[u8], cursor: Cursor, n: usize, out: &mut [u64], at: usize) 
     let mut i = 0;
     while i < n {
         let TakenLatch::Got { latch, next } = witness_text::take_latch(s, p) else {
-            return SectionEnd::Bad;
+            return None;
         };
         store_pair(out, at + 2 * i, latch.next, latch.reset);
         p = next;
         i += 1;
     }
-    SectionEnd::At(p)
+    Some(p)
 }
 
 // The operands of the gates of the n lines from a cursor on, stored from a place on.
-fn load_gates(s: &[u8], cursor: Cursor, n: usize, out: &mut [u64], at: usize) -> SectionEnd
+fn load_gates(s: &[u8], cursor: Cursor, n: usize, out: &mut [u64], at: usize) -> Option<Cursor>
     requires { at + 2 * n ≤ length out.old }
     ensures { LoadsSection (gate_line Witness) operand_words s.now cursor n out.old at out.new result }
 {
     let mut p = cursor;
     let mut i = 0;
     while i < n {
-        let TakenGate::Got { gate, next } = circuit_lines::take_gate(Reader::Witness, s, p) else {
-            return SectionEnd::Bad;
+        let Some(gate) = circuit_lines::take_gate(Reader::Witness, s, p) else {
+            return None;
         };
-        store_pair(out, at + 2 * i, gate.left, gate.right);
-        p = next;
+        store_pair(out, at + 2 * i, gate.value.left, gate.value.right);
+        p = gate.next;
         i += 1;
     }
-    SectionEnd::At(p)
+    Some(p)
 }
 
 // The literals of the n lines from a cursor on, stored from a place on.
-fn load_literals(s: &[u8], cursor: Cursor, n: usize, out: &mut [u64], at: usize) -> SectionEnd
+fn load_literals(s: &[u8], cursor: Cursor, n: usize, out: &mut [u64], at: usize) -> Option<Cursor>
     requires { at + n ≤ length out.old }
     ensures { LoadsSection (literal_line Witness) literal_word s.now cursor n out.old at out.new result }
 {
     let end = at + n;
-    circuit_lines::take_literals(Reader::Witness, s, cursor, &mut out[at..end])
+    let kind = LiteralLine {
+        reader: Reader::Witness,
+    };
+    circuit_lines::take_lines(kind, s, cursor, &mut out[at..end])
 }
 
 // Outputs, bads, constraints and gates from a cursor on, stored from a place on, and the cursor after them.
@@ -94,10 +97,10 @@ fn load_rest(s: &[u8], cursor: Cursor, counts: AagCounts, out: &mut [u64], at: u
     ensures { LoadsRest s.now cursor counts out.old at out.new result }
 {
     let count = counts.outputs + counts.bads + counts.constraints;
-    let SectionEnd::At(gates) = load_literals(s, cursor, count, out, at) else {
+    let Some(gates) = load_literals(s, cursor, count, out, at) else {
         return cursor;
     };
-    let SectionEnd::At(end) = load_gates(s, gates, counts.gates, out, at + count) else {
+    let Some(end) = load_gates(s, gates, counts.gates, out, at + count) else {
         return cursor;
     };
     end
@@ -109,7 +112,7 @@ fn load_body(s: &[u8], cursor: Cursor, counts: AagCounts, out: &mut [u64], at: u
     ensures { LoadsBody s.now cursor counts out.old at out.new result }
 {
     let latches = pass_lines(s, cursor, counts.inputs);
-    let SectionEnd::At(rest) = load_latches(s, latches, counts.latches, out, at) else {
+    let Some(rest) = load_latches(s, latches, counts.latches, out, at) else {
         return cursor;
     };
     load_rest(s, rest, counts, out, at + 2 * counts.latches)
@@ -150,14 +153,14 @@ fn name_leaves(s: &[u8], cursor: Cursor, counts: AagCounts, out: &mut [u64])
 {
     let mut p = cursor;
     loop {
-        let Line::At { start, end, next } = text::next_line(s, p) else {
+        let Some(line) = text::next_line(s, p) else {
             return;
         };
-        if witness_text::ends_symbols(&s[start..end]) {
+        if witness_text::ends_symbols(&s[line.start..line.end]) {
             return;
         }
-        if name_line(s, start, end, counts, out) {
-            p = next;
+        if name_line(s, line.start, line.end, counts, out) {
+            p = line.next;
         } else {
             return;
         }
@@ -207,18 +210,13 @@ fn has_room(counts: AagCounts, size: usize) -> bool
 }
 
 // Reads a text as a witness, or as the model where `witness` is false, and loads its sections in front of the words.
-pub fn load_aag(s: &[u8], witness: bool, words: &mut [u64]) -> ReadAag
+pub fn load_aag(s: &[u8], witness: bool, words: &mut [u64]) -> Result<AagCounts, Refusal>
     ensures { Loads s.now (read_aag limited witness s.now) words.old words.new result }
 {
-    let read = witness_read::parse_aag(s, witness);
-    match read {
-        ReadAag::Refused(reason) => ReadAag::Refused(reason),
-        ReadAag::Got(n) => {
-            if !has_room(n, words.len()) {
-                return ReadAag::Refused(20);
-            }
-            load(s, n, words);
-            ReadAag::Got(n)
-        }
+    let counts = witness_read::parse_aag(s, witness)?;
+    if !has_room(counts, words.len()) {
+        return Err(Refusal::ResultRoom);
     }
+    load(s, counts, words);
+    Ok(counts)
 }

@@ -7,7 +7,7 @@ use native.Mathlib.Omega.{arith}
 use lib.ListN.{length, drop}
 use Rattle.lists.specs.Answer.{Answer, got, refused, unless, and_then}
 use Rattle.lists.specs.Parts.{Bytes}
-use Rattle.lists.proofs.AnswerLaws.{and_then-got, unless_test, unless-got, got_same}
+use Rattle.lists.proofs.AnswerLaws.{and_then-got, unless_test, unless-got, got_same, got-refused}
 use Rattle.text.specs.declared.Reader.TheVariants.{Witness}
 use Rattle.text.specs.Lines.{lines_of}
 use Rattle.text.specs.Texts.{Limits, good_text}
@@ -21,7 +21,6 @@ use Rattle.witness_text.specs.Header.{header_of, counted, without_liveness}
 use Rattle.witness_text.specs.LatchLines.{latch_line}
 use Rattle.witness_text.specs.Symbols.{Symbol}
 use Rattle.witness_text.proofs.CountLaws.{counted_sum, liveness_facts}
-use Rattle.witness_read.specs.declared.ReadAag.TheVariants as read
 use Rattle.witness_read.specs.Sections.{Sections}
 use Rattle.witness_read.specs.Names.{Tail, is_input, tail_of, named_once, symbols_of, names_of}
 use Rattle.witness_read.specs.Comments.{plain_comments}
@@ -184,10 +183,10 @@ pub read_header : (lim : Limits) (witness : Bool) (t : Bytes) (x : Sections) →
 read_header lim witness t x e = (read_accepted lim witness t x e).heads
 
 -- what an answer with counts was made from
-pub read_got : (a : Answer Sections) (n : AagCounts) → read.Got n ≡ counts_read a → (x : Sections) × (a ≡ got x) × (n ≡ counts_in x)
-read_got (got x) n e = let s : n ≡ counts_in x = cc in (x, refl, s)
-read_got (refused k) n e = let z : ◌≡◌ {A = ℕ} 0 1 = cc in absurd (omega arith)
+pub read_got : (a : Answer Sections) (n : AagCounts) → got n ≡ counts_read a → (x : Sections) × (a ≡ got x) × (n ≡ counts_in x)
+read_got (got x) n e = (x, refl, got_same n (counts_in x) e)
+read_got (refused k) n e = let e : refused k ≡ got n = sym e in got-refused e refl
 
-pub read_refused : (a : Answer Sections) (k : ℕ) → read.Refused k ≡ counts_read a → a ≡ refused k
-read_refused (got x) k e = let z : ◌≡◌ {A = ℕ} 0 1 = cc in absurd (omega arith)
+pub read_refused : (a : Answer Sections) (k : ℕ) → refused k ≡ counts_read a → a ≡ refused k
+read_refused (got x) k e = let e : got (counts_in x) ≡ refused k = sym e in got-refused refl e
 read_refused (refused j) k e = let s : k ≡ j = cc in rw s refl

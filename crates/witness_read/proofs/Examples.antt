@@ -17,7 +17,6 @@ use Rattle.aiger.specs.Gates.{gate_from}
 use Rattle.aiger.specs.Defined.{literal, ordered}
 use Rattle.witness_text.specs.Header.{counts_from, header_of, counted, without_liveness}
 use Rattle.witness_text.specs.Symbols.{symbol_of}
-use Rattle.witness_read.specs.declared.ReadAag.TheVariants as read
 use Rattle.witness_read.specs.Sections.{Sections}
 use Rattle.witness_read.specs.Names.{symbols_of}
 use Rattle.witness_read.specs.Order.{latch_numbered, gate_numbered, well_numbered}
@@ -98,7 +97,7 @@ unfolding read_aag good_text every number_of counted without_liveness symbols_of
 full_read = refl
 
 -- what the call returns: the counts of the header, absent ones 0
-pub full_counts : counts_read (read_aag limited true full_text) ≡ read.Got (counts_from (6 ∷ 2 ∷ 2 ∷ 1 ∷ 2 ∷ 1 ∷ 1 ∷ 0 ∷ 0 ∷ []))
+pub full_counts : counts_read (read_aag limited true full_text) ≡ got (counts_from (6 ∷ 2 ∷ 2 ∷ 1 ∷ 2 ∷ 1 ∷ 1 ∷ 0 ∷ 0 ∷ []))
 unfolding read_aag good_text every number_of counted without_liveness symbols_of symbol_of latch_numbered gate_numbered well_numbered literal ordered
 full_counts = refl
 

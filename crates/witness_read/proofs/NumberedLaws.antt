@@ -1,4 +1,5 @@
 -- Laws for the functions that check one section: what is tested of a latch and a gate, and the loops.
+use Rattle.std.specs.Prelude.{Option, Some, None}
 use Prim.Native.Nat.{ℕ, ◌+◌, ◌*◌, ◌/◌, ◌≤◌, ◌<◌}
 use mathlib.Core.Bool.{Bool, true, false, ◌&&◌, and-true}
 use mathlib.Core.Path.{◌≡◌, refl, sym, ap, ◌∙◌}
@@ -9,11 +10,11 @@ use Rattle.lists.specs.Parts.{Bytes}
 use Rattle.lists.specs.Tests.{all, all_from, every}
 use Rattle.text.specs.declared.Cursor.{Cursor}
 use Rattle.text.specs.declared.Literal.{Literal}
+use Rattle.text.specs.declared.Parsed.{Parsed}
 use Rattle.text.specs.declared.Reader.TheVariants.{Witness}
 use Rattle.text.specs.Literals.{literal_at}
 use Rattle.aiger.specs.declared.Gate.{Gate}
 use Rattle.aiger.specs.Defined.{literal, ordered}
-use Rattle.circuit_lines.specs.declared.TakenGate.{TakenGate}
 use Rattle.circuit_lines.specs.SectionLines.{literal_line, gate_line}
 use Rattle.circuit_lines.specs.Inner.Takes.{TakesGate}
 use Rattle.circuit_lines.proofs.LiteralLaws.{literal_one, literal_bad}
@@ -24,8 +25,6 @@ use Rattle.witness_text.specs.Inner.Takes.{TakesLatch}
 use Rattle.witness_read.specs.Order.{defines, latch_numbered, gate_numbered}
 use Rattle.witness_read.specs.Inner.Passes.{Checks}
 use Rattle.witness_read.proofs.CheckingLaws.{Checking, checking-none, checking_bad, checking-done, all_more, from_more}
-use Rattle.text.specs.declared.Literal.TheVariants as found
-use Rattle.circuit_lines.specs.declared.TakenGate.TheVariants as gate
 use Rattle.witness_text.specs.declared.TakenLatch.TheVariants as latch
 use Rattle.witness_read.specs.declared.Checked.TheVariants as checked
 
@@ -79,13 +78,13 @@ module _ (s : Bytes) (c : Cursor) (n : ℕ) where
       literals-done = checking-done (literal_line Witness) s c n (all (literal most)) i fine p k
 
       module _ (h : i < n) (t : Literal) (q : t ≡ literal_at Witness s p) where
-        pub literals_bad : (e : Cursor) → t ≡ found.Refused e → Checks (literal_line Witness) (all (literal most)) s c n checked.Bad
-        literals_bad e u = checking_bad (literal_line Witness) s c n (all (literal most)) i fine p k h (literal_bad Witness s p t q e u)
+        pub literals_bad : t.value ≡ None → Checks (literal_line Witness) (all (literal most)) s c n checked.Bad
+        literals_bad u = checking_bad (literal_line Witness) s c n (all (literal most)) i fine p k h (literal_bad Witness s p t q u)
 
-        pub literals-more : (v : ℕ) (e : Cursor) → t ≡ found.Got v e → (r : Bool) → r ≡ literal most v → (f : Bool) → f ≡ (fine && r)
-            → Checking (literal_line Witness) (all (literal most)) s c n (i + 1) f e
-        literals-more v e u r x f g =
-            all_more (literal_line Witness) s c n (literal most) i fine p k h v e (literal_one Witness s p t q v e u) f (g ∙ ap (λ (b : Bool). fine && b) x)
+        pub literals-more : (v : ℕ) → t.value ≡ Some v → (r : Bool) → r ≡ literal most v → (f : Bool) → f ≡ (fine && r)
+            → Checking (literal_line Witness) (all (literal most)) s c n (i + 1) f t.next
+        literals-more v u r x f g =
+            all_more (literal_line Witness) s c n (literal most) i fine p k h v t.next (literal_one Witness s p t q v u) f (g ∙ ap (λ (b : Bool). fine && b) x)
 
   -- inputs by their numbers
   pub inputs-none : Checking (literal_line Witness) (all_from defines 1) s c n 0 true c
@@ -96,12 +95,12 @@ module _ (s : Bytes) (c : Cursor) (n : ℕ) where
     inputs-done = checking-done (literal_line Witness) s c n (all_from defines 1) i fine p k
 
     module _ (h : i < n) (t : Literal) (q : t ≡ literal_at Witness s p) where
-      pub inputs_bad : (e : Cursor) → t ≡ found.Refused e → Checks (literal_line Witness) (all_from defines 1) s c n checked.Bad
-      inputs_bad e u = checking_bad (literal_line Witness) s c n (all_from defines 1) i fine p k h (literal_bad Witness s p t q e u)
+      pub inputs_bad : t.value ≡ None → Checks (literal_line Witness) (all_from defines 1) s c n checked.Bad
+      inputs_bad u = checking_bad (literal_line Witness) s c n (all_from defines 1) i fine p k h (literal_bad Witness s p t q u)
 
-      pub inputs-more : (v : ℕ) (e : Cursor) → t ≡ found.Got v e → (m : ℕ) → m ≡ 1 + i → (f : Bool) → f ≡ (fine && eqb v (2 * m))
-          → Checking (literal_line Witness) (all_from defines 1) s c n (i + 1) f e
-      inputs-more v e u m j f g = from_more (literal_line Witness) s c n defines 1 i fine p k h v e (literal_one Witness s p t q v e u) m j f g
+      pub inputs-more : (v : ℕ) → t.value ≡ Some v → (m : ℕ) → m ≡ 1 + i → (f : Bool) → f ≡ (fine && eqb v (2 * m))
+          → Checking (literal_line Witness) (all_from defines 1) s c n (i + 1) f t.next
+      inputs-more v u m j f g = from_more (literal_line Witness) s c n defines 1 i fine p k h v t.next (literal_one Witness s p t q v u) m j f g
 
   -- latches by their numbers
   module _ (first most : ℕ) where
@@ -130,11 +129,11 @@ module _ (s : Bytes) (c : Cursor) (n : ℕ) where
       pub gates-done : n ≤ i → Checks (gate_line Witness) (all_from gate_numbered (first + 1)) s c n (checked.Done p fine)
       gates-done = checking-done (gate_line Witness) s c n (all_from gate_numbered (first + 1)) i fine p k
 
-      module _ (h : i < n) (t : TakenGate) (q : TakesGate Witness s p t) where
-        pub gates_bad : t ≡ gate.Bad → Checks (gate_line Witness) (all_from gate_numbered (first + 1)) s c n checked.Bad
+      module _ (h : i < n) (t : Option (Parsed Gate)) (q : TakesGate Witness s p t) where
+        pub gates_bad : t ≡ None → Checks (gate_line Witness) (all_from gate_numbered (first + 1)) s c n checked.Bad
         gates_bad u = checking_bad (gate_line Witness) s c n (all_from gate_numbered (first + 1)) i fine p k h (rw u at q)
 
-        pub gates-more : (a : Gate) (e : Cursor) → t ≡ gate.Got a e → (m : ℕ) → m ≡ first + 1 + i → (r : Bool) → r ≡ gate_numbered m a → (f : Bool) → f ≡ (fine && r)
-            → Checking (gate_line Witness) (all_from gate_numbered (first + 1)) s c n (i + 1) f e
-        gates-more a e u m j r x f g =
-            from_more (gate_line Witness) s c n gate_numbered (first + 1) i fine p k h a e (rw u at q) m j f (g ∙ ap (λ (b : Bool). fine && b) x)
+        pub gates-more : (a : Parsed Gate) → t ≡ Some a → (m : ℕ) → m ≡ first + 1 + i → (r : Bool) → r ≡ gate_numbered m a.value → (f : Bool) → f ≡ (fine && r)
+            → Checking (gate_line Witness) (all_from gate_numbered (first + 1)) s c n (i + 1) f a.next
+        gates-more a u m j r x f g =
+            from_more (gate_line Witness) s c n gate_numbered (first + 1) i fine p k h a.value a.next (rw u at q) m j f (g ∙ ap (λ (b : Bool). fine && b) x)

@@ -1,5 +1,7 @@
 -- Inputs and latches that are named in their order: none is named twice.
-use Prim.Native.Nat.{ℕ, ◌+◌, ◌≤◌, ◌<◌}
+use Rattle.std.specs.Prelude.{ℕ, ◌+◌, ◌≤◌, ◌<◌, Option, Some, None, Result, Ok, Err}
+use Rattle.std.specs.Result.{IsErrAnd}
+use Rattle.std.proofs.Common.{◌⊎◌, inl, inr}
 use mathlib.Core.Bool.{Bool, true, false}
 use mathlib.Core.List.{List, [], ◌∷◌, ◌++◌, append-nil}
 use mathlib.Core.Path.{◌≡◌, refl, ◌∙◌, subst}
@@ -12,19 +14,19 @@ use Rattle.lists.proofs.DistinctLaws.{distinct-above}
 use Rattle.lists.proofs.TestLaws.{each_append, each-so}
 use Rattle.text.specs.declared.Cursor.{Cursor}
 use Rattle.text.specs.Texts.{limited}
+use Rattle.aiger.specs.declared.Refusal.{Refusal}
+use Rattle.aiger.specs.Refusals.{refusal_number}
 use Rattle.witness_text.specs.declared.AagCounts.{AagCounts}
 use Rattle.witness_text.specs.declared.Kind.{Kind}
 use Rattle.witness_text.specs.declared.Kind.TheVariants as kind
 use Rattle.witness_text.specs.Header.{counted}
 use Rattle.witness_text.specs.Symbols.{Symbol, count_of}
 use Rattle.witness_text.proofs.CountLaws.{counts-leaves}
-use Rattle.witness_read.specs.declared.NextSymbol.{NextSymbol}
-use Rattle.witness_read.specs.declared.NextSymbol.TheVariants as next
-use Rattle.witness_read.specs.declared.Symbols.{Symbols}
+use Rattle.witness_read.specs.declared.SymbolName.{SymbolName}
 use Rattle.witness_read.specs.Names.{is_input, is_latch, indices_of}
-use Rattle.witness_read.specs.Inner.Passes.{TakenSymbol, TakesSymbol, ChecksSymbols}
+use Rattle.witness_read.specs.Inner.Passes.{TakenSymbol, BadSymbol, Follows, ChecksSymbols}
 use Rattle.witness_read.proofs.SymbolSetLaws.{indices_append}
-use Rattle.witness_read.proofs.TailLaws.{symbol-taken, index_below, Begun, begun_none, begun_end, begun_more}
+use Rattle.witness_read.proofs.TailLaws.{index_below, Begun, begun_none, begun_end, begun_bad, begun_more}
 
 -- the indices of a kind rise, and the next one is at least k
 record Rises (is : Kind → Bool) (k : ℕ) (ss : List Symbol) : Type 0 where
@@ -61,66 +63,66 @@ pub record InOrder (s : Bytes) (c : Cursor) (n : AagCounts) (i l : ℕ) (p : Cur
 pub order-none : (s : Bytes) (c : Cursor) (n : AagCounts) → InOrder s c n 0 0 c
 order-none s c n = record { done = []; inputs = record { once = refl; below = tt }; latches = record { once = refl; below = tt }; begun = begun_none s c n }
 
-module _ (s : Bytes) (c : Cursor) (n : AagCounts) (i l : ℕ) (p : Cursor) (k : InOrder s c n i l p) (y : NextSymbol) (t : TakesSymbol s p n y) where
-  pub order-end : (r : Symbols) → y ≡ next.End r → ChecksSymbols s c n r
-  order-end r e =
-      begun_end s c n k.done p k.begun
-      (and_both (distinct (indices_of is_input k.done)) (distinct (indices_of is_latch k.done)) k.inputs.once k.latches.once)
-      r (subst (TakesSymbol s p n) e t)
+module _ (s : Bytes) (c : Cursor) (n : AagCounts) (i l : ℕ) (p : Cursor) (k : InOrder s c n i l p) where
+  pub order-bad : (m : Refusal) → BadSymbol s p n (refusal_number m) → (r : Result Cursor Refusal) → IsErrAnd r (λ j. j ≡ m) → ChecksSymbols s c n r
+  order-bad m b r e = begun_bad s c n k.done p k.begun m b r e
 
-  module _ (kd : Kind) (m : ℕ) (x : Cursor) (e : y ≡ next.Named kd m x) where
-    this : TakenSymbol s p n kd m x
-    this = symbol-taken s p n y t kd m x e
+  module _ (o : Option SymbolName) (x : Cursor) (t : Follows s p n o x) where
+    pub order-end : o ≡ None → ChecksSymbols s c n (Ok x)
+    order-end e =
+        begun_end s c n k.done p k.begun
+        (and_both (distinct (indices_of is_input k.done)) (distinct (indices_of is_latch k.done)) k.inputs.once k.latches.once)
+        x (t.ends e)
 
-    abbrev one : Symbol
-    one = record { kind = kd; index = m; name = this.name }
+    module _ (y : SymbolName) (e : o ≡ Some y) where
+      this : TakenSymbol s p n y.kind y.index x
+      this = t.taken y e
 
-    after : Begun s c n (k.done ++ one ∷ []) x
-    after = begun_more s c n k.done p k.begun kd m x this
+      abbrev one : Symbol
+      one = record { kind = y.kind; index = y.index; name = this.name }
 
-    -- the next index is a word
-    module _ (h : counted limited n ≡ true) where
-      leaf_fits : count_of n kd ≤ n.inputs + n.latches → m + 1 < 18446744073709551616
-      leaf_fits most = omega (arith, index_below s p n y t kd m x e, counts-leaves n h)
+      after : Begun s c n (k.done ++ one ∷ []) x
+      after = begun_more s c n k.done p k.begun y.kind y.index x this
 
-      pub input-fits : kd ≡ kind.Input → m + 1 < 18446744073709551616
-      input-fits q = leaf_fits (rw q (omega arith))
+      -- the next index is a word
+      module _ (h : counted limited n ≡ true) where
+        leaf_fits : count_of n y.kind ≤ n.inputs + n.latches → y.index + 1 < 18446744073709551616
+        leaf_fits most = omega (arith, index_below s p n o x t y e, counts-leaves n h)
 
-      pub latch_fits : kd ≡ kind.Latch → m + 1 < 18446744073709551616
-      latch_fits q = leaf_fits (rw q (omega arith))
+        pub input-fits : y.kind ≡ kind.Input → y.index + 1 < 18446744073709551616
+        input-fits q = leaf_fits (rw q (omega arith))
 
-    pub order-input : kd ≡ kind.Input → i ≤ m → InOrder s c n (m + 1) l x
-    order-input q h =
-        record {
-          done = k.done ++ one ∷ [];
-          inputs = rises-more is_input i k.done k.inputs one (rw q refl) h;
-          latches = rises-other is_latch l k.done k.latches one (rw q refl);
-          begun = after;
-        }
+        pub latch_fits : y.kind ≡ kind.Latch → y.index + 1 < 18446744073709551616
+        latch_fits q = leaf_fits (rw q (omega arith))
 
-    pub order_latch : kd ≡ kind.Latch → l ≤ m → InOrder s c n i (m + 1) x
-    order_latch q h =
-        record {
-          done = k.done ++ one ∷ [];
-          inputs = rises-other is_input i k.done k.inputs one (rw q refl);
-          latches = rises-more is_latch l k.done k.latches one (rw q refl) h;
-          begun = after;
-        }
+      pub order-input : y.kind ≡ kind.Input → i ≤ y.index → InOrder s c n (y.index + 1) l x
+      order-input q h =
+          record {
+            done = k.done ++ one ∷ [];
+            inputs = rises-more is_input i k.done k.inputs one (rw q refl) h;
+            latches = rises-other is_latch l k.done k.latches one (rw q refl);
+            begun = after;
+          }
 
-    order_other : is_input kd ≡ false → is_latch kd ≡ false → InOrder s c n i l x
-    order_other q r =
-        record {
-          done = k.done ++ one ∷ [];
-          inputs = rises-other is_input i k.done k.inputs one q;
-          latches = rises-other is_latch l k.done k.latches one r;
-          begun = after;
-        }
+      pub order_latch : y.kind ≡ kind.Latch → l ≤ y.index → InOrder s c n i (y.index + 1) x
+      order_latch q h =
+          record {
+            done = k.done ++ one ∷ [];
+            inputs = rises-other is_input i k.done k.inputs one (rw q refl);
+            latches = rises-more is_latch l k.done k.latches one (rw q refl) h;
+            begun = after;
+          }
 
-    pub order-output : kd ≡ kind.Output → InOrder s c n i l x
-    order-output q = order_other (rw q refl) (rw q refl)
+      order_other : is_input y.kind ≡ false → is_latch y.kind ≡ false → InOrder s c n i l x
+      order_other q r =
+          record {
+            done = k.done ++ one ∷ [];
+            inputs = rises-other is_input i k.done k.inputs one q;
+            latches = rises-other is_latch l k.done k.latches one r;
+            begun = after;
+          }
 
-    pub order_bad : kd ≡ kind.Bad → InOrder s c n i l x
-    order_bad q = order_other (rw q refl) (rw q refl)
-
-    pub order_constraint : kd ≡ kind.Constraint → InOrder s c n i l x
-    order_constraint q = order_other (rw q refl) (rw q refl)
+      pub order-others : (y.kind ≡ kind.Output) ⊎ ((y.kind ≡ kind.Bad) ⊎ (y.kind ≡ kind.Constraint)) → InOrder s c n i l x
+      order-others (inl q) = order_other (rw q refl) (rw q refl)
+      order-others (inr (inl q)) = order_other (rw q refl) (rw q refl)
+      order-others (inr (inr q)) = order_other (rw q refl) (rw q refl)

@@ -1,5 +1,8 @@
 -- Laws of `tail_of` and `symbols_of`, for the loop that takes the symbol lines one at a time.
-use Prim.Native.Nat.{ℕ, suc, ◌-◌, ◌<◌}
+use Rattle.std.specs.Prelude.{ℕ, suc, ◌-◌, ◌<◌, not, Option, Some, None, Result, Ok, Err}
+use Rattle.std.specs.Result.{IsErrAnd}
+use Rattle.std.proofs.lemmas.Option.{none-some}
+use borrow.Author.Tests.{not-true, not-false}
 use mathlib.Core.Bool.{Bool, true, false}
 use mathlib.Core.List.{List, [], ◌∷◌, ◌++◌, append_assoc, append-nil}
 use mathlib.Core.Path.{◌≡◌, refl, sym, ap, ◌∙◌, subst}
@@ -10,28 +13,26 @@ use Rattle.lists.specs.Parts.{Bytes, part}
 use Rattle.lists.proofs.AnswerLaws.{Only, only-unless, only-cond, only_then}
 use Rattle.text.specs.declared.Cursor.{Cursor}
 use Rattle.text.specs.declared.Line.{Line}
-use Rattle.text.specs.declared.Number.{Number}
 use Rattle.text.specs.declared.Reader.TheVariants.{Witness}
 use Rattle.text.specs.Lines.{line_at}
 use Rattle.text.specs.Numbers.{number_of}
 use Rattle.text.proofs.LineLaws.{lines_none, lines-some, line-less}
 use Rattle.circuit_lines.specs.Inner.Takes.{lines_from}
+use Rattle.aiger.specs.declared.Refusal.{Refusal}
+use Rattle.aiger.specs.declared.Refusal.TheVariants as refusal
+use Rattle.aiger.specs.Refusals.{refusal_number}
 use Rattle.witness_text.specs.declared.AagCounts.{AagCounts}
 use Rattle.witness_text.specs.declared.Kind.{Kind}
 use Rattle.witness_text.specs.declared.SymbolLine.{SymbolLine}
 use Rattle.witness_text.specs.Inner.Takes.{symbol_answer}
 use Rattle.witness_text.specs.Symbols.{ends_symbols, Symbol, kind_of, count_of, readable_index, indexed, symbol_from, before_space, symbol_of}
 use Rattle.witness_text.proofs.SymbolLaws.{symbol-below}
+use Rattle.witness_read.specs.declared.SymbolName.{SymbolName}
 use Rattle.witness_read.specs.Names.{Tail, with_symbol, tail_of, named_once, symbols_of}
-use Rattle.witness_read.specs.Inner.Passes.{TakenSymbol, EndsSymbols, TakesSymbol, ChecksSymbols, Unmarked, MarksName}
+use Rattle.witness_read.specs.Inner.Passes.{TakenSymbol, BadSymbol, EndsSymbols, Follows, ChecksSymbols, Unmarked, MarksName}
 use Rattle.witness_read.proofs.SymbolSetLaws.{Named, named_none, named_once_lem, named_more, named_again, twice_append}
-use Rattle.text.specs.declared.Line.TheVariants as line
-use Rattle.text.specs.declared.Number.TheVariants as number
 use Rattle.witness_text.specs.declared.SymbolLine.TheVariants as symbol
 use Rattle.witness_read.specs.declared.NextSymbol.{NextSymbol}
-use Rattle.witness_read.specs.declared.NextSymbol.TheVariants as next
-use Rattle.witness_read.specs.declared.Symbols.{Symbols}
-use Rattle.witness_read.specs.declared.Symbols.TheVariants as symbols
 
 -- ---- what an answer of `symbol_of` says
 
@@ -43,9 +44,9 @@ kind-only b =
     (only-cond 9 (eqb b 98) _ _ tt
     (only-cond 9 (eqb b 99) _ _ tt refl))))
 
-index-only : (x : Number) → Only 9 (readable_index x)
-index-only (number.Value v) = tt
-index-only number.Unreadable = refl
+index-only : (x : Option ℕ) → Only 9 (readable_index x)
+index-only (Some v) = tt
+index-only None = refl
 
 from-only : (n : AagCounts) (front name : Bytes) → Only 9 (symbol_from n front name)
 from-only n [] name = refl
@@ -98,46 +99,50 @@ module _ (n : AagCounts) (l : Bytes) (ls : List Bytes) where
   pub tail-symbol : ends_symbols l ≡ false → (z : Answer Symbol) → symbol_of n l ≡ z → tail_of n (l ∷ ls) ≡ and_then z (λ d. and_then (tail_of n ls) (with_symbol d))
   tail-symbol g z h = rw (g, h)
 
-module _ (s : Bytes) (n : AagCounts) (p : Cursor) (r : Line) (q : r ≡ line_at s p.at) where
-  pub symbol-none : r ≡ line.None → TakesSymbol s p n (next.End (symbols.Done p))
-  symbol-none u = let e : lines_from s p ≡ [] = lines_none s p.at r q u in ap (tail_of n) e ∙ ap (tail []) (sym e)
+module _ (s : Bytes) (n : AagCounts) (p x : Cursor) where
+  follows_end : EndsSymbols s p n x → Follows s p n None x
+  follows_end h = record { taken = λ y e. absurd (none-some y e); ends = λ e. h }
 
-  module _ (a e : ℕ) (x : Cursor) (u : r ≡ line.At a e x) (b : Bool) (f : b ≡ ends_symbols (part s a e)) where
-    pub symbol-comments : b ≡ true → TakesSymbol s p n (next.End (symbols.Done x))
-    symbol-comments g = ap (tail_of n) (lines-some s p.at r q a e x u) ∙ tail-comments n (part s a e) (lines_from s x) (sym f ∙ g)
+  follows_more : (y : SymbolName) → TakenSymbol s p n y.kind y.index x → Follows s p n (Some y) x
+  follows_more y h = record { taken = λ z e. let f : y ≡ z = cc in rw (sym f) h; ends = λ e. absurd (none-some y (sym e)) }
 
-    module _ (g : b ≡ false) (y : SymbolLine) (v : symbol_answer (part s a e) y ≡ symbol_of n (part s a e)) where
-      pub symbol_bad : y ≡ symbol.Refused → TakesSymbol s p n (next.End (symbols.Refused 9))
+module _ (s : Bytes) (n : AagCounts) (p : Cursor) (r : Option Line) (q : r ≡ line_at s p.at) where
+  pub symbol-none : r ≡ None → Follows s p n None p
+  symbol-none u = let e : lines_from s p ≡ [] = lines_none s p.at r q u in follows_end s n p p (record { takes = ap (tail_of n) e ∙ ap (tail []) (sym e) })
+
+  module _ (l : Line) (u : r ≡ Some l) (b : Bool) (f : b ≡ ends_symbols (part s l.start l.end)) where
+    pub symbol-comments : b ≡ true → Follows s p n None l.next
+    symbol-comments g = follows_end s n p l.next (record { takes = ap (tail_of n) (lines-some s p.at r q l u) ∙ tail-comments n (part s l.start l.end) (lines_from s l.next) (sym f ∙ g) })
+
+    module _ (g : b ≡ false) (y : SymbolLine) (v : symbol_answer (part s l.start l.end) y ≡ symbol_of n (part s l.start l.end)) where
+      pub symbol_bad : y ≡ symbol.Refused → BadSymbol s p n 9
       symbol_bad z =
           record {
-            line = part s a e;
-            rest = lines_from s x;
-            lines = lines-some s p.at r q a e x u;
+            line = part s l.start l.end;
+            rest = lines_from s l.next;
+            lines = lines-some s p.at r q l u;
             goes = sym f ∙ g;
-            is = sym v ∙ ap (symbol_answer (part s a e)) z;
+            is = sym v ∙ ap (symbol_answer (part s l.start l.end)) z;
           }
 
-      pub symbol-more : (kd : Kind) (i m : ℕ) → y ≡ symbol.Named kd i m → TakesSymbol s p n (next.Named kd i x)
+      pub symbol-more : (kd : Kind) (i m : ℕ) → y ≡ symbol.Named kd i m → Follows s p n (Some (record { kind = kd; index = i })) l.next
       symbol-more kd i m z =
-          record {
-            line = part s a e;
-            name = drop m (part s a e);
-            lines = lines-some s p.at r q a e x u;
+          follows_more s n p l.next (record { kind = kd; index = i }) (record {
+            line = part s l.start l.end;
+            name = drop m (part s l.start l.end);
+            lines = lines-some s p.at r q l u;
             goes = sym f ∙ g;
-            is = sym v ∙ ap (symbol_answer (part s a e)) z;
-            less = line-less s p.at r q a e x u;
-          }
+            is = sym v ∙ ap (symbol_answer (part s l.start l.end)) z;
+            less = line-less s p.at r q l u;
+          })
 
 -- what a symbol that was taken says
-module _ (s : Bytes) (p : Cursor) (n : AagCounts) (y : NextSymbol) (t : TakesSymbol s p n y) (kd : Kind) (i : ℕ) (x : Cursor) (e : y ≡ next.Named kd i x) where
-  pub symbol-taken : TakenSymbol s p n kd i x
-  symbol-taken = subst (TakesSymbol s p n) e t
-
-  pub index_below : i < count_of n kd
-  index_below = symbol-below n symbol-taken.line (record { kind = kd; index = i; name = symbol-taken.name }) symbol-taken.is
+module _ (s : Bytes) (p : Cursor) (n : AagCounts) (o : Option SymbolName) (x : Cursor) (t : Follows s p n o x) (y : SymbolName) (e : o ≡ Some y) where
+  pub index_below : y.index < count_of n y.kind
+  index_below = let d = t.taken y e in symbol-below n d.line (record { kind = y.kind; index = y.index; name = d.name }) d.is
 
   pub symbol-less : length s - x.at < length s - p.at
-  symbol-less = symbol-taken.less
+  symbol-less = (t.taken y e).less
 
 -- ---- the lines so far
 
@@ -150,12 +155,19 @@ module _ (s : Bytes) (c : Cursor) (n : AagCounts) where
   begun_none = prefixed_none (tail_of n (lines_from s c))
 
   module _ (done : List Symbol) (p : Cursor) (k : Begun s c n done p) where
-    pub begun_end : named_once done ≡ true → (r : Symbols) → EndsSymbols s p n r → ChecksSymbols s c n r
+    pub begun_end : named_once done ≡ true → (e : Cursor) → EndsSymbols s p n e → ChecksSymbols s c n (Ok e)
     unfolding symbols_of
-    begun_end o (symbols.Done e) h =
-        let t : tail_of n (lines_from s c) ≡ tail done (lines_from s e) = k ∙ ap (prefixed done) h ∙ ap (λ (ss : List Symbol). tail ss (lines_from s e)) (append-nil done) in
+    begun_end o e h =
+        let t : tail_of n (lines_from s c) ≡ tail done (lines_from s e) = k ∙ ap (prefixed done) h.takes ∙ ap (λ (ss : List Symbol). tail ss (lines_from s e)) (append-nil done) in
         record { symbols = done; takes = rw (t, o) }
-    begun_end o (symbols.Refused m) h = rw (k, ap (tail_of n) h.lines ∙ tail-symbol n h.line h.rest h.goes (refused m) h.is)
+
+    begun_refused : (m : Refusal) → BadSymbol s p n (refusal_number m) → ChecksSymbols s c n (Err m)
+    unfolding symbols_of
+    begun_refused m h = rw (k, ap (tail_of n) h.lines ∙ tail-symbol n h.line h.rest h.goes (refused (refusal_number m)) h.is)
+
+    pub begun_bad : (m : Refusal) → BadSymbol s p n (refusal_number m) → (r : Result Cursor Refusal) → IsErrAnd r (λ k. k ≡ m) → ChecksSymbols s c n r
+    begun_bad m h (Ok e) g = absurd g
+    begun_bad m h (Err j) g = begun_refused j (rw g h)
 
     module _ (kd : Kind) (i : ℕ) (x : Cursor) (t : TakenSymbol s p n kd i x) where
       abbrev it : Symbol
@@ -168,7 +180,7 @@ module _ (s : Bytes) (c : Cursor) (n : AagCounts) where
           ∙ prefixed_more done it (tail_of n (lines_from s x))
 
       -- a second name
-      begun_again : named_once (done ++ it ∷ []) ≡ false → ChecksSymbols s c n (symbols.Refused 9)
+      begun_again : named_once (done ++ it ∷ []) ≡ false → ChecksSymbols s c n (Err refusal.Symbol)
       unfolding symbols_of
       begun_again h = go (tail_of n (lines_from s x)) refl (tail-only n (lines_from s x))
         where
@@ -187,25 +199,28 @@ pub record Naming (s : Bytes) (c : Cursor) (n : AagCounts) (w : List ℕ) (p : C
 pub naming-none : (s : Bytes) (c : Cursor) (n : AagCounts) (w : List ℕ) → Unmarked n w → Naming s c n w c
 naming-none s c n w u = record { done = []; named = named_none n w u; begun = begun_none s c n }
 
-module _ (s : Bytes) (c : Cursor) (n : AagCounts) (w : List ℕ) (p : Cursor) (k : Naming s c n w p) (y : NextSymbol) (t : TakesSymbol s p n y) where
-  pub naming-end : (r : Symbols) → y ≡ next.End r → ChecksSymbols s c n r
-  naming-end r e = begun_end s c n k.done p k.begun (named_once_lem n w k.done k.named) r (subst (TakesSymbol s p n) e t)
+module _ (s : Bytes) (c : Cursor) (n : AagCounts) (w : List ℕ) (p : Cursor) (k : Naming s c n w p) where
+  pub naming-bad : (m : Refusal) → BadSymbol s p n (refusal_number m) → (r : Result Cursor Refusal) → IsErrAnd r (λ j. j ≡ m) → ChecksSymbols s c n r
+  naming-bad m b r e = begun_bad s c n k.done p k.begun m b r e
 
-  module _ (kd : Kind) (i : ℕ) (x : Cursor) (e : y ≡ next.Named kd i x) where
-    this : TakenSymbol s p n kd i x
-    this = symbol-taken s p n y t kd i x e
+  module _ (q : Option SymbolName) (x : Cursor) (t : Follows s p n q x) where
+    pub naming-end : q ≡ None → ChecksSymbols s c n (Ok x)
+    naming-end e = begun_end s c n k.done p k.begun (named_once_lem n w k.done k.named) x (t.ends e)
 
-    module _ (w' : List ℕ) (o : Bool) (j : MarksName n kd i w w' o) where
+    module _ (y : SymbolName) (e : q ≡ Some y) (w' : List ℕ) (o : Bool) (j : MarksName n y.kind y.index w w' o) where
+      this : TakenSymbol s p n y.kind y.index x
+      this = t.taken y e
+
       abbrev one : Symbol
-      one = record { kind = kd; index = i; name = this.name }
+      one = record { kind = y.kind; index = y.index; name = this.name }
 
-      pub naming-more : o ≡ true → Naming s c n w' x
+      pub naming-more : not o ≡ false → Naming s c n w' x
       naming-more h =
           record {
             done = k.done ++ one ∷ [];
-            named = named_more n w k.done k.named w' o one (index_below s p n y t kd i x e) j h;
-            begun = begun_more s c n k.done p k.begun kd i x this;
+            named = named_more n w k.done k.named w' o one (index_below s p n q x t y e) j (not-false o h);
+            begun = begun_more s c n k.done p k.begun y.kind y.index x this;
           }
 
-      pub naming-again : o ≡ false → ChecksSymbols s c n (symbols.Refused 9)
-      naming-again h = begun_again s c n k.done p k.begun kd i x this (named_again n w k.done k.named w' o one (index_below s p n y t kd i x e) j h)
+      pub naming-again : not o ≡ true → ChecksSymbols s c n (Err refusal.Symbol)
+      naming-again h = begun_again s c n k.done p k.begun y.kind y.index x this (named_again n w k.done k.named w' o one (index_below s p n q x t y e) j (not-true o h))

@@ -10,8 +10,6 @@ use Rattle.witness_text.specs.declared.AagCounts.{AagCounts}
 use Rattle.witness_text.specs.declared.Latch.{Latch}
 use Rattle.witness_text.specs.Header.{header_of, counted, without_liveness}
 use Rattle.witness_text.specs.Symbols.{Symbol}
-use Rattle.witness_read.specs.declared.ReadAag.{ReadAag}
-use Rattle.witness_read.specs.declared.ReadAag.TheVariants as read
 use Rattle.witness_read.specs.Sections.{NamedLatch, Sections, variables}
 use Rattle.witness_read.specs.Names.{is_input, is_latch, symbols_of, name_of, names_of}
 use Rattle.witness_read.specs.Comments.{plain_comments}
@@ -70,6 +68,6 @@ counts_in s =
     }
 
 -- R12.13: what the call returns: the counts or the number
-abbrev pub counts_read : Answer Sections → ReadAag
-counts_read (got s) = read.Got (counts_in s)
-counts_read (refused n) = read.Refused n
+abbrev pub counts_read : Answer Sections → Answer AagCounts
+counts_read (got s) = got (counts_in s)
+counts_read (refused n) = refused n

@@ -11,8 +11,7 @@ ghost use Rattle.witness_read.specs.Inner.Passes.{Checks, ChecksLeaves, ChecksPr
 
 use super::Checked;
 use aiger::Gate;
-use circuit_lines::TakenGate;
-use text::{Cursor, Literal, Reader};
+use text::{Cursor, Reader};
 use witness_text::{AagCounts, Latch, TakenLatch};
 
 fn both(a: bool, b: bool) -> bool
@@ -69,12 +68,13 @@ fn check_inputs(s: &[u8], cursor: Cursor, n: usize) -> Checked
     let mut fine = true;
     let mut i: usize = 0;
     while i < n {
-        let Literal::Got { value, next } = text::take_literal(Reader::Witness, s, p) else {
+        let literal = text::take_literal(Reader::Witness, s, p);
+        let Some(value) = literal.value else {
             return Checked::Bad;
         };
         let k = wide(1 + i);
         fine = both(fine, value == 2 * k);
-        p = next;
+        p = literal.next;
         i += 1;
     }
     Checked::Done {
@@ -115,11 +115,12 @@ fn check_literals(s: &[u8], cursor: Cursor, n: usize, most: u64) -> Checked
     let mut fine = true;
     let mut i: usize = 0;
     while i < n {
-        let Literal::Got { value, next } = text::take_literal(Reader::Witness, s, p) else {
+        let literal = text::take_literal(Reader::Witness, s, p);
+        let Some(value) = literal.value else {
             return Checked::Bad;
         };
         fine = both(fine, literal_holds(most, value));
-        p = next;
+        p = literal.next;
         i += 1;
     }
     Checked::Done {
@@ -137,12 +138,12 @@ fn check_gates(s: &[u8], cursor: Cursor, n: usize, first: usize) -> Checked
     let mut fine = true;
     let mut i: usize = 0;
     while i < n {
-        let TakenGate::Got { gate, next } = circuit_lines::take_gate(Reader::Witness, s, p) else {
+        let Some(gate) = circuit_lines::take_gate(Reader::Witness, s, p) else {
             return Checked::Bad;
         };
         let k = wide(first + 1 + i);
-        fine = both(fine, gate_numbered(k, gate));
-        p = next;
+        fine = both(fine, gate_numbered(k, gate.value));
+        p = gate.next;
         i += 1;
     }
     Checked::Done {

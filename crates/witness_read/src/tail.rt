@@ -7,8 +7,9 @@ ghost use Rattle.witness_text.specs.Symbols.{count_of};
 ghost use Rattle.witness_read.specs.Comments.{plain_comment, plain_comments};
 ghost use Rattle.witness_read.specs.Inner.Passes.{MarksName, Unmarked, TakesSymbol, ChecksSymbols};
 
-use super::{NextSymbol, Symbols};
-use text::{Cursor, Line};
+use super::{NextSymbol, SymbolName};
+use aiger::Refusal;
+use text::Cursor;
 use witness_text::{AagCounts, Kind, SymbolLine};
 
 // Whether an input or a latch is named for the first time, which is marked; outputs, bads and constraints may be named again.
@@ -19,56 +20,58 @@ fn name_first(counts: AagCounts, kind: Kind, index: usize, marks: &mut [u64]) ->
     match kind {
         Kind::Input => lists::add(marks, index),
         Kind::Latch => lists::add(marks, counts.inputs + index),
-        Kind::Output => true,
-        Kind::Bad => true,
-        Kind::Constraint => true,
+        Kind::Output | Kind::Bad | Kind::Constraint => true,
     }
 }
 
 // The symbol of the line at a cursor, or how the symbols end there.
-fn next_symbol(s: &[u8], cursor: Cursor, counts: AagCounts) -> NextSymbol
+fn next_symbol(s: &[u8], cursor: Cursor, counts: AagCounts) -> Result<NextSymbol, Refusal>
     ensures { TakesSymbol s.now cursor counts result }
 {
-    let Line::At { start, end, next } = text::next_line(s, cursor) else {
-        return NextSymbol::End(Symbols::Done(cursor));
+    let Some(line) = text::next_line(s, cursor) else {
+        return Ok(NextSymbol {
+            symbol: None,
+            next: cursor,
+        });
     };
-    let l = &s[start..end];
+    let l = &s[line.start..line.end];
     if witness_text::ends_symbols(l) {
-        return NextSymbol::End(Symbols::Done(next));
+        return Ok(NextSymbol { symbol: None, next: line.next });
     }
     let SymbolLine::Named { kind, index, name } = witness_text::symbol_line(l, counts) else {
-        return NextSymbol::End(Symbols::Refused(9));
+        return Err(Refusal::Symbol);
     };
-    NextSymbol::Named {
-        kind: kind,
-        index: index,
-        next: next,
-    }
+    Ok(NextSymbol {
+        symbol: Some(SymbolName { kind, index }),
+        next: line.next,
+    })
 }
 
 // The symbols from a cursor on, up to the line `c` or the end. An input or latch that is named is marked: input k at k, latch k at I + k.
-fn check_symbols(s: &[u8], cursor: Cursor, counts: AagCounts, marks: &mut [u64]) -> Symbols
+fn check_symbols(
+    s: &[u8],
+    cursor: Cursor,
+    counts: AagCounts,
+    marks: &mut [u64],
+) -> Result<Cursor, Refusal>
     requires { (counts.inputs + counts.latches ≤ 2000000) × Unmarked counts marks.old }
     ensures { ChecksSymbols s.now cursor counts result }
 {
     let mut p = cursor;
     loop {
-        let symbol = next_symbol(s, p, counts);
-        match symbol {
-            NextSymbol::End(end) => return end,
-            NextSymbol::Named { kind, index, next } => {
-                if name_first(counts, kind, index, marks) {
-                    p = next;
-                } else {
-                    return Symbols::Refused(9);
-                }
-            }
+        let NextSymbol { symbol, next } = next_symbol(s, p, counts)?;
+        let Some(SymbolName { kind, index }) = symbol else {
+            return Ok(next);
+        };
+        if !name_first(counts, kind, index, marks) {
+            return Err(Refusal::Symbol);
         }
+        p = next;
     }
 }
 
 // The symbols where there are at most 4,096 inputs and latches: clearing more marks would cost more than a short text.
-fn check_few(s: &[u8], cursor: Cursor, counts: AagCounts) -> Symbols
+fn check_few(s: &[u8], cursor: Cursor, counts: AagCounts) -> Result<Cursor, Refusal>
     requires { counts.inputs + counts.latches ≤ 4096 }
     ensures { ChecksSymbols s.now cursor counts result }
 {
@@ -76,7 +79,7 @@ fn check_few(s: &[u8], cursor: Cursor, counts: AagCounts) -> Symbols
     check_symbols(s, cursor, counts, &mut marks)
 }
 
-fn check_more(s: &[u8], cursor: Cursor, counts: AagCounts) -> Symbols
+fn check_more(s: &[u8], cursor: Cursor, counts: AagCounts) -> Result<Cursor, Refusal>
     requires { counts.inputs + counts.latches ≤ 65536 }
     ensures { ChecksSymbols s.now cursor counts result }
 {
@@ -84,7 +87,7 @@ fn check_more(s: &[u8], cursor: Cursor, counts: AagCounts) -> Symbols
     check_symbols(s, cursor, counts, &mut marks)
 }
 
-fn check_many(s: &[u8], cursor: Cursor, counts: AagCounts) -> Symbols
+fn check_many(s: &[u8], cursor: Cursor, counts: AagCounts) -> Result<Cursor, Refusal>
     requires { counts.inputs + counts.latches ≤ 2000000 }
     ensures { ChecksSymbols s.now cursor counts result }
 {
@@ -93,7 +96,7 @@ fn check_many(s: &[u8], cursor: Cursor, counts: AagCounts) -> Symbols
 }
 
 // The symbols in any order, by marks.
-fn check_marked(s: &[u8], cursor: Cursor, counts: AagCounts) -> Symbols
+fn check_marked(s: &[u8], cursor: Cursor, counts: AagCounts) -> Result<Cursor, Refusal>
     requires { counted limited counts ≡ true }
     ensures { ChecksSymbols s.now cursor counts result }
 {
@@ -109,7 +112,7 @@ fn check_marked(s: &[u8], cursor: Cursor, counts: AagCounts) -> Symbols
 
 // The symbols from a cursor on. Inputs and latches that are named in their order need no marks; where that order is first broken, the symbols
 // are looked at again with them.
-pub fn check_tail(s: &[u8], cursor: Cursor, counts: AagCounts) -> Symbols
+pub fn check_tail(s: &[u8], cursor: Cursor, counts: AagCounts) -> Result<Cursor, Refusal>
     requires { counted limited counts ≡ true }
     ensures { ChecksSymbols s.now cursor counts result }
 {
@@ -117,30 +120,26 @@ pub fn check_tail(s: &[u8], cursor: Cursor, counts: AagCounts) -> Symbols
     let mut inputs: usize = 0;
     let mut latches: usize = 0;
     loop {
-        let symbol = next_symbol(s, p, counts);
-        match symbol {
-            NextSymbol::End(end) => return end,
-            NextSymbol::Named { kind, index, next } => {
-                p = next;
-                match kind {
-                    Kind::Input => {
-                        if index < inputs {
-                            return check_marked(s, cursor, counts);
-                        }
-                        inputs = index + 1;
-                    }
-                    Kind::Latch => {
-                        if index < latches {
-                            return check_marked(s, cursor, counts);
-                        }
-                        latches = index + 1;
-                    }
-                    Kind::Output => continue,
-                    Kind::Bad => continue,
-                    Kind::Constraint => continue,
+        let NextSymbol { symbol, next } = next_symbol(s, p, counts)?;
+        let Some(SymbolName { kind, index }) = symbol else {
+            return Ok(next);
+        };
+        match kind {
+            Kind::Input => {
+                if index < inputs {
+                    return check_marked(s, cursor, counts);
                 }
+                inputs = index + 1;
             }
+            Kind::Latch => {
+                if index < latches {
+                    return check_marked(s, cursor, counts);
+                }
+                latches = index + 1;
+            }
+            Kind::Output | Kind::Bad | Kind::Constraint => {}
         }
+        p = next;
     }
 }
 
@@ -163,11 +162,11 @@ pub fn plain_comments(s: &[u8], cursor: Cursor, witness: bool) -> bool
     }
     let mut p = cursor;
     loop {
-        let Line::At { start, end, next } = text::next_line(s, p) else {
+        let Some(line) = text::next_line(s, p) else {
             return true;
         };
-        if plain_comment(&s[start..end]) {
-            p = next;
+        if plain_comment(&s[line.start..line.end]) {
+            p = line.next;
         } else {
             return false;
         }

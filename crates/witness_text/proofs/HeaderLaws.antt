@@ -1,8 +1,8 @@
 -- Laws of `header_of`, for the code that takes the header.
+use Rattle.std.specs.Prelude.{Option, Some, None}
 use Prim.Native.Nat.{ℕ, ◌≤◌, ◌<◌}
 use mathlib.Core.Bool.{Bool, true, false}
 use mathlib.Core.List.{List}
-use mathlib.Core.Option.{Option, some, none}
 use mathlib.Core.Path.{◌≡◌, refl, ap, sym, ◌∙◌}
 use native.Mathlib.Omega.{arith}
 use lib.ListN.{length, get_or}
@@ -14,14 +14,13 @@ use Rattle.lists.proofs.ZeroLaws.{front-zeros}
 use Rattle.text.specs.declared.Cursor.{Cursor}
 use Rattle.text.specs.declared.Reader.TheVariants.{Witness}
 use Rattle.text.specs.Lines.{lines_of}
-use Rattle.circuit_lines.specs.declared.HeaderCount.{HeaderCount}
+use Rattle.text.specs.declared.Parsed.{Parsed}
 use Rattle.circuit_lines.specs.SectionLines.{first_numbers}
 use Rattle.circuit_lines.specs.Inner.OneLine.{at_most}
 use Rattle.circuit_lines.specs.Inner.Takes.{Headed, TakesHeaderNumbers}
 use Rattle.witness_text.specs.declared.AagCounts.{AagCounts}
 use Rattle.witness_text.specs.Header.{counts_from, five_to_nine}
 use Rattle.witness_text.specs.Inner.Takes.{TakesCounts}
-use Rattle.circuit_lines.specs.declared.HeaderCount.TheVariants as numbers
 use Rattle.witness_text.specs.declared.WitnessHeader.TheVariants as header
 
 -- ---- counts_of_lem
@@ -33,20 +32,20 @@ counts-are ns m i l o a b c j f p q r s t u v w x = rw (p, q, r, s, t, u, v, w, 
 
 -- ---- take_witness_header
 
-taken_nine : (ns : List ℕ) → 5 ≤ length ns → length ns ≤ 9 → five_to_nine (some ns) ≡ got (counts_from ns)
+taken_nine : (ns : List ℕ) → 5 ≤ length ns → length ns ≤ 9 → five_to_nine (Some ns) ≡ got (counts_from ns)
 taken_nine ns h k = rw (le-leb 5 (length ns) h, le-leb (length ns) 9 k)
 
-few : (ns : List ℕ) → length ns < 5 → five_to_nine (some ns) ≡ refused 4
+few : (ns : List ℕ) → length ns < 5 → five_to_nine (Some ns) ≡ refused 4
 few ns h = rw (lt-leb 5 (length ns) h)
 
-over_nine : (x : Option (List ℕ)) → at_most 9 x ≡ none → five_to_nine x ≡ refused 4
-over_nine none h = refl
-over_nine (some ns) h = go (leb 5 (length ns)) (leb (length ns) 9) refl
+over_nine : (x : Option (List ℕ)) → at_most 9 x ≡ None → five_to_nine x ≡ refused 4
+over_nine None h = refl
+over_nine (Some ns) h = go (leb 5 (length ns)) (leb (length ns) 9) refl
   where
     go : (a b : Bool) → leb (length ns) 9 ≡ b → unless 4 a (unless 4 (leb (length ns) 9) (got (counts_from ns))) ≡ refused 4
     go false b e = refl
     go true false e = rw e
-    go true true e = let k : some ns ≡ none = simp e at h in let z : ◌≡◌ {A = ℕ} 0 1 = cc in absurd (omega arith)
+    go true true e = let k : Some ns ≡ None = simp e at h in let z : ◌≡◌ {A = ℕ} 0 1 = cc in absurd (omega arith)
 
 -- numbers that stand in front of zeros: those that are absent are 0
 counts-front : (ns : List ℕ) → length ns ≤ 9 → counts_from (front (zeros 9) ns) ≡ counts_from ns
@@ -63,18 +62,18 @@ counts-front ns h =
       front-zeros 9 ns 8 h,
     )
 
-module _ (s : Bytes) (ns : List ℕ) (r : HeaderCount) (q : TakesHeaderNumbers Witness s (zeros 9) ns r) where
-  pub header_bad : r ≡ numbers.Refused → TakesCounts s header.Refused
+module _ (s : Bytes) (ns : List ℕ) (r : Option (Parsed ℕ)) (q : TakesHeaderNumbers Witness s (zeros 9) ns r) where
+  pub header_bad : r ≡ None → TakesCounts s header.Refused
   header_bad k = over_nine (first_numbers Witness (lines_of s)) (rw k at q)
 
-  module _ (m : ℕ) (c : Cursor) (k : r ≡ numbers.Got m c) where
-    headed : Headed Witness s (zeros 9) ns m c
+  module _ (x : Parsed ℕ) (k : r ≡ Some x) where
+    headed : Headed Witness s (zeros 9) ns x.value x.next
     headed = rw k at q
 
-    pub header_few : m < 5 → TakesCounts s header.Refused
+    pub header_few : x.value < 5 → TakesCounts s header.Refused
     header_few h = ap five_to_nine headed.stored.are ∙ few headed.stored.numbers (omega (arith, headed.stored.count))
 
-    pub header_got : 5 ≤ m → (n : AagCounts) → n ≡ counts_from ns → TakesCounts s (header.Got n c)
+    pub header_got : 5 ≤ x.value → (n : AagCounts) → n ≡ counts_from ns → TakesCounts s (header.Got n x.next)
     header_got h n p =
         let ms : List ℕ = headed.stored.numbers in
         let most : length ms ≤ 9 = omega (arith, headed.stored.count, headed.stored.fits) in

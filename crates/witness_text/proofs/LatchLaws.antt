@@ -1,7 +1,7 @@
 -- Laws of `latch_line`, for the code that takes a latch.
+use Rattle.std.specs.Prelude.{Option, Some, None}
 use Prim.Native.Nat.{ℕ, ◌≤◌, ◌<◌}
 use mathlib.Core.List.{List, [], ◌∷◌}
-use mathlib.Core.Option.{Option, some, none}
 use mathlib.Core.Path.{◌≡◌, refl, ap, sym, ◌∙◌}
 use native.Mathlib.Omega.{arith}
 use lib.ListN.{length, get_or}
@@ -12,15 +12,12 @@ use Rattle.text.specs.declared.Line.{Line}
 use Rattle.text.specs.declared.Reader.TheVariants.{Witness}
 use Rattle.text.specs.Lines.{line_at}
 use Rattle.text.proofs.LiteralLaws.{numbers_from}
-use Rattle.circuit_lines.specs.declared.Numbers.{Numbers}
 use Rattle.circuit_lines.specs.Inner.OneLine.{at_most, Stored, Stores}
 use Rattle.circuit_lines.proofs.PlaceLaws.{one_none, one_bad, one_got}
 use Rattle.witness_text.specs.declared.Latch.{Latch}
 use Rattle.witness_text.specs.declared.ReadLatch.{ReadLatch}
 use Rattle.witness_text.specs.LatchLines.{latch_from, latch_numbers, latch_line}
 use Rattle.witness_text.specs.Inner.Takes.{latch_answer, TakesLatch}
-use Rattle.text.specs.declared.Line.TheVariants as line
-use Rattle.circuit_lines.specs.declared.Numbers.TheVariants as count
 use Rattle.witness_text.specs.declared.ReadLatch.TheVariants as read
 use Rattle.witness_text.specs.declared.TakenLatch.TheVariants as latch
 
@@ -28,31 +25,31 @@ use Rattle.witness_text.specs.declared.TakenLatch.TheVariants as latch
 
 -- two or three numbers in front of zeros
 latch_of : (ns : List ℕ) → 2 ≤ length ns → length ns ≤ 3
-    → got (latch_from (get_or (front (zeros 3) ns) 0 0) (get_or (front (zeros 3) ns) 1 0) (get_or (front (zeros 3) ns) 2 0)) ≡ latch_numbers (some ns)
+    → got (latch_from (get_or (front (zeros 3) ns) 0 0) (get_or (front (zeros 3) ns) 1 0) (get_or (front (zeros 3) ns) 2 0)) ≡ latch_numbers (Some ns)
 latch_of [] h k = absurd (omega arith)
 latch_of (c ∷ []) h k = absurd (omega arith)
 latch_of (c ∷ n ∷ []) h k = refl
 latch_of (c ∷ n ∷ r ∷ []) h k = refl
 latch_of (c ∷ n ∷ r ∷ m ∷ ms) h k = absurd (omega arith)
 
-one_at_most : (ns : List ℕ) → length ns < 2 → refused 8 ≡ latch_numbers (some ns)
+one_at_most : (ns : List ℕ) → length ns < 2 → refused 8 ≡ latch_numbers (Some ns)
 one_at_most [] h = refl
 one_at_most (c ∷ []) h = refl
 one_at_most (c ∷ n ∷ ns) h = absurd (omega arith)
 
-over_three : (x : Option (List ℕ)) → at_most 3 x ≡ none → refused 8 ≡ latch_numbers x
-over_three none h = refl
-over_three (some []) h = refl
-over_three (some (c ∷ [])) h = refl
-over_three (some (c ∷ n ∷ [])) h = let z : ◌≡◌ {A = ℕ} 0 1 = cc in absurd (omega arith)
-over_three (some (c ∷ n ∷ r ∷ [])) h = let z : ◌≡◌ {A = ℕ} 0 1 = cc in absurd (omega arith)
-over_three (some (c ∷ n ∷ r ∷ m ∷ ms)) h = refl
+over_three : (x : Option (List ℕ)) → at_most 3 x ≡ None → refused 8 ≡ latch_numbers x
+over_three None h = refl
+over_three (Some []) h = refl
+over_three (Some (c ∷ [])) h = refl
+over_three (Some (c ∷ n ∷ [])) h = let z : ◌≡◌ {A = ℕ} 0 1 = cc in absurd (omega arith)
+over_three (Some (c ∷ n ∷ r ∷ [])) h = let z : ◌≡◌ {A = ℕ} 0 1 = cc in absurd (omega arith)
+over_three (Some (c ∷ n ∷ r ∷ m ∷ ms)) h = refl
 
-module _ (l : Bytes) (ns : List ℕ) (r : Numbers) (q : Stores (zeros 3) ns (numbers_from Witness l 0) r) where
-  pub latch_refused : r ≡ count.Refused → latch_answer read.Bad ≡ latch_line l
+module _ (l : Bytes) (ns : List ℕ) (r : Option ℕ) (q : Stores (zeros 3) ns (numbers_from Witness l 0) r) where
+  pub latch_refused : r ≡ None → latch_answer read.Bad ≡ latch_line l
   latch_refused k = over_three (numbers_from Witness l 0) (rw k at q)
 
-  module _ (n : ℕ) (k : r ≡ count.Got n) where
+  module _ (n : ℕ) (k : r ≡ Some n) where
     stored : Stored (zeros 3) ns (numbers_from Witness l 0) n
     stored = rw k at q
 
@@ -67,13 +64,13 @@ module _ (l : Bytes) (ns : List ℕ) (r : Numbers) (q : Stores (zeros 3) ns (num
 
 -- ---- take_latch
 
-module _ (s : Bytes) (c : Cursor) (r : Line) (q : r ≡ line_at s c.at) where
-  pub latch_missing : r ≡ line.None → TakesLatch s c latch.Bad
+module _ (s : Bytes) (c : Cursor) (r : Option Line) (q : r ≡ line_at s c.at) where
+  pub latch_missing : r ≡ None → TakesLatch s c latch.Bad
   latch_missing k = one_none latch_line s c r q k
 
-  module _ (a e : ℕ) (n : Cursor) (k : r ≡ line.At a e n) (x : ReadLatch) (p : latch_answer x ≡ latch_line (part s a e)) where
+  module _ (l : Line) (k : r ≡ Some l) (x : ReadLatch) (p : latch_answer x ≡ latch_line (part s l.start l.end)) where
     pub latch_bad : x ≡ read.Bad → TakesLatch s c latch.Bad
-    latch_bad u = one_bad latch_line s c r q a e n k (sym p ∙ ap latch_answer u)
+    latch_bad u = one_bad latch_line s c r q l k (sym p ∙ ap latch_answer u)
 
-    pub latch_got : (g : Latch) → x ≡ read.Got g → TakesLatch s c (latch.Got g n)
-    latch_got g u = one_got latch_line s c r q a e n k g (sym p ∙ ap latch_answer u)
+    pub latch_got : (g : Latch) → x ≡ read.Got g → TakesLatch s c (latch.Got g l.next)
+    latch_got g u = one_got latch_line s c r q l k g (sym p ∙ ap latch_answer u)

@@ -1,4 +1,5 @@
 -- Laws of `kind_of`, `before_space` and `symbol_of`, for the code that takes a symbol line apart, and for its callers.
+use Rattle.std.specs.Prelude.{Option, Some, None}
 use Prim.Native.Nat.{ℕ, zero, suc, ◌+◌, ◌-◌, ◌≤◌, ◌<◌}
 use mathlib.Core.Bool.{true, false}
 use mathlib.Core.List.{[], ◌∷◌}
@@ -11,8 +12,6 @@ use borrow.Author.Tests.{eq-eqb, ne_eqb, lt-ltb, le-ltb, ltb-true}
 use Rattle.lists.specs.Answer.{Answer, got, refused, and_then}
 use Rattle.lists.specs.Parts.{Bytes, part}
 use Rattle.lists.proofs.AnswerLaws.{and_then-got, unless_test, unless-got, got_same, got-refused}
-use Rattle.text.specs.declared.Number.{Number}
-use Rattle.text.specs.declared.Number.TheVariants.{Value, Unreadable}
 use Rattle.text.specs.declared.Reader.TheVariants.{Witness}
 use Rattle.text.specs.Numbers.{number_of}
 use Rattle.witness_text.specs.declared.AagCounts.{AagCounts}
@@ -87,22 +86,22 @@ module _ (l : Bytes) (n : AagCounts) (end : ℕ) (q : end ≡ before_space l) wh
         pub unknown_kind : x ≡ known.Unknown → symbol_answer l symbol.Refused ≡ symbol_of n l
         unknown_kind e = sym (from-kind (refused 9) (ap kind_answer e))
 
-        module _ (k : Kind) (e : x ≡ known.Is k) (v : Number) (u : v ≡ number_of Witness (part l 1 end)) where
-          from-index : (w : Number) → v ≡ w → symbol_of n l ≡ and_then (readable_index w) (indexed n (drop (suc end) l) k)
+        module _ (k : Kind) (e : x ≡ known.Is k) (v : Option ℕ) (u : v ≡ number_of Witness (part l 1 end)) where
+          from-index : (w : Option ℕ) → v ≡ w → symbol_of n l ≡ and_then (readable_index w) (indexed n (drop (suc end) l) k)
           from-index w a =
-              from-kind (got k) (ap kind_answer e) ∙ ap (λ (z : Number). and_then (readable_index z) (indexed n (drop (suc end) l) k)) (sym u ∙ a)
+              from-kind (got k) (ap kind_answer e) ∙ ap (λ (z : Option ℕ). and_then (readable_index z) (indexed n (drop (suc end) l) k)) (sym u ∙ a)
 
-          pub unreadable_index : v ≡ Unreadable → symbol_answer l symbol.Refused ≡ symbol_of n l
-          unreadable_index a = sym (from-index Unreadable a)
+          pub unreadable_index : v ≡ None → symbol_answer l symbol.Refused ≡ symbol_of n l
+          unreadable_index a = sym (from-index None a)
 
-          module _ (i : ℕ) (a : v ≡ Value i) (j : ℕ) (b : j ≡ i) (m : ℕ) (c : m ≡ count_of n k) where
+          module _ (i : ℕ) (a : v ≡ Some i) (j : ℕ) (b : j ≡ i) (m : ℕ) (c : m ≡ count_of n k) where
             pub index_below : j < m → symbol_answer l (symbol.Named k j (end + 1)) ≡ symbol_of n l
             index_below d =
                 let f : i < count_of n k = omega arith in
-                sym (from-index (Value i) a ∙ rw (lt-ltb i (count_of n k) f, add-one end, b))
+                sym (from-index (Some i) a ∙ rw (lt-ltb i (count_of n k) f, add-one end, b))
 
             pub index_past : m ≤ j → symbol_answer l symbol.Refused ≡ symbol_of n l
-            index_past d = let f : count_of n k ≤ i = omega arith in sym (from-index (Value i) a ∙ rw (le-ltb i (count_of n k) f))
+            index_past d = let f : count_of n k ≤ i = omega arith in sym (from-index (Some i) a ∙ rw (le-ltb i (count_of n k) f))
 
 -- ---- a symbol
 

@@ -1,6 +1,5 @@
 -- The header of a witness text (R4.2; refusals R9.4, R9.5 and R9.6).
-use Rattle.std.specs.Prelude.{ℕ, ◌+◌, Bool, List, [], ◌∷◌, eqb, leb, length, get_or}
-use Rattle.std.proofs.Math.Option.{Option, some, none}
+use Rattle.std.specs.Prelude.{ℕ, ◌+◌, Bool, List, [], ◌∷◌, eqb, leb, length, get_or, Option, Some, None}
 use Rattle.lists.specs.Answer.{Answer, got, refused, unless}
 use Rattle.lists.specs.Parts.{Bytes}
 use Rattle.lists.specs.Tests.{every}
@@ -26,8 +25,8 @@ counts_from ns =
 
 -- R4.2: the counts, where the numbers are readable and five to nine
 abbrev pub five_to_nine : Option (List ℕ) → Answer AagCounts
-five_to_nine none = refused 4
-five_to_nine (some ns) = unless 4 (leb 5 (length ns)) (unless 4 (leb (length ns) 9) (got (counts_from ns)))
+five_to_nine None = refused 4
+five_to_nine (Some ns) = unless 4 (leb 5 (length ns)) (unless 4 (leb (length ns) 9) (got (counts_from ns)))
 
 -- R9.4: the counts of the first line; refused where there is none, without the word `aag`, and without five to nine numbers behind it
 abbrev pub header_of : List Bytes → Answer AagCounts

@@ -1,6 +1,5 @@
 -- The latch lines of a witness text (R4.7). One that has too few or too many fields, or one that is no number, is refused with 8 (R9.8).
-use Rattle.std.specs.Prelude.{ℕ, List, [], ◌∷◌}
-use Rattle.std.proofs.Math.Option.{Option, some, none}
+use Rattle.std.specs.Prelude.{ℕ, List, [], ◌∷◌, Option, Some, None}
 use Rattle.lists.specs.Answer.{Answer, got, refused}
 use Rattle.lists.specs.Parts.{Bytes}
 use Rattle.text.specs.declared.Reader.TheVariants.{Witness}
@@ -14,12 +13,12 @@ latch_from current next reset = record { current = current; next = next; reset =
 
 -- R4.7: a latch from two or three numbers: its literal, its next literal and its reset, which is 0 where there is no third
 abbrev pub latch_numbers : Option (List ℕ) → Answer Latch
-latch_numbers none = refused 8
-latch_numbers (some []) = refused 8
-latch_numbers (some (c ∷ [])) = refused 8
-latch_numbers (some (c ∷ n ∷ [])) = got (latch_from c n 0)
-latch_numbers (some (c ∷ n ∷ r ∷ [])) = got (latch_from c n r)
-latch_numbers (some (c ∷ n ∷ r ∷ m ∷ ms)) = refused 8
+latch_numbers None = refused 8
+latch_numbers (Some []) = refused 8
+latch_numbers (Some (c ∷ [])) = refused 8
+latch_numbers (Some (c ∷ n ∷ [])) = got (latch_from c n 0)
+latch_numbers (Some (c ∷ n ∷ r ∷ [])) = got (latch_from c n r)
+latch_numbers (Some (c ∷ n ∷ r ∷ m ∷ ms)) = refused 8
 
 -- R9.8: the line of a latch
 abbrev pub latch_line : Bytes → Answer Latch

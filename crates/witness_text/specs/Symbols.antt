@@ -1,13 +1,11 @@
 -- The symbol lines of a witness text (R4.9 to R4.11). One that cannot be split, is of no known kind or has a wrong index is refused with 9
 -- (R9.9).
-use Rattle.std.specs.Prelude.{ℕ, suc, Bool, cond, not, [], ◌∷◌, eqb, ltb, length, take, drop}
+use Rattle.std.specs.Prelude.{ℕ, suc, Bool, cond, not, [], ◌∷◌, eqb, ltb, length, take, drop, Option, Some, None}
 use Rattle.lists.specs.Quoted.{bytes}
 use Rattle.lists.specs.Answer.{Answer, got, refused, unless, and_then}
 use Rattle.lists.specs.Parts.{Bytes}
 use Rattle.scan.specs.Same.{same_bytes}
 use Rattle.scan.specs.Spans.{span}
-use Rattle.text.specs.declared.Number.{Number}
-use Rattle.text.specs.declared.Number.TheVariants.{Value, Unreadable}
 use Rattle.text.specs.declared.Reader.TheVariants.{Witness}
 use Rattle.text.specs.Numbers.{number_of}
 use Rattle.witness_text.specs.declared.AagCounts.{AagCounts}
@@ -43,9 +41,9 @@ count_of n Bad = n.bads
 count_of n Constraint = n.constraints
 
 -- R9.9: an index; refused where it could not be read
-abbrev pub readable_index : Number → Answer ℕ
-readable_index (Value v) = got v
-readable_index Unreadable = refused 9
+abbrev pub readable_index : Option ℕ → Answer ℕ
+readable_index (Some v) = got v
+readable_index None = refused 9
 
 -- R4.11: a symbol, where its index is below the number of lines in its section
 abbrev pub indexed : AagCounts → Bytes → Kind → ℕ → Answer Symbol

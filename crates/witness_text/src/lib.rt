@@ -8,8 +8,7 @@ ghost use Rattle.witness_text.specs.LatchLines.{latch_line};
 ghost use Rattle.witness_text.specs.Symbols.{ends_symbols, count_of, kind_of, before_space, symbol_of};
 ghost use Rattle.witness_text.specs.Inner.Takes.{TakesCounts, latch_answer, kind_answer, symbol_answer, TakesLatch};
 
-use circuit_lines::Numbers;
-use text::{Cursor, Line, Number, Reader};
+use text::{Cursor, Reader};
 
 // The counts of a header: M I L O A B C J F.
 #[derive(Clone, Copy)]
@@ -99,19 +98,15 @@ pub fn take_witness_header(s: &[u8]) -> WitnessHeader
     ensures { TakesCounts s.now result }
 {
     let mut ns: [u64; 9] = [0; 9];
-    let circuit_lines::HeaderCount::Got { count, next } = circuit_lines::take_header_numbers(
-        Reader::Witness,
-        s,
-        &mut ns,
-    ) else {
+    let Some(numbers) = circuit_lines::take_header_numbers(Reader::Witness, s, &mut ns) else {
         return WitnessHeader::Refused;
     };
-    if count < 5 {
+    if numbers.value < 5 {
         return WitnessHeader::Refused;
     }
     WitnessHeader::Got {
         counts: counts_of(ns),
-        next: next,
+        next: numbers.next,
     }
 }
 
@@ -146,7 +141,7 @@ fn latch_line(l: &[u8]) -> ReadLatch
     ensures { latch_answer result ≡ latch_line l.now }
 {
     let mut ns: [u64; 3] = [0; 3];
-    let Numbers::Got(count) = circuit_lines::take_numbers(Reader::Witness, l, 0, &mut ns) else {
+    let Some(count) = circuit_lines::take_numbers(Reader::Witness, l, 0, &mut ns) else {
         return ReadLatch::Bad;
     };
     if count < 2 {
@@ -163,15 +158,15 @@ fn latch_line(l: &[u8]) -> ReadLatch
 pub fn take_latch(s: &[u8], cursor: Cursor) -> TakenLatch
     ensures { TakesLatch s.now cursor result }
 {
-    let Line::At { start, end, next } = text::next_line(s, cursor) else {
+    let Some(line) = text::next_line(s, cursor) else {
         return TakenLatch::Bad;
     };
-    let ReadLatch::Got(latch) = latch_line(&s[start..end]) else {
+    let ReadLatch::Got(latch) = latch_line(&s[line.start..line.end]) else {
         return TakenLatch::Bad;
     };
     TakenLatch::Got {
         latch: latch,
-        next: next,
+        next: line.next,
     }
 }
 
@@ -236,7 +231,7 @@ pub fn symbol_line(l: &[u8], counts: AagCounts) -> SymbolLine
     let KnownKind::Is(kind) = kind_of(l[0]) else {
         return SymbolLine::Refused;
     };
-    let Number::Value(v) = text::numbers::parse_number(&l[1..end]) else {
+    let Some(v) = text::numbers::parse_number(&l[1..end]) else {
         return SymbolLine::Refused;
     };
     let index = lists::index(v);

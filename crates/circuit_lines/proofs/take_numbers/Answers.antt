@@ -13,8 +13,8 @@ returns-in-Unreadable c = search numbering_unreadable
 pub returns-in-Missing : goal.returns-in-Missing
 returns-in-Missing c = search numbering_missing
 
-pub returns-in_default : goal.returns-in_default
-returns-in_default c = search numbering-over
+pub returns-then-is_some : goal.returns-then-is_some
+returns-then-is_some c = search numbering-over
 
 pub returns : goal.returns
-returns c = search numbering-done
+returns c = search (numbering-done, c.loop-i.auto)

@@ -1,10 +1,6 @@
-use Prim.Native.Nat.{◌-◌}
-use lib.ListN.{length}
 use Rattle.circuit_lines.proofs.NumbersLaws.{Numbering}
 use Rattle.circuit_lines.proofs.take_numbers.Given as goal
 
 abbrev pub invariant-loop-i : goal.invariant-loop-i
 invariant-loop-i l = Numbering l.reader l.l l.at l.initial.out l.out l.i l.p
 
-abbrev pub decreases-loop-i : goal.decreases-loop-i
-decreases-loop-i l = length l.initial.out - l.i

@@ -4,14 +4,14 @@ use Rattle.compose.proofs.compose_witnesses.Goals as goal
 pub room_beside-room-requires : goal.room_beside-room-requires
 room_beside-room-requires c = search model_sums
 
-pub returns-then-t-eq0 : goal.returns-then-t-eq0
-returns-then-t-eq0 c = search witnesses_short
+pub returns-in_err-totals : goal.returns-in_err-totals
+returns-in_err-totals c = witnesses_refused _ _ _ _ _ _ c.room_beside-room.ensures _ _ c.in_err-totals.ensures _ c.from_residual.ensures.1
+
+pub returns-then-totals-eq0 : goal.returns-then-totals-eq0
+returns-then-totals-eq0 c = search (witnesses_short, c.in_ok-totals.ensures)
 
 pub compose_fitting-requires : goal.compose_fitting-requires
-compose_fitting-requires c = record { can_lay = search witnesses_fit; counts_listed = search witnesses_listed }
+compose_fitting-requires c = record { can_lay = search (witnesses_fit, c.in_ok-totals.ensures); counts_listed = search (witnesses_listed, c.in_ok-totals.ensures) }
 
-pub returns-in-Refused : goal.returns-in-Refused
-returns-in-Refused c = search witnesses_refused
-
-pub returns-else-t-eq0 : goal.returns-else-t-eq0
-returns-else-t-eq0 c = search witnesses_composed
+pub returns : goal.returns
+returns c = search (witnesses_composed, c.in_ok-totals.ensures)

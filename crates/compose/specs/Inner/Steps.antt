@@ -1,8 +1,10 @@
 -- For the contracts of the composer's inner functions: what each of them answers.
-use Rattle.std.specs.Prelude.{ℕ, ◌+◌, ◌-◌, ◌/◌, ◌≤◌, Bool, true, cond, List, ◌≡◌, ltb, length}
+use Rattle.std.specs.Prelude.{ℕ, ◌+◌, ◌-◌, ◌/◌, ◌≤◌, Bool, true, cond, List, ◌≡◌, ltb, length, Result}
 use Rattle.lists.specs.Answer.{Answer, and_then}
 use Rattle.lists.specs.Parts.{Bytes}
 use Rattle.lists.specs.Tests.{all}
+use Rattle.aiger.specs.declared.Refusal.{Refusal}
+use Rattle.aiger.specs.Refusals.{answered}
 use Rattle.witness_text.specs.declared.AagCounts.{AagCounts}
 use Rattle.witness_read.specs.Sections.{Sections, variables}
 use Rattle.witness_read.specs.Reading.{counts_in}
@@ -13,11 +15,10 @@ use Rattle.compose_gather.specs.declared.Totals.{Totals}
 use Rattle.compose_gather.specs.Inner.Checking.{FewInOrder}
 use Rattle.compose_gather.specs.Inner.Gathered.{Readable}
 use Rattle.compose_layout.specs.declared.Layout.{Layout}
-use Rattle.compose_layout.specs.Inner.Laid.{Fitting, Ready, Some}
+use Rattle.compose_layout.specs.Inner.Laid.{Fitting, Ready, OfSome}
 use Rattle.text_print.specs.Inner.Prints.{capped}
 use Rattle.compose_merge.specs.declared.Merged.{Merged}
 use Rattle.compose_print.specs.Inner.Written.{Printable}
-use Rattle.compose.specs.declared.Composed.{Composed}
 use Rattle.compose.specs.Promise.{composed_answer, result_bytes}
 
 -- how many units of 16 words there are behind the first 1,024, and one more; 0 where there are fewer words
@@ -25,8 +26,8 @@ abbrev pub first_room : ℕ → ℕ
 first_room words = cond (ltb words 1024) 0 ((words - 1024) / 16 + 1)
 
 -- an answer and the result bytes with it
-pub record Answers (out : Bytes) (answer : Answer Bytes) (out' : Bytes) (r : Composed) : Type 0 where
-  pub returns : r ≡ composed_answer answer
+pub record Answers (out : Bytes) (answer : Answer Bytes) (out' : Bytes) (r : Result ℕ Refusal) : Type 0 where
+  pub returns : answered r ≡ composed_answer answer
   pub result : out' ≡ result_bytes out answer
 
 -- 19 does not apply
@@ -53,11 +54,11 @@ pub record ModelSome (buffer : Bytes) (pairs : List ℕ) (mc : AagCounts) : Type
   pub is : ModelIs buffer pairs mc m
 
 -- 3 to 11 of the witnesses, and 15 to 20
-pub record ComposesWitnesses (mc : AagCounts) (buffer : Bytes) (pairs work : List ℕ) (out out' : Bytes) (r : Composed) : Type 0 where
+pub record ComposesWitnesses (mc : AagCounts) (buffer : Bytes) (pairs work : List ℕ) (out out' : Bytes) (r : Result ℕ Refusal) : Type 0 where
   pub each : (m : Sections) → ModelIs buffer pairs mc m → Answers out (and_then (read_all (texts_in buffer pairs)) (compose_read (length work) (length out) m)) out' r
 
 -- 16 to 20
-pub record ComposesFitting (mc : AagCounts) (t : Totals) (buffer : Bytes) (pairs work : List ℕ) (out out' : Bytes) (r : Composed) : Type 0 where
+pub record ComposesFitting (mc : AagCounts) (t : Totals) (buffer : Bytes) (pairs work : List ℕ) (out out' : Bytes) (r : Result ℕ Refusal) : Type 0 where
   pub each : (m : Sections) (ws : List Sections) → Fitting mc t buffer pairs work m ws → Answers out (compose_sections (length out) m ws) out' r
 
 -- all is laid out, and 16 does not apply
@@ -67,7 +68,7 @@ pub record LaidRight (mc : AagCounts) (t : Totals) (buffer : Bytes) (pairs work 
   pub ready : Ready buffer pairs m ws at work
 
 abbrev pub LaidSome : AagCounts → Totals → Bytes → List ℕ → List ℕ → Layout → Type 0
-LaidSome mc t buffer pairs work at = Some (LaidRight mc t buffer pairs work at)
+LaidSome mc t buffer pairs work at = OfSome (LaidRight mc t buffer pairs work at)
 
 -- the length of the text is counted, and nothing is written
 pub record Measures (buffer : Bytes) (pairs work : List ℕ) (at : Layout) (c : Merged) (t : Totals) (out out' : Bytes) (r : ℕ) : Type 0 where
@@ -75,9 +76,9 @@ pub record Measures (buffer : Bytes) (pairs work : List ℕ) (at : Layout) (c : 
   pub size : (m : Sections) (ws : List Sections) → Printable buffer pairs work at c t m ws → r ≡ capped (length (printed (composed m ws)))
 
 -- 20 of a composition that is merged
-pub record Writes (buffer : Bytes) (pairs work : List ℕ) (at : Layout) (c : Merged) (t : Totals) (out out' : Bytes) (r : Composed) : Type 0 where
+pub record Writes (buffer : Bytes) (pairs work : List ℕ) (at : Layout) (c : Merged) (t : Totals) (out out' : Bytes) (r : Result ℕ Refusal) : Type 0 where
   pub each : (m : Sections) (ws : List Sections) → Printable buffer pairs work at c t m ws → Answers out (printed_within (length out) (composed m ws)) out' r
 
 -- 17 to 20
-pub record ComposesLaid (mc : AagCounts) (t : Totals) (buffer : Bytes) (pairs work : List ℕ) (at : Layout) (out out' : Bytes) (r : Composed) : Type 0 where
+pub record ComposesLaid (mc : AagCounts) (t : Totals) (buffer : Bytes) (pairs work : List ℕ) (at : Layout) (out out' : Bytes) (r : Result ℕ Refusal) : Type 0 where
   pub each : (m : Sections) (ws : List Sections) → LaidRight mc t buffer pairs work at m ws → Answers out (compose_sections (length out) m ws) out' r

@@ -9,7 +9,7 @@ pub load_at-at-requires : goal.load_at-at-requires
 load_at-at-requires c = search loading-loadable
 
 pub loop-w-preserved : goal.loop-w-preserved
-loop-w-preserved c = (search loading-more, search rules, search rules)
+loop-w-preserved c = (search loading-more, search rules)
 
 pub returns : goal.returns
 returns c = search loading-end

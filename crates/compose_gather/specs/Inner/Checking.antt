@@ -7,8 +7,6 @@ use Rattle.witness_text.specs.declared.AagCounts.{AagCounts}
 use Rattle.witness_read.specs.Sections.{Sections}
 use Rattle.witness_read.specs.Reading.{counts_in}
 use Rattle.compose_gather.specs.declared.Totals.{Totals}
-use Rattle.compose_gather.specs.declared.Checked.{Checked}
-use Rattle.compose_gather.specs.declared.Checked.TheVariants as checked
 
 -- the totals with one more text
 abbrev pub added_counts : Totals → AagCounts → Totals
@@ -31,9 +29,9 @@ totals_from t [] = t
 totals_from t (s ∷ ss) = totals_from (added_counts t (counts_in s)) ss
 
 -- the totals of all witnesses, or the number of the first reason
-abbrev pub checked_from : Totals → Answer (List Sections) → Checked
-checked_from t (got ws) = checked.Read (totals_from t ws)
-checked_from t (refused n) = checked.Refused n
+abbrev pub checked_from : Totals → Answer (List Sections) → Answer Totals
+checked_from t (got ws) = got (totals_from t ws)
+checked_from t (refused n) = refused n
 
 abbrev pub none_yet : ℕ → Totals
 none_yet room = record { room = room; inputs = 0; latches = 0; gates = 0 }

@@ -1,8 +1,10 @@
 -- For the contracts of the composer's inner functions: a list of the counts of all witnesses.
-use Rattle.std.specs.Prelude.{ℕ, ◌+◌, ◌*◌, ◌/◌, ◌≤◌, ◌<◌, true, List, [], ◌∷◌, ◌≡◌, length, get_or}
+use Rattle.std.specs.Prelude.{ℕ, ◌+◌, ◌*◌, ◌/◌, ◌≤◌, ◌<◌, true, List, [], ◌∷◌, ◌≡◌, length, get_or, Result, Ok}
 use Rattle.lists.specs.Answer.{Answer, got, refused}
 use Rattle.lists.specs.Parts.{Bytes, put}
 use Rattle.text.specs.Texts.{limited}
+use Rattle.aiger.specs.declared.Refusal.{Refusal}
+use Rattle.aiger.specs.Refusals.{answered}
 use Rattle.witness_text.specs.declared.AagCounts.{AagCounts}
 use Rattle.witness_read.specs.Sections.{Sections}
 use Rattle.witness_read.specs.Reading.{read_aag, counts_in}
@@ -10,8 +12,6 @@ use Rattle.compose_spec.specs.Calling.{read_all, texts_in}
 use Rattle.compose_joint.specs.declared.Leaves.{Leaves}
 use Rattle.compose_joint.specs.declared.Leaves.TheVariants as leaf
 use Rattle.compose_gather.specs.declared.Totals.{Totals}
-use Rattle.compose_gather.specs.declared.Checked.{Checked}
-use Rattle.compose_gather.specs.declared.Checked.TheVariants as checked
 use Rattle.compose_gather.specs.Inner.Checking.{added_counts, checked_from, none_yet}
 
 -- the counts of a text that is accepted
@@ -54,13 +54,13 @@ pub record CanCheck (counts : List ℕ) (w : ℕ) (t : Totals) : Type 0 where
   pub gates : t.gates ≤ 128000000
 
 -- the totals with a text that is read, or the number of the reason
-abbrev pub checked_one : Totals → Answer Sections → Checked
-checked_one t (got s) = checked.Read (added_counts t (counts_in s))
-checked_one t (refused k) = checked.Refused k
+abbrev pub checked_one : Totals → Answer Sections → Answer Totals
+checked_one t (got s) = got (added_counts t (counts_in s))
+checked_one t (refused k) = refused k
 
 -- so it is for a text, the one of witness w, whose counts are then listed
-pub record ChecksOne (text : Bytes) (w : ℕ) (t : Totals) (counts counts' : List ℕ) (r : Checked) : Type 0 where
-  pub is : r ≡ checked_one t (read_aag limited true text)
+pub record ChecksOne (text : Bytes) (w : ℕ) (t : Totals) (counts counts' : List ℕ) (r : Result Totals Refusal) : Type 0 where
+  pub is : answered r ≡ checked_one t (read_aag limited true text)
   pub lists : (s : Sections) → read_aag limited true text ≡ got s → counts' ≡ put counts (9 * w) (count_words (counts_in s))
 
 -- the counts of the first so many witnesses stand in the list
@@ -73,6 +73,6 @@ pub record CountsListed (buffer : Bytes) (pairs counts : List ℕ) : Type 0 wher
   pub before : CountsBefore buffer pairs counts (length pairs / 2)
 
 -- the totals of all witnesses, whose counts are then listed, or the number of the first reason
-pub record ChecksAll (room : ℕ) (buffer : Bytes) (pairs counts : List ℕ) (r : Checked) : Type 0 where
-  pub is : r ≡ checked_from (none_yet room) (read_all (texts_in buffer pairs))
-  pub lists : (t : Totals) → r ≡ checked.Read t → CountsListed buffer pairs counts
+pub record ChecksAll (room : ℕ) (buffer : Bytes) (pairs counts : List ℕ) (r : Result Totals Refusal) : Type 0 where
+  pub is : answered r ≡ checked_from (none_yet room) (read_all (texts_in buffer pairs))
+  pub lists : (t : Totals) → r ≡ Ok t → CountsListed buffer pairs counts

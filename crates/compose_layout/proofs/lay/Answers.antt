@@ -5,24 +5,24 @@ pub gather_origins-requires : goal.gather_origins-requires
 gather_origins-requires c = record { can_map_all = inputs-can (c.lay_lists-lists.ensures _) c.requires.can_lay; counts_listed = c.requires.counts_listed }
 
 -- 16 because of an input
-pub returns-in_default : goal.returns-in_default
-returns-in_default c = inputs_wrong (c.lay_lists-lists.ensures _) _ _ c.gather_origins.ensures c.in_default.is
+pub returns-in_err-latch_origins : goal.returns-in_err-latch_origins
+returns-in_err-latch_origins c = rw c.from_residual.ensures (inputs_wrong (c.lay_lists-lists.ensures _) _ _ c.gather_origins.ensures c.in_err-latch_origins.was)
 
 pub gather_origins-requires-2 : goal.gather_origins-requires-2
-gather_origins-requires-2 c = record { can_map_all = latches-can (c.lay_lists-lists.ensures _) _ _ c.gather_origins.ensures c.in-Next.is c.requires.can_lay; counts_listed = c.requires.counts_listed }
+gather_origins-requires-2 c = record { can_map_all = latches-can (c.lay_lists-lists.ensures _) _ _ c.gather_origins.ensures c.in_ok-latch_origins.was c.requires.can_lay; counts_listed = c.requires.counts_listed }
 
 -- 16 because of a latch
-pub returns-in_default-gather_origins : goal.returns-in_default-gather_origins
-returns-in_default-gather_origins c =
-    latches_wrong (c.lay_lists-lists.ensures _) _ _ c.gather_origins.ensures c.in-Next.is
-    _ _ c.gather_origins-2.ensures c.in_default-gather_origins.is
+pub returns-in_err-assigned : goal.returns-in_err-assigned
+returns-in_err-assigned c =
+    rw c.from_residual-in_err-assigned.ensures (latches_wrong (c.lay_lists-lists.ensures _) _ _ c.gather_origins.ensures c.in_ok-latch_origins.was
+    _ _ c.gather_origins-2.ensures c.in_err-assigned.was)
 
 pub place_regions-requires : goal.place_regions-requires
 place_regions-requires c =
-    places_fit (c.lay_lists-lists.ensures _) _ _ c.gather_origins.ensures c.in-Next.is
-    _ _ c.gather_origins-2.ensures c.in-Next-gather_origins.is c.requires.can_lay
+    places_fit (c.lay_lists-lists.ensures _) _ _ c.gather_origins.ensures c.in_ok-latch_origins.was
+    _ _ c.gather_origins-2.ensures c.in_ok-assigned.was c.requires.can_lay
 
 pub returns : goal.returns
 returns c =
-    laid_out (c.lay_lists-lists.ensures _) _ _ c.gather_origins.ensures c.in-Next.is
-    _ _ c.gather_origins-2.ensures c.in-Next-gather_origins.is c.place_regions.ensures
+    laid_out (c.lay_lists-lists.ensures _) _ _ c.gather_origins.ensures c.in_ok-latch_origins.was
+    _ _ c.gather_origins-2.ensures c.in_ok-assigned.was c.place_regions.ensures

@@ -1,5 +1,5 @@
 -- For the contracts of the composer's inner functions: where everything stands in the work words.
-use Rattle.std.specs.Prelude.{ℕ, suc, ◌+◌, ◌*◌, ◌/◌, ◌≤◌, true, false, List, [], ◌∷◌, ◌≡◌, length}
+use Rattle.std.specs.Prelude.{ℕ, suc, ◌+◌, ◌*◌, ◌/◌, ◌≤◌, true, false, List, [], ◌∷◌, ◌≡◌, length, Option, Some, None}
 use Rattle.lists.specs.Parts.{Bytes, part}
 use Rattle.lists.specs.Tests.{all}
 use Rattle.witness_text.specs.declared.AagCounts.{AagCounts}
@@ -15,8 +15,6 @@ use Rattle.compose_gather.specs.declared.Totals.{Totals}
 use Rattle.compose_gather.specs.Inner.Gathered.{Blocks, word_total, Readable, literal_count}
 use Rattle.compose_layout.specs.declared.Layout.{Layout}
 use Rattle.compose_layout.specs.declared.Lists.{Lists}
-use Rattle.compose_layout.specs.declared.Laid.{Laid}
-use Rattle.compose_layout.specs.declared.Laid.TheVariants as laid
 
 -- the list xs stands in the words from the place a on
 pub record Has (work : List ℕ) (a : ℕ) (xs : List ℕ) : Type 0 where
@@ -46,7 +44,7 @@ pub record Regions (m : Sections) (ws : List Sections) (at : Layout) : Type 0 wh
   pub end : at.end ≡ at.constraint_bits + at.bits
 
 -- something holds of some model and witnesses
-pub record Some (Stage : Sections → List Sections → Type 0) : Type 0 where
+pub record OfSome (Stage : Sections → List Sections → Type 0) : Type 0 where
   pub m : Sections
   pub ws : List Sections
   pub holds : Stage m ws
@@ -86,14 +84,14 @@ pub record Ready (buffer : Bytes) (pairs : List ℕ) (m : Sections) (ws : List S
   pub fits : at.end ≤ length work
 
 -- 16, or all is laid out
-abbrev pub LaidOut : Bytes → List ℕ → Sections → List Sections → List ℕ → Laid → Type 0
-LaidOut buffer pairs m ws work (laid.At at) = (all (maps_right m) ws ≡ true) × Ready buffer pairs m ws at work
-LaidOut buffer pairs m ws work laid.Wrong = all (maps_right m) ws ≡ false
+abbrev pub LaidOut : Bytes → List ℕ → Sections → List Sections → List ℕ → Option Layout → Type 0
+LaidOut buffer pairs m ws work (Some at) = (all (maps_right m) ws ≡ true) × Ready buffer pairs m ws at work
+LaidOut buffer pairs m ws work None = all (maps_right m) ws ≡ false
 
 abbrev pub CanLay : AagCounts → Totals → Bytes → List ℕ → List ℕ → Type 0
-CanLay mc t buffer pairs work = Some (Fitting mc t buffer pairs work)
+CanLay mc t buffer pairs work = OfSome (Fitting mc t buffer pairs work)
 
-abbrev pub Lays : AagCounts → Totals → Bytes → List ℕ → List ℕ → List ℕ → Laid → Type 0
+abbrev pub Lays : AagCounts → Totals → Bytes → List ℕ → List ℕ → List ℕ → Option Layout → Type 0
 Lays mc t buffer pairs work work' r = (m : Sections) (ws : List Sections) → Fitting mc t buffer pairs work m ws → LaidOut buffer pairs m ws work' r
 
 -- ---- region by region

@@ -1,10 +1,12 @@
 -- For the contracts of the composer's inner functions: what the work words hold when the witnesses are merged, or which reason applies.
-use Rattle.std.specs.Prelude.{ℕ, suc, ◌+◌, ◌*◌, ◌≤◌, ◌<◌, true, List, map, ◌≡◌, length, take}
+use Rattle.std.specs.Prelude.{ℕ, suc, ◌+◌, ◌*◌, ◌≤◌, ◌<◌, true, List, map, ◌≡◌, length, take, Result, Ok, Err}
 use Rattle.lists.specs.Answer.{Answer, refused, unless}
 use Rattle.lists.specs.Parts.{part}
 use Rattle.lists.specs.Tests.{Each}
 use Rattle.lists.specs.Words.{words_of}
 use Rattle.text_print.specs.Inner.Elements.{elements}
+use Rattle.aiger.specs.declared.Refusal.{Refusal}
+use Rattle.aiger.specs.Refusals.{refusal_number}
 use Rattle.witness_text.specs.declared.AagCounts.{AagCounts}
 use Rattle.witness_read.specs.Sections.{Sections}
 use Rattle.witness_load.specs.Inner.Loaded.{latch_words}
@@ -19,8 +21,6 @@ use Rattle.compose_gather.specs.declared.Totals.{Totals}
 use Rattle.compose_layout.specs.declared.Layout.{Layout}
 use Rattle.compose_layout.specs.Inner.Laid.{Has, variable_total, Regions, Summed, Stands}
 use Rattle.compose_merge.specs.declared.Merged.{Merged}
-use Rattle.compose_merge.specs.declared.Merging.{Merging}
-use Rattle.compose_merge.specs.declared.Merging.TheVariants as merging
 
 -- ---- before
 
@@ -75,7 +75,7 @@ pub record Counted (m : Sections) (ws : List Sections) (c : Merged) : Type 0 whe
   pub constraints : c.constraints ≡ length (literals_of (λ s. s.constraints) (whole m ws))
 
 -- what of the composition stands in the work words
-pub record Result (m : Sections) (ws : List Sections) (at : Layout) (c : Merged) (work : List ℕ) : Type 0 where
+pub record ResultWords (m : Sections) (ws : List Sections) (at : Layout) (c : Merged) (work : List ℕ) : Type 0 where
   pub counted : Counted m ws c
   pub inputs : Has work (at.vars + 1) (input_numbers m ws)
   pub latches : Has work (at.vars + 1 + total_of input_count ws) (latch_numbers m ws)
@@ -89,7 +89,7 @@ pub record Result (m : Sections) (ws : List Sections) (at : Layout) (c : Merged)
 pub record Done (m : Sections) (ws : List Sections) (at : Layout) (work work' : List ℕ) (c : Merged) : Type 0 where
   pub fits : gates_fit (leaf_count m ws) (composed_gates m ws) ≡ true
   pub agrees : agree (all_defined (whole m ws)) ≡ true
-  pub result : Result m ws at c work'
+  pub result : ResultWords m ws at c work'
   pub kept : take at.assigned work' ≡ take at.assigned work
 
 -- 17 or 18 applies, whatever would be next
@@ -98,12 +98,12 @@ Refuses m ws k =
     (rest : Answer Sections) → unless 17 (gates_fit (leaf_count m ws) (composed_gates m ws)) (unless 18 (agree (all_defined (whole m ws))) rest) ≡ refused k
 
 -- what comes out
-abbrev pub Outcome : Sections → List Sections → Layout → List ℕ → List ℕ → Merging → Type 0
-Outcome m ws at work work' (merging.Done c) = Done m ws at work work' c
-Outcome m ws at work work' (merging.Refused k) = Refuses m ws k
+abbrev pub Outcome : Sections → List Sections → Layout → List ℕ → List ℕ → Result Merged Refusal → Type 0
+Outcome m ws at work work' (Ok c) = Done m ws at work work' c
+Outcome m ws at work work' (Err k) = Refuses m ws (refusal_number k)
 
 -- ---- contracts
 
 -- what comes out, whatever model and witnesses it holds of
-pub record Goes (Stage : Sections → List Sections → Type 0) (at : Layout) (work work' : List ℕ) (r : Merging) : Type 0 where
+pub record Goes (Stage : Sections → List Sections → Type 0) (at : Layout) (work work' : List ℕ) (r : Result Merged Refusal) : Type 0 where
   pub goes : (m : Sections) (ws : List Sections) → Stage m ws → Outcome m ws at work work' r

@@ -12,7 +12,7 @@ pub returns-then-mapped_at : goal.returns-then-mapped_at
 returns-then-mapped_at c = search testing-true
 
 pub loop-i-preserved : goal.loop-i-preserved
-loop-i-preserved c = (search testing-more, search rules)
+loop-i-preserved c = search testing-more
 
 pub returns : goal.returns
 returns c = search testing-end

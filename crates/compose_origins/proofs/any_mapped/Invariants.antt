@@ -1,11 +1,7 @@
 use Rattle.compose_origins.proofs.LoopLaws.{Testing}
 use lib.ListN.{length}
-use Prim.Native.Nat.{◌-◌, ◌/◌}
 use mathlib.Core.Path.{◌≡◌}
 use Rattle.compose_origins.proofs.any_mapped.Given as goal
 
 abbrev pub invariant-loop-i : goal.invariant-loop-i
-invariant-loop-i l = Testing l.text l.words l.i × (l.count ≡ length l.words / 2)
-
-abbrev pub decreases-loop-i : goal.decreases-loop-i
-decreases-loop-i l = l.count - l.i
+invariant-loop-i l = Testing l.text l.words l.i

@@ -11,11 +11,11 @@ after_words-next-requires c = search mapping-behind
 pub witness_origins-requires : goal.witness_origins-requires
 witness_origins-requires c = search mapping-can
 
-pub returns-in_default : goal.returns-in_default
-returns-in_default c = search mapping_wrong
+pub returns-in_err-at : goal.returns-in_err-at
+returns-in_err-at c = rw c.from_residual.ensures (search (mapping_wrong, c.in_err-at.ensures))
 
 pub loop-w-preserved : goal.loop-w-preserved
-loop-w-preserved c = (search mapping-more, search rules, search rules)
+loop-w-preserved c = (search (mapping-more, c.in_ok-at.ensures), search rules)
 
 pub returns : goal.returns
 returns c = search mapping-end

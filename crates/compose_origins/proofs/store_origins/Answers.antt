@@ -11,8 +11,8 @@ mapping_at-mapping-requires c = search storing-says
 pub loop-k-preserved : goal.loop-k-preserved
 loop-k-preserved c = search storing-more
 
-pub returns-else-is_right : goal.returns-else-is_right
-returns-else-is_right c = search storing_wrong
+pub returns-then-not-is_right : goal.returns-then-not-is_right
+returns-then-not-is_right c = search storing_wrong
 
 pub returns : goal.returns
 returns c = search storing-end

@@ -1,6 +1,6 @@
 -- For the contracts of the functions that map inputs and latches onto the model's.
-use Rattle.std.specs.Prelude.{ℕ, ◌+◌, ◌*◌, ◌/◌, ◌≤◌, ◌<◌, Bool, true, false, List, map, ◌≡◌, length, drop, get_or}
-use Rattle.std.proofs.Math.Option.{Option, some}
+use Rattle.std.specs.Prelude.{ℕ, ◌+◌, ◌*◌, ◌/◌, ◌≤◌, ◌<◌, Bool, true, false, List, map, ◌≡◌, length, drop, get_or, Option, Some, None}
+use Rattle.std.proofs.Math.Option as math
 use Rattle.lists.specs.Parts.{Bytes, part, put}
 use Rattle.lists.specs.Tests.{any, all}
 use Rattle.lists.specs.Words.{pairs_of}
@@ -17,8 +17,6 @@ use Rattle.compose_joint.specs.declared.Leaves.{Leaves}
 use Rattle.compose_joint.specs.Inner.Joint.{total_of, gathered, names_of, origins_from}
 use Rattle.compose_gather.specs.Inner.Counts.{leaf_counts}
 use Rattle.compose_gather.specs.Inner.Gathered.{words_for, Block, Readable, CanGather, leaf_count_of}
-use Rattle.compose_origins.specs.declared.Origins.{Origins}
-use Rattle.compose_origins.specs.declared.Origins.TheVariants as origins
 
 -- few inputs, or latches, so that the literal of number k is a word
 pub record FewLeaves (p : ModelLeaves) (k : ℕ) : Type 0 where
@@ -27,16 +25,16 @@ pub record FewLeaves (p : ModelLeaves) (k : ℕ) : Type 0 where
 
 -- two words say a name of a text, or that there is none
 pub record SaysName (t : Bytes) (offset size : ℕ) : Type 0 where
-  pub name : Option Bytes
-  pub is : name_from t offset size ≡ some name
+  pub name : math.Option Bytes
+  pub is : name_from t offset size ≡ math.some name
 
 -- what number k maps to
 abbrev pub MapsTo : ModelLeaves → Bool → ℕ → Bytes → ℕ → ℕ → Mapping → Type 0
-MapsTo p named k t offset size r = (name : Option Bytes) → name_from t offset size ≡ some name → r ≡ mapping_of p named k name
+MapsTo p named k t offset size r = (name : math.Option Bytes) → name_from t offset size ≡ math.some name → r ≡ mapping_of p named k name
 
 -- whether the name begins with `= `
 abbrev pub TestsName : Bytes → ℕ → ℕ → Bool → Type 0
-TestsName t offset size r = (name : Option Bytes) → name_from t offset size ≡ some name → r ≡ is_mapped name
+TestsName t offset size r = (name : math.Option Bytes) → name_from t offset size ≡ math.some name → r ≡ is_mapped name
 
 -- the words of pair i say a name
 pub record SaysAt (t : Bytes) (words : List ℕ) (i : ℕ) : Type 0 where
@@ -56,15 +54,15 @@ pub record MapsAt (p : ModelLeaves) (named : Bool) (k : ℕ) (t : Bytes) (work :
   pub maps : MapsTo p named k t (get_or work at 0) (get_or work (at + 1) 0) r
 
 -- pairs of words say these names
-abbrev pub SaysNames : Bytes → List ℕ → List (Option Bytes) → Type 0
-SaysNames t words names = pairs_of (name_from t) words ≡ map some names
+abbrev pub SaysNames : Bytes → List ℕ → List (math.Option Bytes) → Type 0
+SaysNames t words names = pairs_of (name_from t) words ≡ map math.some names
 
 pub record SayNames (t : Bytes) (words : List ℕ) : Type 0 where
-  pub names : List (Option Bytes)
+  pub names : List (math.Option Bytes)
   pub say : SaysNames t words names
 
 abbrev pub AnyMapped : Bytes → List ℕ → Bool → Type 0
-AnyMapped t words r = (names : List (Option Bytes)) → SaysNames t words names → r ≡ any is_mapped names
+AnyMapped t words r = (names : List (math.Option Bytes)) → SaysNames t words names → r ≡ any is_mapped names
 
 -- the words from one place on say names, and there is room for an origin of each from another place on
 pub record CanMap (p : ModelLeaves) (t : Bytes) (work : List ℕ) (from count w to : ℕ) : Type 0 where
@@ -74,14 +72,14 @@ pub record CanMap (p : ModelLeaves) (t : Bytes) (work : List ℕ) (from count w 
   pub behind : from + 2 * count ≤ to
   pub room : to + count ≤ length work
 
--- false where a literal is wrong, else the origins stand there
-abbrev pub OriginsIf : Bool → ModelLeaves → ℕ → Bool → List (Option Bytes) → List ℕ → ℕ → List ℕ → Type 0
-OriginsIf true p w named names work to work' = (leaves_right p named names ≡ true) × (work' ≡ put work to (origins_from p w named 0 names))
-OriginsIf false p w named names work to work' = leaves_right p named names ≡ false
+-- nothing where a literal is wrong, else the origins stand there, and the place after them
+abbrev pub OriginsIf : Option ℕ → ModelLeaves → ℕ → Bool → List (math.Option Bytes) → List ℕ → ℕ → ℕ → List ℕ → Type 0
+OriginsIf (Some e) p w named names work count to work' = (leaves_right p named names ≡ true) × ((work' ≡ put work to (origins_from p w named 0 names)) × (e ≡ to + count))
+OriginsIf None p w named names work count to work' = leaves_right p named names ≡ false
 
-abbrev pub StoresOrigins : ModelLeaves → Bytes → ℕ → ℕ → Bool → ℕ → ℕ → List ℕ → List ℕ → Bool → Type 0
+abbrev pub StoresOrigins : ModelLeaves → Bytes → ℕ → ℕ → Bool → ℕ → ℕ → List ℕ → List ℕ → Option ℕ → Type 0
 StoresOrigins p t from count named w to work work' r =
-    (names : List (Option Bytes)) → SaysNames t (part work from (from + 2 * count)) names → OriginsIf r p w named names work to work'
+    (names : List (math.Option Bytes)) → SaysNames t (part work from (from + 2 * count)) names → OriginsIf r p w named names work count to work'
 
 -- ---- one witness
 
@@ -113,12 +111,12 @@ abbrev pub right_by : ModelLeaves → Leaves → Sections → Bool
 right_by p leaves s = leaves_right p (maps_by_name s) (names_of leaves s)
 
 -- 16 of one witness, or its origins and the place after them
-abbrev pub WitnessOrigins : ModelLeaves → Leaves → AagCounts → ℕ → Sections → List ℕ → ℕ → List ℕ → Origins → Type 0
-WitnessOrigins p leaves n w s work to work' (origins.Next e) =
+abbrev pub WitnessOrigins : ModelLeaves → Leaves → AagCounts → ℕ → Sections → List ℕ → ℕ → List ℕ → Option ℕ → Type 0
+WitnessOrigins p leaves n w s work to work' (Some e) =
     (right_by p leaves s ≡ true) × ((work' ≡ put work to (origins_from p w (maps_by_name s) 0 (names_of leaves s))) × (e ≡ to + leaf_counts leaves n))
-WitnessOrigins p leaves n w s work to work' origins.Wrong = right_by p leaves s ≡ false
+WitnessOrigins p leaves n w s work to work' None = right_by p leaves s ≡ false
 
-pub record MapsWitness (p : ModelLeaves) (leaves : Leaves) (t : Bytes) (n : AagCounts) (work : List ℕ) (from w to : ℕ) (work' : List ℕ) (r : Origins) : Type 0 where
+pub record MapsWitness (p : ModelLeaves) (leaves : Leaves) (t : Bytes) (n : AagCounts) (work : List ℕ) (from w to : ℕ) (work' : List ℕ) (r : Option ℕ) : Type 0 where
   pub maps : (s : Sections) → n ≡ counts_in s → Block t s (drop from work) → WitnessOrigins p leaves n w s work to work' r
 
 -- ---- all witnesses
@@ -128,10 +126,10 @@ pub record CanMapAll (p : ModelLeaves) (leaves : Leaves) (buffer : Bytes) (pairs
   pub few : p.before + p.count < 1073741824
 
 -- 16 of all witnesses, or their origins and the place after them
-abbrev pub AllOrigins : ModelLeaves → Leaves → List Sections → List ℕ → ℕ → List ℕ → Origins → Type 0
-AllOrigins p leaves ws work to work' (origins.Next e) =
+abbrev pub AllOrigins : ModelLeaves → Leaves → List Sections → List ℕ → ℕ → List ℕ → Option ℕ → Type 0
+AllOrigins p leaves ws work to work' (Some e) =
     (all (right_by p leaves) ws ≡ true) × ((work' ≡ put work to (gathered (origins_by p leaves) ws)) × (e ≡ to + total_of (leaf_count_of leaves) ws))
-AllOrigins p leaves ws work to work' origins.Wrong = all (right_by p leaves) ws ≡ false
+AllOrigins p leaves ws work to work' None = all (right_by p leaves) ws ≡ false
 
-abbrev pub MapsAll : ModelLeaves → Leaves → Bytes → List ℕ → List ℕ → ℕ → List ℕ → Origins → Type 0
+abbrev pub MapsAll : ModelLeaves → Leaves → Bytes → List ℕ → List ℕ → ℕ → List ℕ → Option ℕ → Type 0
 MapsAll p leaves buffer pairs work to work' r = (ws : List Sections) → Readable buffer pairs ws → AllOrigins p leaves ws work to work' r

@@ -15,9 +15,9 @@ use Rattle.compose_joint.specs.Inner.Joint.{total_of, input_count, gate_count}
 use Rattle.compose_gather.specs.declared.Totals.{Totals}
 use Rattle.compose_gather.specs.Inner.Gathered.{Readable}
 use Rattle.compose_layout.specs.declared.Layout.{Layout}
-use Rattle.compose_layout.specs.Inner.Laid.{Regions, Listed, Some}
+use Rattle.compose_layout.specs.Inner.Laid.{Regions, Listed, OfSome}
 use Rattle.compose_merge.specs.declared.Merged.{Merged}
-use Rattle.compose_merge.specs.Inner.Merged.{Result}
+use Rattle.compose_merge.specs.Inner.Merged.{ResultWords}
 use Rattle.compose_lines.specs.Inner.Header.{header_of}
 use Rattle.compose_lines.specs.Inner.Text.{closing_text, latches_of, composed_counts, entry_names}
 
@@ -26,7 +26,7 @@ pub record Printable (buffer : Bytes) (pairs work : List ℕ) (at : Layout) (c :
   pub readable : Readable buffer pairs ws
   pub regions : Regions m ws at
   pub listed : Listed buffer pairs m ws at work
-  pub result : Result m ws at c work
+  pub result : ResultWords m ws at c work
   pub inputs : t.inputs ≡ total_of input_count ws
   pub gates : t.gates ≡ total_of gate_count ws
   pub few : leaf_count m ws + length (composed_gates m ws) ≤ 128000000
@@ -34,7 +34,7 @@ pub record Printable (buffer : Bytes) (pairs work : List ℕ) (at : Layout) (c :
   pub fits : at.end ≤ length work
 
 abbrev pub PrintableSome : Bytes → List ℕ → List ℕ → Layout → Merged → Totals → Type 0
-PrintableSome buffer pairs work at c t = Some (Printable buffer pairs work at c t)
+PrintableSome buffer pairs work at c t = OfSome (Printable buffer pairs work at c t)
 
 -- a text of the composition is printed
 pub record PrintsText (text : Sections → List Sections → Bytes) (buffer : Bytes) (pairs work : List ℕ) (at : Layout) (c : Merged) (t : Totals) (o : Bytes) (from : ℕ) (o' : Bytes) (r : ℕ) : Type 0 where

@@ -7,10 +7,10 @@ pub loop-i-init : goal.loop-i-init
 loop-i-init c = (refl, checking-none _ _ _ _ _ _)
 
 pub loop-i-preserved : goal.loop-i-preserved
-loop-i-preserved c = (search rules, search checking-more)
+loop-i-preserved c = (search rules, search (checking-more, c.in_ok-gate.was))
 
-pub returns-in-Bad : goal.returns-in-Bad
-returns-in-Bad c = search checking_bad
+pub returns-in_err-gate : goal.returns-in_err-gate
+returns-in_err-gate c = rw c.from_residual.ensures (search (checking_bad, c.in_err-gate.was))
 
 pub returns : goal.returns
 returns c = search checking-done

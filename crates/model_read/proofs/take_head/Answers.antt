@@ -1,17 +1,16 @@
-use Rattle.model_read.proofs.StartLaws.{inputs_fit, outputs_fit, head_without_inputs, head_without_latches, head-taken}
+use native.Mathlib.Omega.{arith}
+use Rattle.model_read.proofs.StartLaws.{head_without_inputs, head_without_latches, head_without_outputs, head-taken}
 use Rattle.model_read.proofs.take_head.Goals as goal
 
-pub take_inputs-ins-requires : goal.take_inputs-ins-requires
-take_inputs-ins-requires c = search inputs_fit
+pub returns-in_err-inputs : goal.returns-in_err-inputs
+returns-in_err-inputs c = rw c.from_residual.ensures (search (head_without_inputs, c.in_err-inputs.was))
 
-pub returns-in_default : goal.returns-in_default
-returns-in_default c = search head_without_inputs
+pub returns-in_err-latches : goal.returns-in_err-latches
+returns-in_err-latches c = rw c.from_residual-in_err-latches.ensures (search (head_without_latches, c.in_ok-inputs.was, c.in_err-latches.was))
 
-pub returns-in_default-latch_place : goal.returns-in_default-latch_place
-returns-in_default-latch_place c = search head_without_latches
-
-pub take_outputs-outs-requires : goal.take_outputs-outs-requires
-take_outputs-outs-requires c = search outputs_fit
+pub returns-in_err-outputs : goal.returns-in_err-outputs
+returns-in_err-outputs c =
+    rw c.from_residual-in_err-outputs.ensures (search (head_without_outputs, c.in_ok-inputs.was, c.in_ok-latches.was, c.in_err-outputs.was))
 
 pub returns : goal.returns
-returns c = search head-taken
+returns c = search (head-taken, c.in_ok-inputs.was, c.in_ok-latches.was, c.in_ok-outputs.was)

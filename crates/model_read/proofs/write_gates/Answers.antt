@@ -8,17 +8,17 @@ use Rattle.model_read.proofs.write_gates.Goals as goal
 pub loop-i-init : goal.loop-i-init
 loop-i-init c = (refl, writing-none _ _ _ _)
 
-pub bounds-gates-i-in-Got : goal.bounds-gates-i-in-Got
-bounds-gates-i-in-Got c = simp length-set (omega arith)
+pub bounds-gates-i-in-loop-i : goal.bounds-gates-i-in-loop-i
+bounds-gates-i-in-loop-i c = simp length-set (omega arith)
 
-pub bounds-gates-i-in-Got-2 : goal.bounds-gates-i-in-Got-2
-bounds-gates-i-in-Got-2 c = simp length-set (omega arith)
+pub bounds-gates-i-in-loop-i-2 : goal.bounds-gates-i-in-loop-i-2
+bounds-gates-i-in-loop-i-2 c = simp length-set (omega arith)
 
 pub loop-i-preserved : goal.loop-i-preserved
 loop-i-preserved c = (search rules, search writing_more)
 
-pub returns-in-Bad : goal.returns-in-Bad
-returns-in-Bad c = search writing_bad
+pub returns-in_default : goal.returns-in_default
+returns-in_default c = search writing_bad
 
 pub returns : goal.returns
 returns c = search writing-done

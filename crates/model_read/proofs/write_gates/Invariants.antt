@@ -5,7 +5,5 @@ use Rattle.model_read.proofs.GateLaws.{Writing}
 use Rattle.model_read.proofs.write_gates.Given as goal
 
 abbrev pub invariant-loop-i : goal.invariant-loop-i
-invariant-loop-i l = (length l.gates ≡ length l.initial.gates) × Writing l.s l.initial.p l.n l.initial.gates l.gates l.p l.i
+invariant-loop-i l = (length l.gates ≡ length l.initial.gates) × Writing l.s l.initial.next l.n l.initial.gates l.gates l.next l.i
 
-abbrev pub decreases-loop-i : goal.decreases-loop-i
-decreases-loop-i l = l.n - l.i

@@ -1,10 +1,11 @@
 -- For the contracts of the reader's inner functions: what each of its passes over the lines says of the definitions.
-use Rattle.std.specs.Prelude.{ℕ, ◌*◌, ◌≤◌, ◌<◌, Bool, true, List, [], ◌∷◌, ◌++◌, ◌≡◌, length}
+use Rattle.std.specs.Prelude.{ℕ, ◌*◌, ◌≤◌, ◌<◌, Bool, true, List, [], ◌∷◌, ◌++◌, ◌≡◌, length, Option, Some, None}
 use Rattle.lists.specs.Answer.{Answer, got, refused, unless, and_then}
 use Rattle.lists.specs.Parts.{Bytes, front, zeros}
 use Rattle.lists.specs.Words.{words_of}
 use Rattle.text.specs.declared.Reader.TheVariants.{Transition}
 use Rattle.text.specs.declared.Cursor.{Cursor}
+use Rattle.text.specs.declared.Parsed.{Parsed}
 use Rattle.aiger.specs.declared.Gate.{Gate}
 use Rattle.aiger.specs.Gates.{gate_words}
 use Rattle.aiger.specs.Defined.{defined}
@@ -14,21 +15,11 @@ use Rattle.model.specs.declared.Counts.{Counts}
 use Rattle.model.specs.Circuit.{Circuit, record_of}
 use Rattle.model.specs.Limits.{counted, well_defined}
 use Rattle.model.specs.Inner.Marking.{Marking}
-use Rattle.circuit_lines.specs.declared.SectionEnd.{SectionEnd}
 use Rattle.circuit_lines.specs.SectionLines.{literal_line, gate_line}
 use Rattle.model_text.specs.ModelLines.{latch_line}
 use Rattle.circuit_lines.specs.Inner.Takes.{lines_from, Takes}
-use Rattle.model_read.specs.declared.GateCheck.{GateCheck}
-use Rattle.circuit_lines.specs.declared.SectionEnd.TheVariants as section-end
-use Rattle.model_read.specs.declared.GateCheck.TheVariants as check
 
 -- ---- inputs, latches and outputs
-
--- the literals of a section, stored in front of so many zeros
-pub record TakesLiterals (size : ℕ) (s : Bytes) (c : Cursor) (n : ℕ) (p : SectionEnd) (array : List ℕ) : Type 0 where
-  pub items : List ℕ
-  pub stored : array ≡ front (zeros size) items
-  pub takes : Takes (literal_line Transition) s c n p items
 
 -- a model whose gates are still to come, and the lines after its outputs
 pub record Started : Type 0 where
@@ -70,9 +61,9 @@ pub record Starts (s : Bytes) (c : Cursor) (n : Counts) (m : AigerTransition) (e
   pub takes : start_of n (lines_from s c) ≡ got (record { circuit = circuit; rest = lines_from s e })
   pub model : m ≡ record_with circuit n.ands
 
-abbrev pub TakesStart : Bytes → Cursor → Counts → AigerTransition → SectionEnd → Type 0
-TakesStart s c n m (section-end.At e) = Starts s c n m e
-TakesStart s c n m section-end.Bad = start_of n (lines_from s c) ≡ refused 8
+abbrev pub TakesStart : Bytes → Cursor → Counts → Option (Parsed AigerTransition) → Type 0
+TakesStart s c n (Some p) = Starts s c n p.value p.next
+TakesStart s c n None = start_of n (lines_from s c) ≡ refused 8
 
 -- ---- gates
 
@@ -87,9 +78,9 @@ pub record Found (s : Bytes) (c : Cursor) (n most : ℕ) (fine : Bool) (work : L
   pub takes : section (gate_line Transition) n (lines_from s c) ≡ got (record { items = gates; rest = rest })
   pub says : (leaves : List ℕ) → Marking most work leaves [] fine → f ≡ defined most leaves gates
 
-abbrev pub ChecksGates : Bytes → Cursor → ℕ → ℕ → Bool → List ℕ → GateCheck → Type 0
-ChecksGates s c n most fine work (check.Done f) = Found s c n most fine work f
-ChecksGates s c n most fine work check.Bad = section (gate_line Transition) n (lines_from s c) ≡ refused 8
+abbrev pub ChecksGates : Bytes → Cursor → ℕ → ℕ → Bool → List ℕ → Option Bool → Type 0
+ChecksGates s c n most fine work (Some f) = Found s c n most fine work f
+ChecksGates s c n most fine work None = section (gate_line Transition) n (lines_from s c) ≡ refused 8
 
 -- the gates of a section that is good stand in front of the words
 abbrev pub Writes : Bytes → Cursor → ℕ → List ℕ → List ℕ → Type 0

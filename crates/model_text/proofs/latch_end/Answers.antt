@@ -5,8 +5,8 @@ use Rattle.model_text.proofs.latch_end.Goals as goal
 pub returns-in_default : goal.returns-in_default
 returns-in_default c = search end_none
 
-pub returns-in_default-next_field : goal.returns-in_default-next_field
-returns-in_default-next_field c = search end_more
+pub returns-then-is_some : goal.returns-then-is_some
+returns-then-is_some c = search end_more
 
 pub slice_bounds-initializer_holds-count : goal.slice_bounds-initializer_holds-count
 slice_bounds-initializer_holds-count c = search field-ordered

@@ -1,5 +1,5 @@
 -- What the inner functions of the row program promise.
-use Rattle.std.specs.Prelude.{ℕ, ◌+◌, ◌≤◌, Bool, not, List, [], ◌∷◌, ◌++◌, ◌≡◌, eqb, length, take}
+use Rattle.std.specs.Prelude.{ℕ, ◌+◌, ◌≤◌, Bool, not, List, [], ◌∷◌, ◌++◌, ◌≡◌, eqb, length, take, Option, Some, None}
 use Rattle.lists.specs.Answer.{Answer, got, refused}
 use Rattle.lists.specs.Parts.{Bytes}
 use Rattle.lists.specs.Words.{words_of}
@@ -7,17 +7,15 @@ use Rattle.text_decimal.specs.Decimal.{decimal}
 use Rattle.text_decimal.specs.Printed.{number_line}
 use Rattle.text_decimal.specs.Inner.Writing.{Wrote}
 use Rattle.cnf.specs.Clauses.{Clause, literals_of, pairs_from}
-use Rattle.row_text.specs.declared.Numbers.{Numbers}
-use Rattle.row_text.specs.declared.Numbers.TheVariants.{Count, OtherForm}
 
 -- a byte that is no space
 abbrev pub in_piece : ℕ → Bool
 in_piece b = not (eqb b 32)
 
 -- what the answer and the lent words say together: the numbers of a line, or 14
-abbrev pub answer_in : Numbers → List ℕ → Answer (List ℕ)
-answer_in (Count n) words = got (take n words)
-answer_in OtherForm words = refused 14
+abbrev pub answer_in : Option ℕ → List ℕ → Answer (List ℕ)
+answer_in (Some n) words = got (take n words)
+answer_in None words = refused 14
 
 -- numbers, each with a space in front
 abbrev pub spaced_numbers : List ℕ → Bytes

@@ -1,8 +1,8 @@
 use Rattle.text.proofs.LineLaws.{line-none, line-more, line_last}
 use Rattle.text.proofs.next_line.Goals as goal
 
-pub returns-then-s-at : goal.returns-then-s-at
-returns-then-s-at c = search line-none
+pub returns-then-s-start : goal.returns-then-s-start
+returns-then-s-start c = search line-none
 
 pub returns-then-end-s : goal.returns-then-end-s
 returns-then-end-s c = search line-more

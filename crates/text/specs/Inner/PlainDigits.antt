@@ -1,12 +1,10 @@
 -- For the contracts of the functions that read plain digits, the fast way through most numbers.
-use Rattle.std.specs.Prelude.{ℕ, ◌+◌, ◌^◌, ◌≤◌, ◌<◌, ◌≡◌, true, ◌∷◌, ◌++◌, length, drop}
+use Rattle.std.specs.Prelude.{ℕ, ◌+◌, ◌^◌, ◌≤◌, ◌<◌, ◌≡◌, true, ◌∷◌, ◌++◌, length, drop, Option, Some, None}
 use Rattle.lists.specs.Parts.{Bytes, part}
 use Rattle.lists.specs.Tests.{all}
 use Rattle.scan.specs.Spans.{span}
 use Rattle.text.specs.declared.Reader.{Reader}
-use Rattle.text.specs.declared.Number.TheVariants.{Value}
-use Rattle.text.specs.declared.Plain.{Plain}
-use Rattle.text.specs.declared.Plain.TheVariants.{Got, Other}
+use Rattle.text.specs.declared.Parsed.{Parsed}
 use Rattle.text.specs.Numbers.{is_digit, tenfold, number_of}
 use Rattle.text.specs.Fields.{in_field}
 
@@ -25,9 +23,9 @@ pub record IsPlain (s : Bytes) (a stop v n : ℕ) : Type 0 where
   pub digits : all is_digit field ≡ true
   pub stands : drop a s ≡ field ++ stop ∷ drop n s
   pub next : n ≡ a + length field + 1
-  pub value : (reader : Reader) → number_of reader field ≡ Value v
+  pub value : (reader : Reader) → number_of reader field ≡ Some v
 
 -- so it is where a plain number was read; nothing is said where none was
-abbrev pub ReadsPlain : Bytes → ℕ → ℕ → Plain → Type 0
-ReadsPlain s a stop (Got v n) = IsPlain s a stop v n
-ReadsPlain s a stop Other = Unit {0}
+abbrev pub ReadsPlain : Bytes → ℕ → ℕ → Option (Parsed ℕ) → Type 0
+ReadsPlain s a stop (Some p) = IsPlain s a stop p.value p.next.at
+ReadsPlain s a stop None = Unit {0}

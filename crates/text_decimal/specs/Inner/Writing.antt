@@ -1,12 +1,10 @@
 -- Bytes written into a lent buffer, where they fit.
-use Rattle.std.specs.Prelude.{ℕ, ◌+◌, ◌≤◌, cond, ◌≡◌, leb, length}
+use Rattle.std.specs.Prelude.{ℕ, ◌+◌, ◌≤◌, cond, ◌≡◌, leb, length, Option, Some, None}
 use Rattle.lists.specs.Parts.{Bytes, put}
-use Rattle.text_decimal.specs.declared.Written.{Written}
-use Rattle.text_decimal.specs.declared.Written.TheVariants.{Next, NoRoom}
 
 -- what writing bytes from a place on into a buffer of `room` bytes answers: the place after them, where they fit (else R9.20)
-unfoldable pub written_at : ℕ → ℕ → Bytes → Written
-written_at room at bytes = cond (leb (at + length bytes) room) (Next (at + length bytes)) NoRoom
+unfoldable pub written_at : ℕ → ℕ → Bytes → Option ℕ
+written_at room at bytes = cond (leb (at + length bytes) room) (Some (at + length bytes)) None
 
 -- R10.4: the buffer afterwards: the bytes in their place and the others kept; where the bytes do not fit, all kept
 unfoldable pub written : Bytes → ℕ → Bytes → Bytes

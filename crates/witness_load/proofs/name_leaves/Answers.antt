@@ -4,8 +4,8 @@ use Rattle.text.proofs.LineLaws.{line-ordered, line-within, line-less}
 use Rattle.witness_load.proofs.NamingLaws.{names-none, names-end, names-starts, names-stop, names-refused, names_more}
 use Rattle.witness_load.proofs.name_leaves.Goals as goal
 
-pub loop-start-init : goal.loop-start-init
-loop-start-init c = (refl, search names-none)
+pub loop-line-init : goal.loop-line-init
+loop-line-init c = (refl, search names-none)
 
 pub returns-in_default : goal.returns-in_default
 returns-in_default c = search names-end
@@ -25,11 +25,11 @@ returns-then-ends_symbols c = search names-stop
 pub name_line-requires : goal.name_line-requires
 name_line-requires c = (search names-starts, search line-ordered, search line-within, search rules)
 
-pub loop-start-smaller : goal.loop-start-smaller
-loop-start-smaller c = search line-less
+pub loop-line-smaller : goal.loop-line-smaller
+loop-line-smaller c = search line-less
 
-pub loop-start-preserved : goal.loop-start-preserved
-loop-start-preserved c = (search rules, search names_more)
+pub loop-line-preserved : goal.loop-line-preserved
+loop-line-preserved c = (search rules, search names_more)
 
 pub returns-else-name_line : goal.returns-else-name_line
 returns-else-name_line c = search names-refused

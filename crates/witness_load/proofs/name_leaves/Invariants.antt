@@ -4,8 +4,8 @@ use lib.ListN.{length}
 use Rattle.witness_load.proofs.NamingLaws.{Names}
 use Rattle.witness_load.proofs.name_leaves.Given as goal
 
-abbrev pub invariant-loop-start : goal.invariant-loop-start
-invariant-loop-start l = (length l.out ≡ length l.initial.out) × Names l.s l.initial.p l.counts l.p l.out
+abbrev pub invariant-loop-line : goal.invariant-loop-line
+invariant-loop-line l = (length l.out ≡ length l.initial.out) × Names l.s l.initial.p l.counts l.p l.out
 
-abbrev pub decreases-loop-start : goal.decreases-loop-start
-decreases-loop-start l = length l.s - l.p.at
+abbrev pub decreases-loop-line : goal.decreases-loop-line
+decreases-loop-line l = length l.s - l.p.at

@@ -1,11 +1,13 @@
 -- The words that the sections of a text are loaded into: names by their places in the text, then literals.
-use Rattle.std.specs.Prelude.{ℕ, ◌+◌, ◌*◌, cond, List, [], ◌∷◌, ◌++◌, map, ◌≡◌, eqb, leb, length}
+use Rattle.std.specs.Prelude.{ℕ, ◌+◌, ◌*◌, cond, List, [], ◌∷◌, ◌++◌, map, ◌≡◌, eqb, leb, length, Result}
 use Rattle.std.proofs.Math.Option.{Option, some, none}
 use Rattle.lists.specs.Answer.{Answer, got, refused, unless, and_then}
 use Rattle.lists.specs.Parts.{Bytes, part, front}
 use Rattle.lists.specs.Words.{pairs_of, words_of}
 use Rattle.aiger.specs.declared.Gate.{Gate}
-use Rattle.witness_read.specs.declared.ReadAag.{ReadAag}
+use Rattle.aiger.specs.declared.Refusal.{Refusal}
+use Rattle.aiger.specs.Refusals.{answered}
+use Rattle.witness_text.specs.declared.AagCounts.{AagCounts}
 use Rattle.witness_read.specs.Sections.{NamedLatch, Sections, leaves, names_in}
 use Rattle.witness_read.specs.Reading.{counts_read}
 
@@ -48,6 +50,6 @@ WordsAfter t (got x) o₀ o = Loaded t x o₀ o
 WordsAfter t (refused k) o₀ o = o ≡ o₀
 
 -- The promise of a call that loads a text: what it returns, and the words after it.
-pub record Loads (t : Bytes) (answer : Answer Sections) (o₀ o : List ℕ) (r : ReadAag) : Type 0 where
-  pub returns : r ≡ counts_read (with_room (length o₀) answer)
+pub record Loads (t : Bytes) (answer : Answer Sections) (o₀ o : List ℕ) (r : Result AagCounts Refusal) : Type 0 where
+  pub returns : answered r ≡ counts_read (with_room (length o₀) answer)
   pub words : WordsAfter t (with_room (length o₀) answer) o₀ o

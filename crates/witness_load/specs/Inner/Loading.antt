@@ -1,5 +1,7 @@
 -- For the contracts of the functions that load: what each of them says of the lines of a text.
 use Rattle.std.specs.Prelude.{ℕ, ◌+◌, ◌*◌, ◌≤◌, Bool, true, false, List, [], ◌∷◌, ◌++◌, map, ◌≡◌, length, set}
+use Rattle.std.specs.Prelude.{Some, None}
+use Rattle.std.specs.declared.option.Option as option
 use Rattle.std.proofs.Math.Option.{Option, some}
 use Rattle.lists.specs.Answer.{Answer, got, refused}
 use Rattle.lists.specs.Parts.{Bytes, put}
@@ -9,8 +11,6 @@ use Rattle.text.specs.Texts.{limited}
 use Rattle.text.specs.declared.Reader.TheVariants.{Witness}
 use Rattle.aiger.specs.declared.Gate.{Gate}
 use Rattle.aiger.specs.Sections.{Section, section}
-use Rattle.circuit_lines.specs.declared.SectionEnd.{SectionEnd}
-use Rattle.circuit_lines.specs.declared.SectionEnd.TheVariants as section-end
 use Rattle.circuit_lines.specs.SectionLines.{literal_line, gate_line}
 use Rattle.circuit_lines.specs.Inner.Takes.{lines_from}
 use Rattle.witness_text.specs.declared.AagCounts.{AagCounts}
@@ -41,9 +41,9 @@ module _ {A : Type 0} (item : Bytes → Answer A) (words : A → List ℕ) (s : 
     pub takes : section item n (lines_from s c) ≡ got (record { items = items; rest = lines_from s e })
     pub stand : o ≡ put o₀ at (words_of words items)
 
-  abbrev pub LoadsSection : SectionEnd → Type 0
-  LoadsSection (section-end.At e) = Stored e
-  LoadsSection section-end.Bad = section item n (lines_from s c) ≡ refused 8
+  abbrev pub LoadsSection : option.Option Cursor → Type 0
+  LoadsSection (Some e) = Stored e
+  LoadsSection None = section item n (lines_from s c) ≡ refused 8
 
 -- outputs, bads and constraints are consecutive lines with one literal each, so they are taken as one section; then come the gates
 abbrev pub literal_count : AagCounts → ℕ

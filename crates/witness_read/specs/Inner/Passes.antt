@@ -1,11 +1,13 @@
 -- For the contracts of the reader's inner functions: what each of its passes over the lines says of the definitions.
-use Rattle.std.specs.Prelude.{ℕ, ◌+◌, ◌-◌, ◌*◌, ◌≤◌, ◌<◌, Bool, true, false, not, ◌&&◌, List, [], ◌∷◌, ◌≡◌, length}
+use Rattle.std.specs.Prelude.{ℕ, ◌+◌, ◌-◌, ◌*◌, ◌≤◌, ◌<◌, Bool, true, false, not, ◌&&◌, List, [], ◌∷◌, ◌≡◌, length, Option, Some, None, Result, Ok, Err}
 use Rattle.lists.specs.Answer.{Answer, got, refused, and_then}
 use Rattle.lists.specs.Parts.{Bytes, zeros}
 use Rattle.lists.specs.Sets.{holds, with_bit}
 use Rattle.lists.specs.Tests.{all, all_from}
 use Rattle.text.specs.declared.Cursor.{Cursor}
 use Rattle.text.specs.declared.Reader.TheVariants.{Witness}
+use Rattle.aiger.specs.declared.Refusal.{Refusal}
+use Rattle.aiger.specs.Refusals.{refusal_number}
 use Rattle.aiger.specs.Defined.{literal}
 use Rattle.aiger.specs.Sections.{section}
 use Rattle.circuit_lines.specs.SectionLines.{literal_line}
@@ -19,9 +21,7 @@ use Rattle.witness_text.specs.Symbols.{ends_symbols, Symbol, symbol_of}
 use Rattle.witness_read.specs.declared.Checked.{Checked}
 use Rattle.witness_read.specs.declared.Checked.TheVariants as checked
 use Rattle.witness_read.specs.declared.NextSymbol.{NextSymbol}
-use Rattle.witness_read.specs.declared.NextSymbol.TheVariants as next
-use Rattle.witness_read.specs.declared.Symbols.{Symbols}
-use Rattle.witness_read.specs.declared.Symbols.TheVariants as symbols
+use Rattle.witness_read.specs.declared.SymbolName.{SymbolName}
 use Rattle.witness_read.specs.Names.{tail_of, symbols_of}
 use Rattle.witness_read.specs.Order.{body_of, defines, latch_numbered, well_numbered}
 
@@ -108,14 +108,18 @@ module _ (s : Bytes) (p : Cursor) (n : AagCounts) where
     pub goes : ends_symbols line ≡ false
     pub is : symbol_of n line ≡ refused k
 
-  -- how the symbols end at the cursor p: there is none, and the comments begin at the cursor e, or a line is refused
-  abbrev pub EndsSymbols : Symbols → Type 0
-  EndsSymbols (symbols.Done e) = tail_of n (lines_from s p) ≡ got (record { symbols = []; comments = lines_from s e })
-  EndsSymbols (symbols.Refused k) = BadSymbol k
+  -- there is no symbol at the cursor p, and the comments begin at the cursor e
+  pub record EndsSymbols (e : Cursor) : Type 0 where
+    pub takes : tail_of n (lines_from s p) ≡ got (record { symbols = []; comments = lines_from s e })
 
-  abbrev pub TakesSymbol : NextSymbol → Type 0
-  TakesSymbol (next.Named kd index e) = TakenSymbol kd index e
-  TakesSymbol (next.End r) = EndsSymbols r
+  -- a symbol, or the end of the symbols
+  pub record Follows (o : Option SymbolName) (e : Cursor) : Type 0 where
+    pub taken : (x : SymbolName) → o ≡ Some x → TakenSymbol x.kind x.index e
+    pub ends : o ≡ None → EndsSymbols e
+
+  abbrev pub TakesSymbol : Result NextSymbol Refusal → Type 0
+  TakesSymbol (Ok x) = Follows x.symbol x.next
+  TakesSymbol (Err k) = BadSymbol (refusal_number k)
 
 module _ (s : Bytes) (c : Cursor) (n : AagCounts) where
   -- the symbols were taken, and the comments begin at the cursor e
@@ -123,9 +127,9 @@ module _ (s : Bytes) (c : Cursor) (n : AagCounts) where
     pub symbols : List Symbol
     pub takes : symbols_of n (lines_from s c) ≡ got (record { symbols = symbols; comments = lines_from s e })
 
-  abbrev pub ChecksSymbols : Symbols → Type 0
-  ChecksSymbols (symbols.Done e) = PassedSymbols e
-  ChecksSymbols (symbols.Refused k) = symbols_of n (lines_from s c) ≡ refused k
+  abbrev pub ChecksSymbols : Result Cursor Refusal → Type 0
+  ChecksSymbols (Ok e) = PassedSymbols e
+  ChecksSymbols (Err k) = symbols_of n (lines_from s c) ≡ refused (refusal_number k)
 
 -- marks for each input and latch, none of them set
 pub record Unmarked (n : AagCounts) (marks : List ℕ) : Type 0 where

@@ -1,11 +1,10 @@
 -- For the contracts of functions that the witness reader uses: what those that take the header, a latch or a symbol say of the lines of a text.
-use Rattle.std.specs.Prelude.{[], ◌∷◌, ◌≡◌, drop}
+use Rattle.std.specs.Prelude.{[], ◌∷◌, ◌≡◌, drop, Some, None}
 use Rattle.lists.specs.Answer.{Answer, got, refused}
 use Rattle.lists.specs.Parts.{Bytes}
 use Rattle.text.specs.declared.Cursor.{Cursor}
 use Rattle.text.specs.Lines.{lines_of}
 use Rattle.circuit_lines.specs.Inner.Takes.{lines_from, Takes}
-use Rattle.circuit_lines.specs.declared.SectionEnd.TheVariants as section-end
 use Rattle.witness_text.specs.declared.AagCounts.{AagCounts}
 use Rattle.witness_text.specs.declared.WitnessHeader.{WitnessHeader}
 use Rattle.witness_text.specs.declared.Kind.{Kind}
@@ -48,5 +47,5 @@ symbol_answer l symbol.Refused = refused 9
 
 -- one latch
 abbrev pub TakesLatch : Bytes → Cursor → TakenLatch → Type 0
-TakesLatch s c (latch.Got q n) = Takes latch_line s c 1 (section-end.At n) (q ∷ [])
-TakesLatch s c latch.Bad = Takes latch_line s c 1 section-end.Bad []
+TakesLatch s c (latch.Got q n) = Takes latch_line s c 1 (Some n) (q ∷ [])
+TakesLatch s c latch.Bad = Takes latch_line s c 1 None []

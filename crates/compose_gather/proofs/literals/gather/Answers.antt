@@ -16,7 +16,7 @@ pub pass-b-requires : goal.pass-b-requires
 pass-b-requires c = search gather-before
 
 pub loop-w-preserved : goal.loop-w-preserved
-loop-w-preserved c = (search gather-more, search rules, search rules)
+loop-w-preserved c = (search gather-more, search rules)
 
 pub returns : goal.returns
 returns c = search gathering-end

@@ -1,13 +1,9 @@
 use Rattle.compose_gather.proofs.GatherLaws.{Gathering}
 use lib.ListN.{length}
-use Prim.Native.Nat.{◌-◌, ◌/◌}
 use mathlib.Core.Path.{◌≡◌}
 use Rattle.compose_joint.specs.Inner.Joint.{joint_literals, list_of}
 use Rattle.compose_gather.specs.Inner.Gathered.{literal_count}
 use Rattle.compose_gather.proofs.literals.gather.Given as goal
 
 abbrev pub invariant-loop-w : goal.invariant-loop-w
-invariant-loop-w l = Gathering (joint_literals (list_of l.kind) l.inputs l.latches) (literal_count l.kind) l.witnesses l.pairs l.initial.work l.work l.to l.from l.at l.b l.w × (l.count ≡ length l.pairs / 2) × (length l.work ≡ length l.initial.work)
-
-abbrev pub decreases-loop-w : goal.decreases-loop-w
-decreases-loop-w l = l.count - l.w
+invariant-loop-w l = Gathering (joint_literals (list_of l.kind) l.inputs l.latches) (literal_count l.kind) l.witnesses l.pairs l.initial.work l.work l.to l.from l.at l.b l.w × (length l.work ≡ length l.initial.work)

@@ -1,7 +1,7 @@
 use Rattle.nitrasovy.proofs.witnesses.flat_counts.Goals as goal
 
-pub returns-in-Got : goal.returns-in-Got
-returns-in-Got c = rw c.in-Got.is
+pub returns-in-Ok : goal.returns-in-Ok
+returns-in-Ok c = rw c.in-Ok.is
 
-pub returns-in-Refused : goal.returns-in-Refused
-returns-in-Refused c = rw c.in-Refused.is
+pub returns-in-Err : goal.returns-in-Err
+returns-in-Err c = rw c.in-Err.is

@@ -1,45 +1,36 @@
-use Rattle.witness_read.proofs.RisingLaws.{order-none, order-end, input-fits, latch_fits, order-input, order_latch, order-output, order_bad, order_constraint}
+use Rattle.witness_read.proofs.RisingLaws.{order-none, order-bad, order-end, input-fits, latch_fits, order-input, order_latch, order-others}
 use Rattle.witness_read.proofs.TailLaws.{symbol-less}
 use Rattle.witness_read.proofs.tail.check_tail.Goals as goal
 
-pub loop-end-init : goal.loop-end-init
-loop-end-init c = search order-none
+pub loop-symbol-init : goal.loop-symbol-init
+loop-symbol-init c = search order-none
 
-pub returns-in-End : goal.returns-in-End
-returns-in-End c = search order-end
+pub returns-in_err-symbol : goal.returns-in_err-symbol
+returns-in_err-symbol c = order-bad _ _ _ _ _ _ c.loop-symbol.invariant _ c.in_err-symbol.ensures _ c.from_residual.ensures.1
+
+pub returns-in_default : goal.returns-in_default
+returns-in_default c = search (order-end, c.in_ok-symbol.ensures)
 
 pub overflow_add-inputs : goal.overflow_add-inputs
-overflow_add-inputs c = search input-fits
-
-pub loop-end-smaller-in-Input : goal.loop-end-smaller-in-Input
-loop-end-smaller-in-Input c = search symbol-less
-
-pub loop-end-preserved-in-Input : goal.loop-end-preserved-in-Input
-loop-end-preserved-in-Input c = search order-input
+overflow_add-inputs c = search (input-fits, c.in_ok-symbol.ensures)
 
 pub overflow_add-latches : goal.overflow_add-latches
-overflow_add-latches c = search latch_fits
+overflow_add-latches c = search (latch_fits, c.in_ok-symbol.ensures)
 
-pub loop-end-smaller : goal.loop-end-smaller
-loop-end-smaller c = search symbol-less
+pub loop-symbol-preserved-else-index-inputs : goal.loop-symbol-preserved-else-index-inputs
+loop-symbol-preserved-else-index-inputs c = search (order-input, c.in_ok-symbol.ensures)
 
-pub loop-end-preserved : goal.loop-end-preserved
-loop-end-preserved c = search order_latch
+pub loop-symbol-preserved-else-index-latches : goal.loop-symbol-preserved-else-index-latches
+loop-symbol-preserved-else-index-latches c = search (order_latch, c.in_ok-symbol.ensures)
 
-pub loop-end-smaller-in-Output : goal.loop-end-smaller-in-Output
-loop-end-smaller-in-Output c = search symbol-less
+pub loop-symbol-preserved : goal.loop-symbol-preserved
+loop-symbol-preserved c = search (order-others, c.in_ok-symbol.ensures)
 
-pub loop-end-preserved-in-Output : goal.loop-end-preserved-in-Output
-loop-end-preserved-in-Output c = search order-output
+pub loop-symbol-smaller-else-index-inputs : goal.loop-symbol-smaller-else-index-inputs
+loop-symbol-smaller-else-index-inputs c = search (symbol-less, c.in_ok-symbol.ensures)
 
-pub loop-end-smaller-in-Bad : goal.loop-end-smaller-in-Bad
-loop-end-smaller-in-Bad c = search symbol-less
+pub loop-symbol-smaller-else-index-latches : goal.loop-symbol-smaller-else-index-latches
+loop-symbol-smaller-else-index-latches c = search (symbol-less, c.in_ok-symbol.ensures)
 
-pub loop-end-preserved-in-Bad : goal.loop-end-preserved-in-Bad
-loop-end-preserved-in-Bad c = search order_bad
-
-pub loop-end-smaller-in-Constraint : goal.loop-end-smaller-in-Constraint
-loop-end-smaller-in-Constraint c = search symbol-less
-
-pub loop-end-preserved-in-Constraint : goal.loop-end-preserved-in-Constraint
-loop-end-preserved-in-Constraint c = search order_constraint
+pub loop-symbol-smaller : goal.loop-symbol-smaller
+loop-symbol-smaller c = search (symbol-less, c.in_ok-symbol.ensures)

@@ -5,12 +5,6 @@ use Rattle.witness_read.proofs.tail.next_symbol.Goals as goal
 pub returns-in_default : goal.returns-in_default
 returns-in_default c = search symbol-none
 
-pub slice_bounds-l-count : goal.slice_bounds-l-count
-slice_bounds-l-count c = search line-ordered
-
-pub slice_bounds-l-start : goal.slice_bounds-l-start
-slice_bounds-l-start c = search line-ordered
-
 pub slice_bounds-l-end : goal.slice_bounds-l-end
 slice_bounds-l-end c = search line-within
 

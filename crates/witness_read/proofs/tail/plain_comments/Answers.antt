@@ -6,8 +6,8 @@ use Rattle.witness_read.proofs.tail.plain_comments.Goals as goal
 pub returns-then-not-witness : goal.returns-then-not-witness
 returns-then-not-witness c = search model-comments
 
-pub loop-start-init : goal.loop-start-init
-loop-start-init c = refl
+pub loop-line-init : goal.loop-line-init
+loop-line-init c = refl
 
 pub returns-in_default : goal.returns-in_default
 returns-in_default c = search comments-end
@@ -21,11 +21,11 @@ slice_bounds-plain_comment-start c = search line-ordered
 pub slice_bounds-plain_comment-end : goal.slice_bounds-plain_comment-end
 slice_bounds-plain_comment-end c = search line-within
 
-pub loop-start-smaller : goal.loop-start-smaller
-loop-start-smaller c = search line-less
+pub loop-line-smaller : goal.loop-line-smaller
+loop-line-smaller c = search line-less
 
-pub loop-start-preserved : goal.loop-start-preserved
-loop-start-preserved c = search comments-more
+pub loop-line-preserved : goal.loop-line-preserved
+loop-line-preserved c = search comments-more
 
 pub returns-else-plain_comment : goal.returns-else-plain_comment
 returns-else-plain_comment c = search comments-stop

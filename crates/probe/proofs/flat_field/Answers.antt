@@ -1,7 +1,0 @@
-use Rattle.probe.proofs.flat_field.Goals as goal
-
-pub returns-in-At : goal.returns-in-At
-returns-in-At c = rw c.in-At.is
-
-pub returns-in-None : goal.returns-in-None
-returns-in-None c = rw c.in-None.is
