@@ -138,6 +138,3 @@ module _ (keys claim list₀ list : List ℕ) (i n : ℕ) (k : Filling (claim_li
 
     pub claiming_word : (x : ℕ) → 2 ≤ v → x ≡ cnf_word v → length keys ≤ length list₀ → Filling (claim_list keys claim) list₀ (set list n x) (i + 1) (n + 1)
     claiming_word x f g room = filling-word (claim_list keys claim) list₀ list i n k inside v x is f g (omega (arith, k.behind, k.same))
-
-pub key-low : (keys : List ℕ) → LowKeys keys → (i : ℕ) → i < length keys → get_or keys i 0 < 2 ^ 39
-key-low keys e i h = each_at (λ key. key < 2 ^ 39) keys i 0 e h

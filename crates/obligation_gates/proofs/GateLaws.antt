@@ -21,11 +21,6 @@ use Rattle.obligation_spec.specs.Lists.{gate_lists}
 use Rattle.obligation_gates.specs.Inner.Encoding.{LowGate, gate_arrays}
 use Rattle.obligation_gates.proofs.PredicateLaws.{opposite-low}
 
--- the arrays as the code makes them
-pub arrays_are : (g : Gate) (x y z : ℕ) → x ≡ opposite g.output → y ≡ opposite g.left → z ≡ opposite g.right
-    → ((x ∷ g.left ∷ 0 ∷ []) ∷ (x ∷ g.right ∷ 0 ∷ []) ∷ (g.output ∷ y ∷ z ∷ []) ∷ []) ≡ gate_arrays g
-arrays_are g x y z e f h = rw (e, f, h) refl
-
 -- the clauses of the arrays, one after the other
 module _ (g : Gate) (arrays : List (List ℕ)) (is : arrays ≡ gate_arrays g) where
   module _ (low : LowGate g) where
@@ -90,7 +85,3 @@ module _ (ws : List ℕ) (count i : ℕ) (room : 3 * count ≤ length ws) (h : i
     pub gate_next : (a₃ : ClauseCounts) (p₃ w₃ : List ℕ) → Appends (gate_lists (gate_at ws i)) a₂ p₂ w₂ a₃ p₃ w₃
         → Appends (words_of gate_lists (take (i + 1) (triples_of gate_from ws))) a₁ p₁ w₁ a₃ p₃ w₃
     gate_next a₃ p₃ w₃ k = appends_item gate_lists (triples_of gate_from ws) i a₁ a₂ a₃ p₁ w₁ p₂ w₂ p₃ w₃ no_gate inside g (rw gate_is k)
-
-pub gate_end : (ws : List ℕ) (count i : ℕ) (a₁ a₂ : ClauseCounts) (p₁ w₁ p₂ w₂ : List ℕ) → i ≤ count → count ≤ i
-    → Appends (words_of gate_lists (take i (triples_of gate_from ws))) a₁ p₁ w₁ a₂ p₂ w₂ → Appends (words_of gate_lists (take count (triples_of gate_from ws))) a₁ p₁ w₁ a₂ p₂ w₂
-gate_end ws count i a₁ a₂ p₁ w₁ p₂ w₂ h k g = let e : count ≡ i = omega arith in rw e g

@@ -36,13 +36,13 @@ fn predicate_literal(inputs: &[u64], relevant: &[u64], word: u32) -> u64
     requires { Low inputs.now }
     ensures { result ≡ predicate_literal inputs.now relevant.now word }
 {
-    let index = (word / 2) as usize;
-    let input = lists::index(lists::word(relevant, index));
-    let literal = lists::word(inputs, input);
+    let input = lists::word(relevant, (word / 2) as usize);
+    let literal = lists::word(inputs, input as usize);
     if word % 2 == 1 {
-        return literal;
+        literal
+    } else {
+        cnf::opposite_of(literal)
     }
-    cnf::opposite_of(literal)
 }
 
 // Fills the list with the words of a predicate's clause, and says how many. Repeats are left out here: to sort them costs more.
@@ -52,16 +52,12 @@ fn fill_clause(inputs: &[u64], relevant: &[u64], clause: &[u32], list: &mut [u64
 {
     let mut seen = [0u64; 2];
     let mut n = 0;
-    let mut i = 0;
-    while i < clause.len() {
+    for i in 0..clause.len() {
         let word = clause[i];
         if lists::add(&mut seen, word as usize) {
             list[n] = cnf::word(predicate_literal(inputs, relevant, word));
             n += 1;
-            i += 1;
-            continue;
         }
-        i += 1;
     }
     n
 }
@@ -72,12 +68,11 @@ fn push_clause(
     relevant: &[u64],
     clause: &[u32],
     list: &mut [u64],
-    work: &mut [u64],
     pairs: &mut [u64],
     literals: &mut [u32],
     at: ClauseCounts,
 ) -> ClauseCounts
-    requires { Clausal inputs.now relevant.now clause.now × (length clause.now ≤ 1024) × (length list.old ≡ 1024) × (length work.old ≡ 1024) × Space at 1 }
+    requires { Clausal inputs.now relevant.now clause.now × (length clause.now ≤ 1024) × (length list.old ≡ 1024) × Space at 1 }
     ensures { Appends (map (predicate_literal inputs.now relevant.now) clause.now ∷ []) at pairs.old literals.old result pairs.new literals.new }
 {
     let n = fill_clause(inputs, relevant, clause, list);
@@ -91,25 +86,19 @@ fn push_clauses(
     predicate_pairs: &[u64],
     predicate_literals: &[u32],
     list: &mut [u64],
-    work: &mut [u64],
     pairs: &mut [u64],
     literals: &mut [u32],
     at: ClauseCounts,
 ) -> ClauseCounts
-    requires { Bounded inputs.now relevant.now predicate_pairs.now predicate_literals.now × (length list.old ≡ 1024) × (length work.old ≡ 1024) × Space at (length predicate_pairs.now / 2) }
+    requires { Bounded inputs.now relevant.now predicate_pairs.now predicate_literals.now × (length list.old ≡ 1024) × Space at (length predicate_pairs.now / 2) }
     ensures { Appends (map (map (predicate_literal inputs.now relevant.now)) (clauses_in predicate_literals.now predicate_pairs.now)) at pairs.old literals.old result pairs.new literals.new }
 {
-    let count = predicate_pairs.len() / 2;
     let mut appended = at;
-    let mut i = 0;
-    while i < count {
-        let start = lists::index(predicate_pairs[2 * i]);
-        let end = start + lists::index(predicate_pairs[2 * i + 1]);
+    for i in 0..predicate_pairs.len() / 2 {
+        let start = predicate_pairs[2 * i] as usize;
+        let end = start + predicate_pairs[2 * i + 1] as usize;
         let clause = &predicate_literals[start..end];
-        appended = push_clause(
-            inputs, relevant, clause, list, work, pairs, literals, appended,
-        );
-        i += 1;
+        appended = push_clause(inputs, relevant, clause, list, pairs, literals, appended);
     }
     appended
 }
@@ -131,14 +120,12 @@ pub fn append_predicate(
         return at;
     }
     let mut list = [0u64; 1024];
-    let mut work = [0u64; 1024];
     push_clauses(
         inputs,
         relevant,
         predicate_pairs,
         predicate_literals,
         &mut list,
-        &mut work,
         pairs,
         literals,
         at,
@@ -164,9 +151,10 @@ fn source_literal(current: u64, source: u64, i: usize) -> u64
     ensures { result ≡ valued current (odd (source / 2 ^ i)) }
 {
     if (source >> i) % 2 == 1 {
-        return current;
+        current
+    } else {
+        cnf::opposite_of(current)
     }
-    cnf::opposite_of(current)
 }
 
 // Appends the clauses of the source: each latch has its bit.
@@ -181,11 +169,9 @@ pub fn append_sources(
     ensures { Appends (source_lists currents.now (bits (length currents.now) source)) at pairs.old literals.old result pairs.new literals.new }
 {
     let mut appended = at;
-    let mut i = 0;
-    while i < currents.len() {
+    for i in 0..currents.len() {
         let literal = source_literal(currents[i], source, i);
         appended = push_literal(literal, pairs, literals, appended);
-        i += 1;
     }
     appended
 }
@@ -213,15 +199,13 @@ pub fn append_ands(
     ensures { Appends (words_of gate_lists (take count (triples_of gate_from gates.now))) at pairs.old literals.old result pairs.new literals.new }
 {
     let mut appended = at;
-    let mut i = 0;
-    while i < count {
+    for i in 0..count {
         let gate = Gate {
             output: gates[3 * i],
             left: gates[3 * i + 1],
             right: gates[3 * i + 2],
         };
         appended = push_gate(gate, pairs, literals, appended);
-        i += 1;
     }
     appended
 }
