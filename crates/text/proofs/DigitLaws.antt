@@ -3,6 +3,7 @@ use Rattle.std.specs.Prelude.{Option, Some, None}
 use Prim.Native.Nat.{ℕ, suc, ◌+◌, ◌-◌, ◌*◌, ◌/◌, ◌^◌, ◌≤◌, ◌<◌}
 use mathlib.Core.Path.{◌≡◌, refl, ap, sym, ◌∙◌}
 use mathlib.Core.List.{List, [], ◌∷◌}
+use mathlib.Core.Logic.{◌⊎◌, inl, inr}
 use mathlib.Core.Bool.{Bool, true, false, cond, and-false}
 use native.Mathlib.Numerals.{add-one}
 use native.Mathlib.Omega.{arith}
@@ -76,17 +77,15 @@ module _ (f : List ℕ) (i : ℕ) where
 
 -- the same for the loop: n is what its invariant says of v and i
 module _ (n : Option ℕ) (v : ℕ) (f : List ℕ) (i : ℕ) (k : n ≡ digits_after v (drop i f)) where
-  pub at_low : i < length f → get_or f i 0 < 48 → None ≡ n
-  at_low h e = sym (k ∙ digits_low v f i h e)
+  pub at-outside : i < length f → (get_or f i 0 < 48) ⊎ ((48 ≤ get_or f i 0) × (57 < get_or f i 0)) → None ≡ n
+  at-outside h (inl e) = sym (k ∙ digits_low v f i h e)
+  at-outside h (inr e) = sym (k ∙ digits_high v f i h e.1)
 
-  pub at_high : i < length f → 57 < get_or f i 0 → None ≡ n
-  at_high h e = sym (k ∙ digits_high v f i h e)
-
-  pub at-over : i < length f → (d : ℕ) → d ≡ get_or f i 0 → (18446744073709551615 - (d - 48)) / 10 < v → None ≡ n
-  at-over h d q e = sym (k ∙ digits-over v f i h (omega arith))
+  pub at-over : i < length f → ((v * 10 + (get_or f i 0 - 48)) < 2 ^ 64 → ⊥) → None ≡ n
+  at-over h e = sym (k ∙ digits-over v f i h (omega (arith, e)))
 
   pub at-end : length f ≤ i → v < 2 ^ 64 → Some v ≡ n
   at-end h e = sym (k ∙ digits-end v f i h e)
 
-  pub at_digit : i < length f → (d : ℕ) → d ≡ get_or f i 0 → 48 ≤ get_or f i 0 → get_or f i 0 ≤ 57 → n ≡ digits_after (v * 10 + (d - 48)) (drop (i + 1) f)
-  at_digit h d q e g = k ∙ rw q (digits_in_lem v f i h e g)
+  pub at_digit : i < length f → 48 ≤ get_or f i 0 → get_or f i 0 ≤ 57 → (w : ℕ) → w ≡ v * 10 + (get_or f i 0 - 48) → n ≡ digits_after w (drop (i + 1) f)
+  at_digit h e g w q = k ∙ rw q (digits_in_lem v f i h e g)

@@ -1,6 +1,6 @@
 -- Laws of `IsRun`: the loop that reads plain digits, the tests behind it, and what they say of `taken_at` and of a plain number.
 use Rattle.std.specs.Prelude.{Some}
-use Prim.Native.Nat.{ℕ, zero, suc, ◌+◌, ◌-◌, ◌*◌, ◌^◌, ◌≤◌, ◌<◌, min}
+use Prim.Native.Nat.{ℕ, zero, suc, ◌+◌, ◌-◌, ◌*◌, ◌^◌, ◌≤◌, ◌<◌, min, max}
 use mathlib.Core.Path.{◌≡◌, refl, ap, sym, ◌∙◌}
 use mathlib.Core.Bool.{Bool, true, false}
 use mathlib.Core.List.{[], ◌∷◌, ◌++◌}
@@ -38,6 +38,7 @@ pub record Running (l : Bytes) (a last i v : ℕ) : Type 0 where
   pub run : IsRun l a i v
   pub below : v < 10 ^ (i - a)
   pub near : last ≤ a + 18
+  pub upto : i ≤ max a last
   pub within : last ≤ length l
 
 module _ (l : Bytes) (a last : ℕ) where
@@ -48,12 +49,16 @@ module _ (l : Bytes) (a last : ℕ) where
         run = record { ordered = omega arith; inside = refl; digits = rw n; value = rw n; small = omega arith };
         below = rw n (omega arith);
         near = omega arith;
+        upto = omega arith;
         within = omega arith;
       }
 
   module _ (i v : ℕ) (k : Running l a last i v) where
     pub running_run : IsRun l a i v
     running_run = k.run
+
+    pub running-done : last ≤ i → (m : ℕ) → m ≡ max a last → IsRun l a m v
+    running-done h m e = let same : m ≡ i = omega (arith, k.upto, k.run.ordered) in rw same k.run
 
     module _ (h : i < last) where
       pub running-inside : i < length l
@@ -65,10 +70,10 @@ module _ (l : Bytes) (a last : ℕ) where
       pub running_mul : v * 10 < 2 ^ 64
       running_mul = omega (arith, room)
 
-      pub running_add : get_or l i 0 ≤ 57 → (d : ℕ) → d ≡ get_or l i 0 → v * 10 + (d - 48) < 2 ^ 64
+      pub running_add : get_or l i 0 ≤ 57 → (d : ℕ) → d ≡ get_or l i 0 - 48 → v * 10 + d < 2 ^ 64
       running_add high d q = omega (arith, room)
 
-      pub running_more : 48 ≤ get_or l i 0 → get_or l i 0 ≤ 57 → (d : ℕ) → d ≡ get_or l i 0 → Running l a last (i + 1) (v * 10 + (d - 48))
+      pub running_more : 48 ≤ get_or l i 0 → get_or l i 0 ≤ 57 → (d : ℕ) → d ≡ get_or l i 0 - 48 → Running l a last (i + 1) (v * 10 + d)
       running_more low high d q =
           let p : part l a (i + 1) ≡ part l a i ++ get_or l i 0 ∷ [] = part-next l a i 0 k.run.ordered running-inside in
           let n : i + 1 - a ≡ suc (i - a) = omega (arith, k.run.ordered) in
@@ -83,6 +88,7 @@ module _ (l : Bytes) (a last : ℕ) where
                 };
             below = rw (n, pow-succ' 10 (i - a)) (omega (arith, k.below));
             near = k.near;
+            upto = omega arith;
             within = k.within;
           }
 

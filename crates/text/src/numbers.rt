@@ -4,13 +4,6 @@ ghost use Rattle.text.specs.Numbers.{digits_after, digits_of, unsigned, number_o
 
 use super::Reader;
 
-// A byte as a wider number.
-pub fn wide(x: u8) -> u64
-    ensures { result ≡ x }
-{
-    x as u64
-}
-
 // Where the digits of f may be read from as from a position: in a long field past the zeros in front.
 fn zeros_end(f: &[u8], at: usize) -> usize
     ensures { digits_after 0 (drop result f.now) ≡ digits_after 0 (drop at f.now) }
@@ -28,24 +21,15 @@ fn digits(f: &[u8], at: usize) -> Option<u64>
     if f.len() <= at {
         return None;
     }
-    let mut v: u64 = 0;
-    let mut i = zeros_end(f, at);
-    while i < f.len() {
+    let mut value: u64 = 0;
+    for i in zeros_end(f, at)..f.len() {
         let b = f[i];
-        if b < 48 {
+        if b < 48 || 57 < b {
             return None;
         }
-        if 57 < b {
-            return None;
-        }
-        let d = wide(b) - 48;
-        if (18446744073709551615 - d) / 10 < v {
-            return None;
-        }
-        v = v * 10 + d;
-        i += 1;
+        value = value.checked_mul(10)?.checked_add(u64::from(b - 48))?;
     }
-    Some(v)
+    Some(value)
 }
 
 // Where the digits of a field begin: behind a plus sign, if it has one (R1.2).
