@@ -12,12 +12,11 @@ use lib.Seq.{length-take-le}
 use mir.Facts.{Fits-le}
 use mir.Syntax.{w64}
 use mir.Val.{Fits}
+use Rattle.std.specs.Prelude.{Option, Some, None}
 use Rattle.lists.specs.Answer.{got, unless, and_then}
 use Rattle.lists.specs.Parts.{part}
 use Rattle.lists.specs.Sets.{rising}
 use Rattle.lists.specs.Tests.{all, every}
-use Rattle.lists.specs.declared.PartEnd.{PartEnd}
-use Rattle.lists.specs.declared.PartEnd.TheVariants as parts
 use Rattle.lists.specs.Words.{in_order, lengths}
 use Rattle.lists.specs.Inner.Pairs.{part_end}
 use Rattle.lists.proofs.PairLaws.{pair_rest, no_pair, order-none, order_outside, part-ends, order-at}
@@ -34,7 +33,7 @@ use Rattle.obligation_check.specs.Inner.Boundary.{indexes, predicate_holds, Boun
 
 -- the loop over the pairs: the rest decides, and where the part of the pair at i ends
 module _ (n : ℕ) (words pairs : List ℕ) (end i : ℕ) (r : Bool) (k : r ≡ predicate_holds n end words (drop (2 * i) pairs)) where
-  module _ (h : i < length pairs / 2) (x : PartEnd) (e : x ≡ part_end end (get_or pairs (2 * i) 0) (get_or pairs (2 * i + 1) 0) (length words)) where
+  module _ (h : i < length pairs / 2) (x : Option ℕ) (e : x ≡ part_end end (get_or pairs (2 * i) 0) (get_or pairs (2 * i + 1) 0) (length words)) where
     abbrev start : ℕ
     start = get_or pairs (2 * i) 0
 
@@ -47,10 +46,10 @@ module _ (n : ℕ) (words pairs : List ℕ) (end i : ℕ) (r : Bool) (k : r ≡ 
     next : r ≡ predicate_holds n end words (start ∷ size ∷ rest)
     next = k ∙ ap (predicate_holds n end words) (pair_rest pairs i (omega arith))
 
-    pub pair_stop : x ≡ parts.Outside → false ≡ r
+    pub pair_stop : x ≡ None → false ≡ r
     pair_stop o = sym (next ∙ ap (λ (b : Bool). b && all (indexes n) (clauses_in words (start ∷ size ∷ rest))) (order_outside end start size (length words) x e o rest))
 
-    module _ (end' : ℕ) (o : x ≡ parts.At end') (offset : ℕ) (first : offset ≡ get_or pairs (2 * i) 0) where
+    module _ (end' : ℕ) (o : x ≡ Some end') (offset : ℕ) (first : offset ≡ get_or pairs (2 * i) 0) where
       ends : (end ≤ start) × (end' ≡ start + size) × (start + size ≤ length words)
       ends = part-ends end start size (length words) x e end' o
 

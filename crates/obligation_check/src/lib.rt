@@ -9,7 +9,6 @@ ghost use Rattle.obligation_spec.specs.Limits.{before, rising_outcomes};
 ghost use Rattle.obligation_spec.specs.Calls.{asked_of};
 ghost use Rattle.obligation_check.specs.Inner.Boundary.{indexes, predicate_holds, Bounds, IsState, ClaimsStates, ClaimsOutcomes, no_outcome, outcome_fits, Checks};
 
-use lists::PartEnd;
 use model::{AigerLatch, Counts, Verdict};
 use model_step::Outcome;
 
@@ -36,7 +35,7 @@ fn predicate_holds(predicate_pairs: &[u64], predicate_literals: &[u32], n: u32) 
     let mut end = 0;
     let mut i = 0;
     while i < count {
-        let PartEnd::At(next) = lists::pair_end(predicate_pairs, i, end, size) else {
+        let Some(next) = lists::pair_end(predicate_pairs, i, end, size) else {
             return false;
         };
         let offset = lists::index(predicate_pairs[2 * i]);
