@@ -38,11 +38,11 @@ pub record Running (l : Bytes) (a last i v : ℕ) : Type 0 where
   pub run : IsRun l a i v
   pub below : v < 10 ^ (i - a)
   pub near : last ≤ a + 18
-  pub upto : i ≤ max a last
-  pub within : last ≤ length l
+  pub upto : i ≤ last
+  pub within : a < last → last ≤ length l
 
 module _ (l : Bytes) (a last : ℕ) where
-  pub running_none : last ≡ min (a + 18) (length l) → Running l a last a 0
+  pub running_none : last ≡ a + min (length l - a) 18 → Running l a last a 0
   running_none q =
       let n : a - a ≡ 0 = omega arith in
       record {
@@ -50,19 +50,19 @@ module _ (l : Bytes) (a last : ℕ) where
         below = rw n (omega arith);
         near = omega arith;
         upto = omega arith;
-        within = omega arith;
+        within = λ h. omega arith;
       }
 
   module _ (i v : ℕ) (k : Running l a last i v) where
     pub running_run : IsRun l a i v
     running_run = k.run
 
-    pub running-done : last ≤ i → (m : ℕ) → m ≡ max a last → IsRun l a m v
-    running-done h m e = let same : m ≡ i = omega (arith, k.upto, k.run.ordered) in rw same k.run
+    pub running-done : last ≤ i → IsRun l a last v
+    running-done h = let same : last ≡ i = omega (arith, k.upto) in rw same k.run
 
     module _ (h : i < last) where
       pub running-inside : i < length l
-      running-inside = omega (arith, k.within)
+      running-inside = omega (arith, k.within (omega (arith, k.run.ordered)))
 
       room : v < 10 ^ 17
       room = omega (arith, k.below, pow-le-pow_right {n = 10} (omega arith) {i = i - a} {j = 17} (omega (arith, k.near)))
@@ -70,10 +70,10 @@ module _ (l : Bytes) (a last : ℕ) where
       pub running_mul : v * 10 < 2 ^ 64
       running_mul = omega (arith, room)
 
-      pub running_add : get_or l i 0 ≤ 57 → (d : ℕ) → d ≡ get_or l i 0 - 48 → v * 10 + d < 2 ^ 64
+      pub running_add : get_or l i 0 ≤ 57 → (d : ℕ) → d ≡ get_or l i 0 → v * 10 + (d - 48) < 2 ^ 64
       running_add high d q = omega (arith, room)
 
-      pub running_more : 48 ≤ get_or l i 0 → get_or l i 0 ≤ 57 → (d : ℕ) → d ≡ get_or l i 0 - 48 → Running l a last (i + 1) (v * 10 + d)
+      pub running_more : 48 ≤ get_or l i 0 → get_or l i 0 ≤ 57 → (d : ℕ) → d ≡ get_or l i 0 → Running l a last (i + 1) (v * 10 + (d - 48))
       running_more low high d q =
           let p : part l a (i + 1) ≡ part l a i ++ get_or l i 0 ∷ [] = part-next l a i 0 k.run.ordered running-inside in
           let n : i + 1 - a ≡ suc (i - a) = omega (arith, k.run.ordered) in

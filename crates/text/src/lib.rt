@@ -101,7 +101,7 @@ impl ByteTest for Blank {
     ghost passes = { is_blank };
 
     fn passes(b: u8) -> bool {
-        b == 32 || (9 <= b && b <= 13)
+        b <= 32 && (b == 32 || (9 <= b && b <= 13))
     }
 }
 
@@ -180,19 +180,16 @@ fn any_number(reader: Reader, l: &[u8], start: usize) -> Taken
 fn digits_run(l: &[u8], at: usize) -> Run
     ensures { IsRun l.now at result.end result.value }
 {
-    let last = scan::block_end(l.len(), at, 18);
+    let last = at + l.len().saturating_sub(at).min(18);
     let mut value = 0;
     for i in at..last {
         let b = l[i];
         if b < 48 || 57 < b {
             return Run { end: i, value };
         }
-        value = value * 10 + u64::from(b - 48);
+        value = value * 10 + (u64::from(b) - 48);
     }
-    Run {
-        end: at.max(last),
-        value,
-    }
+    Run { end: last, value }
 }
 
 // Whether the bytes between two places begin with '0' and are more than one. Zeros in front may be many, and the readers differ on

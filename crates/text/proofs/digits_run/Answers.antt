@@ -1,8 +1,9 @@
+use native.Mathlib.Omega.{arith}
 use Rattle.text.proofs.PlainLaws.{running_none, running_run, running-inside, running_mul, running_add, running_more, running-done}
 use Rattle.text.proofs.digits_run.Goals as goal
 
 pub loop-i-init : goal.loop-i-init
-loop-i-init c = search running_none
+loop-i-init c = running_none _ _ _ (omega (arith, c.min.ensures, c.saturating_sub.ensures))
 
 pub bounds-l-i : goal.bounds-l-i
 bounds-l-i c = search running-inside
