@@ -20,14 +20,13 @@ pub fn decimal_length(n: u64) -> usize
 }
 
 // Where n bytes from a place on end, if a buffer has room for them.
-fn end_within(room: usize, at: usize, n: usize) -> Option<usize>
+pub fn end_within(room: usize, at: usize, n: usize) -> Option<usize>
     ensures { SomeIff result (at + n ≤ room) (at + n) }
 {
-    let end = at.checked_add(n)?;
-    if room < end {
+    if room < at || room - at < n {
         return None;
     }
-    Some(end)
+    Some(at + n)
 }
 
 // Writes the digits of n, from the last to the first.
