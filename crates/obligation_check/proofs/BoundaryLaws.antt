@@ -2,6 +2,7 @@
 use Prim.Native.Nat.{ℕ, ◌+◌, ◌-◌, ◌*◌, ◌/◌, ◌≤◌, ◌<◌, ◌^◌}
 use mathlib.Core.Bool.{Bool, true, false, not, ◌&&◌, and-false, and-true}
 use mathlib.Core.List.{List, [], ◌∷◌}
+use Rattle.std.specs.Prelude.{Result, Ok, Err}
 use mathlib.Core.Path.{◌≡◌, refl, sym, ap, ◌∙◌}
 use native.Mathlib.Nat.{lt_trans, mul-le-mul_right}
 use native.Mathlib.Omega.{arith}
@@ -22,8 +23,8 @@ use Rattle.lists.specs.Inner.Pairs.{part_end}
 use Rattle.lists.proofs.PairLaws.{pair_rest, no_pair, order-none, order_outside, part-ends, order-at}
 use Rattle.lists.proofs.TestLaws.{every_fails}
 use Rattle.lists.proofs.WordLaws.{pairs_end}
-use Rattle.model.specs.declared.Verdict.{Verdict}
-use Rattle.model.specs.declared.Verdict.TheVariants.{Valid, Refused}
+use Rattle.aiger.specs.declared.Refusal.{Refusal}
+use Rattle.aiger.specs.declared.Refusal.TheVariants.{Boundary}
 use Rattle.model.specs.Checked.{checked, judged, Validates}
 use Rattle.model.proofs.ValueLaws.{checked-got}
 use Rattle.cnf.specs.Clauses.{clauses_in}
@@ -138,9 +139,9 @@ module _ (latches : ℕ) (states : List ℕ) where
   unfolding states_claimed
   claims-are b e c n = e ∙ ap (λ (k : ℕ). every (rising states ∷ all (λ s. ltb s (2 ^ k)) states ∷ [])) (sym n)
 
-  pub states_fall : (q : Bool) → q ≡ rising states → q ≡ false → ClaimsStates latches states false
+  pub states_fall : (q : Bool) → q ≡ rising states → q ≡ false → ClaimsStates latches states q
   unfolding every
-  states_fall q e f = claims-are false (rw (← e, f) refl)
+  states_fall q e f = claims-are q (rw (← e, f) refl)
 
   pub states_rise : (q : Bool) → q ≡ rising states → q ≡ true → (top : ℕ) → top ≡ 2 ^ latches → (b : Bool) → b ≡ all (λ s. ltb s top) states → ClaimsStates latches states b
   unfolding every
@@ -148,22 +149,22 @@ module _ (latches : ℕ) (states : List ℕ) where
 
 -- ---- the whole check
 
-module _ (q : Asked) (w : ℕ) (work' : List ℕ) (v : Verdict) (h : Validates q.model q.gates w v work') where
+module _ (q : Asked) (w : ℕ) (work' : List ℕ) (v : Result (Unit {0}) Refusal) (h : Validates q.model q.gates w v work') where
   at-work : (lent : Lent) → lent.work ≡ w → asked q lent ≡ and_then (judged v (circuit q)) (λ c. unless 13 (bounded c q.relevant q.pairs q.words) (got c))
   at-work lent e = rw (e, ← h.judges) refl
 
-  pub check_refused : (n : ℕ) → v ≡ Refused n → Checks q w v work'
-  check_refused n e = record { judges = λ lent k. rw e (sym (at-work lent k ∙ rw e refl)); clears = h.clears }
+  pub check_refused : (n : Refusal) → v ≡ Err n → Checks q w (Err n) work'
+  check_refused n e = record { judges = λ lent k. sym (at-work lent k ∙ rw e refl); clears = h.clears }
 
-  module _ (valid : v ≡ Valid) where
+  module _ (u : Unit {0}) (valid : v ≡ Ok u) where
     as_many : length (circuit q).inputs ≡ q.model.input_count
     as_many =
         let g : checked q.model q.gates w ≡ got (circuit q) = sym (rw valid at h.judges) in
         length-take-le q.model.input_count q.model.inputs (checked-got q.model q.gates w (circuit q) g).inputs
 
     module _ (b : Bool) (f : Bounds q.model.input_count q.relevant q.pairs q.words b) where
-      pub check_valid : b ≡ true → Checks q w v work'
-      check_valid t = record { judges = λ lent k. rw valid (sym (at-work lent k ∙ rw (valid, ← f (circuit q) as_many, t) refl)); clears = h.clears }
+      pub check_valid : b ≡ true → Checks q w (Ok tt) work'
+      check_valid t = record { judges = λ lent k. sym (at-work lent k ∙ rw (valid, ← f (circuit q) as_many, t) refl); clears = h.clears }
 
-      pub check_13 : b ≡ false → Checks q w (Refused 13) work'
+      pub check_13 : b ≡ false → Checks q w (Err Boundary) work'
       check_13 t = record { judges = λ lent k. sym (at-work lent k ∙ rw (valid, ← f (circuit q) as_many, t) refl); clears = h.clears }
