@@ -23,7 +23,8 @@ pub fn decimal_length(n: u64) -> usize
 pub fn end_within(room: usize, at: usize, n: usize) -> Option<usize>
     ensures { SomeIff result (at + n ≤ room) (at + n) }
 {
-    if room < at || room - at < n {
+    let left = room.checked_sub(at)?;
+    if left < n {
         return None;
     }
     Some(at + n)
