@@ -10,9 +10,10 @@ ghost use Rattle.obligation.specs.Inner.ByClaim.{claim_test, claim_clauses};
 
 use aiger::Refusal;
 use cnf::ClauseCounts;
-use making::{Claims, Plan};
+use making::Plan;
 use model::{AigerTransition, LentModel};
 use obligation_check::Question;
+use obligation_claims::Claims;
 
 mod making;
 
