@@ -2,7 +2,7 @@
 #![tactic(auto)]
 
 ghost use Rattle.std.proofs.Math.Option.{some};
-ghost use Rattle.std.specs.Prelude.{◌≡◌, ◌+◌, ◌≤◌, ◌<◌};
+ghost use Rattle.std.specs.Prelude.{Some, ◌≡◌, ◌+◌, ◌≤◌, ◌<◌};
 ghost use Rattle.text.specs.declared.Reader.TheVariants.{Witness};
 ghost use Rattle.text.specs.Numbers.{number_of};
 ghost use Rattle.compose_gather.specs.Inner.Counts.{names_before, CountsListed};
