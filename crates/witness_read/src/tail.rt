@@ -7,10 +7,10 @@ ghost use Rattle.witness_text.specs.Symbols.{count_of};
 ghost use Rattle.witness_read.specs.Comments.{plain_comment, plain_comments};
 ghost use Rattle.witness_read.specs.Inner.Passes.{MarksName, Unmarked, TakesSymbol, ChecksSymbols};
 
-use super::{NextSymbol, SymbolName};
+use super::NextSymbol;
 use aiger::Refusal;
 use text::Cursor;
-use witness_text::{AagCounts, Kind, SymbolLine};
+use witness_text::{AagCounts, Kind};
 
 // Whether an input or a latch is named for the first time, which is marked; outputs, bads and constraints may be named again.
 fn name_first(counts: AagCounts, kind: Kind, index: usize, marks: &mut [u64]) -> bool
@@ -36,13 +36,16 @@ fn next_symbol(s: &[u8], cursor: Cursor, counts: AagCounts) -> Result<NextSymbol
     };
     let l = &s[line.start..line.end];
     if witness_text::ends_symbols(l) {
-        return Ok(NextSymbol { symbol: None, next: line.next });
+        return Ok(NextSymbol {
+            symbol: None,
+            next: line.next,
+        });
     }
-    let SymbolLine::Named { kind, index, name } = witness_text::symbol_line(l, counts) else {
+    let Some(symbol) = witness_text::symbol_line(l, counts) else {
         return Err(Refusal::Symbol);
     };
     Ok(NextSymbol {
-        symbol: Some(SymbolName { kind, index }),
+        symbol: Some(symbol),
         next: line.next,
     })
 }
@@ -60,10 +63,10 @@ fn check_symbols(
     let mut p = cursor;
     loop {
         let NextSymbol { symbol, next } = next_symbol(s, p, counts)?;
-        let Some(SymbolName { kind, index }) = symbol else {
+        let Some(symbol) = symbol else {
             return Ok(next);
         };
-        if !name_first(counts, kind, index, marks) {
+        if !name_first(counts, symbol.kind, symbol.index, marks) {
             return Err(Refusal::Symbol);
         }
         p = next;
@@ -121,21 +124,21 @@ pub fn check_tail(s: &[u8], cursor: Cursor, counts: AagCounts) -> Result<Cursor,
     let mut latches: usize = 0;
     loop {
         let NextSymbol { symbol, next } = next_symbol(s, p, counts)?;
-        let Some(SymbolName { kind, index }) = symbol else {
+        let Some(symbol) = symbol else {
             return Ok(next);
         };
-        match kind {
+        match symbol.kind {
             Kind::Input => {
-                if index < inputs {
+                if symbol.index < inputs {
                     return check_marked(s, cursor, counts);
                 }
-                inputs = index + 1;
+                inputs = symbol.index + 1;
             }
             Kind::Latch => {
-                if index < latches {
+                if symbol.index < latches {
                     return check_marked(s, cursor, counts);
                 }
-                latches = index + 1;
+                latches = symbol.index + 1;
             }
             Kind::Output | Kind::Bad | Kind::Constraint => {}
         }

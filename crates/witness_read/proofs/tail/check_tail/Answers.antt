@@ -17,20 +17,20 @@ overflow_add-inputs c = search (input-fits, c.in_ok-symbol.ensures)
 pub overflow_add-latches : goal.overflow_add-latches
 overflow_add-latches c = search (latch_fits, c.in_ok-symbol.ensures)
 
-pub loop-symbol-preserved-else-index-inputs : goal.loop-symbol-preserved-else-index-inputs
-loop-symbol-preserved-else-index-inputs c = search (order-input, c.in_ok-symbol.ensures)
+pub loop-symbol-preserved-else-symbol-inputs : goal.loop-symbol-preserved-else-symbol-inputs
+loop-symbol-preserved-else-symbol-inputs c = search (order-input, c.in_ok-symbol.ensures)
 
-pub loop-symbol-preserved-else-index-latches : goal.loop-symbol-preserved-else-index-latches
-loop-symbol-preserved-else-index-latches c = search (order_latch, c.in_ok-symbol.ensures)
+pub loop-symbol-preserved-else-symbol-latches : goal.loop-symbol-preserved-else-symbol-latches
+loop-symbol-preserved-else-symbol-latches c = search (order_latch, c.in_ok-symbol.ensures)
 
 pub loop-symbol-preserved : goal.loop-symbol-preserved
 loop-symbol-preserved c = search (order-others, c.in_ok-symbol.ensures)
 
-pub loop-symbol-smaller-else-index-inputs : goal.loop-symbol-smaller-else-index-inputs
-loop-symbol-smaller-else-index-inputs c = search (symbol-less, c.in_ok-symbol.ensures)
+pub loop-symbol-smaller-else-symbol-inputs : goal.loop-symbol-smaller-else-symbol-inputs
+loop-symbol-smaller-else-symbol-inputs c = search (symbol-less, c.in_ok-symbol.ensures)
 
-pub loop-symbol-smaller-else-index-latches : goal.loop-symbol-smaller-else-index-latches
-loop-symbol-smaller-else-index-latches c = search (symbol-less, c.in_ok-symbol.ensures)
+pub loop-symbol-smaller-else-symbol-latches : goal.loop-symbol-smaller-else-symbol-latches
+loop-symbol-smaller-else-symbol-latches c = search (symbol-less, c.in_ok-symbol.ensures)
 
 pub loop-symbol-smaller : goal.loop-symbol-smaller
 loop-symbol-smaller c = search (symbol-less, c.in_ok-symbol.ensures)
