@@ -15,7 +15,7 @@ use Rattle.lists.specs.Firsts.{place}
 use Rattle.lists.specs.Parts.{put}
 use Rattle.lists.proofs.BoolLaws.{to_false, below_or}
 use Rattle.lists.proofs.FirstLaws.{place_inside, place_outside}
-use Rattle.lists.proofs.PartLaws.{put_three, put-length, put-before, put-inside}
+use Rattle.lists.proofs.PartLaws.{put-length, put-before, put-inside}
 use Rattle.key_table.specs.Inner.Table.{mix_of, head_of, code_of, node_at, node_of, Passes, Reached, Leads, Held, Walked, Finds}
 use Rattle.key_table.proofs.PlaceLaws.{place_at, any_at}
 use Rattle.key_table.proofs.PathLaws.{path-same}
@@ -45,10 +45,6 @@ module _ (heads key : ℕ) (keys t : List ℕ) (held : Held heads keys t) (at : 
   -- the search ends at a 0
   missing : get_or t at 0 ≡ 0 → any (eqb key) keys ≡ false
   missing e = to_false (any (eqb key) keys) (λ h. absurd (omega (arith, known h)))
-
--- what `add` stores
-pub node_stored : (t : List ℕ) (node key at x : ℕ) → node + 2 < length t → set (set (set (set t node (key + 1)) (node + 1) 0) (node + 2) 0) at x ≡ set (put t node (node_of key)) at x
-node_stored t node key at x h = ap (λ (l : List ℕ). set l at x) (sym (put_three t node (key + 1) 0 0 h))
 
 -- the key is added as node n, led to from `at`
 abbrev pub with_node : (heads n key : ℕ) (t : List ℕ) (at : ℕ) → List ℕ
@@ -191,14 +187,14 @@ module _ (heads key : ℕ) (keys t : List ℕ) (held : Held heads keys t) (some 
         }
 
 -- the search ends at a word that leads to a node: it is the key's
-pub finds-known : (heads count key : ℕ) (t : List ℕ) (at x : ℕ) → 0 < heads → Walked heads key t at → x ≡ get_or t at 0 → (x ≡ 0 → ⊥) → Finds heads count key t t (x - 1)
-finds-known heads count key t at x some w e h keys held c =
+pub finds-known : (heads count key : ℕ) (t : List ℕ) (at number : ℕ) → 0 < heads → Walked heads key t at → get_or t at 0 ≡ number + 1 → Finds heads count key t t number
+finds-known heads count key t at number some w e keys held c =
     let is = found heads key keys t held at w some (omega (arith, e)) in
     (omega (arith, e, known heads key keys t held at w is), rw is held)
 
 -- the search ends at a 0: the key is added
-pub finds_new : (heads count key : ℕ) (t t' : List ℕ) (at x : ℕ) → 0 < heads → node_at heads (count + 1) ≤ length t → Walked heads key t at → x ≡ get_or t at 0 → x ≡ 0
+pub finds_new : (heads count key : ℕ) (t t' : List ℕ) (at : ℕ) → 0 < heads → node_at heads (count + 1) ≤ length t → Walked heads key t at → get_or t at 0 ≡ 0
     → t' ≡ with_node heads count key t at → Finds heads count key t t' count
-finds_new heads count key t t' at x some room w e z q keys held c =
-    let is = missing heads key keys t held at w (sym e ∙ z) in
-    (sym (place_outside eqb key keys is ∙ c), rw (is, q, ← c) (held-added heads key keys t held some at w (sym e ∙ z) (rw c room)))
+finds_new heads count key t t' at some room w z q keys held c =
+    let is = missing heads key keys t held at w z in
+    (sym (place_outside eqb key keys is ∙ c), rw (is, q, ← c) (held-added heads key keys t held some at w z (rw c room)))

@@ -7,7 +7,7 @@ use lib.ListN.{length, get_or, take}
 use lib.Seq.{get_or-take}
 use Rattle.lists.specs.Parts.{zeros}
 use Rattle.lists.proofs.ZeroLaws.{zeros-at}
-use Rattle.key_table.specs.Inner.Table.{mix_of, head_of, code_of, node_at, node_from, link_from, Passes, Path, Comes, Leads, Held, Searchable, Walked, Holding}
+use Rattle.key_table.specs.Inner.Table.{mix_of, head_of, code_of, node_at, node_from, link_from, Passes, Path, Comes, Leads, Held, Searchable, Holding}
 use Rattle.key_table.proofs.HashLaws.{head-below}
 use Rattle.key_table.proofs.PathLaws.{path-more}
 
@@ -84,15 +84,10 @@ module _ (heads : ℕ) (keys t : List ℕ) (held : Held heads keys t) where
     pub node_used : 0 < get_or t at 0 → 0 < get_or t (node_from heads t at) 0
     node_used h = omega (arith, held.key (get_or t at 0 - 1) (omega (arith, comes-stands.leads.low)))
 
--- a search that starts
-pub comes-none : (heads key : ℕ) (t : List ℕ) (mixed at code : ℕ) → mixed ≡ mix_of key → at ≡ head_of heads mixed → code ≡ code_of mixed → Comes heads key t at code
-comes-none heads key t mixed at code e f g =
-    record { steps = 0; path = (ap (head_of heads) (sym e) ∙ sym f, ap code_of (sym e) ∙ sym g) }
-
--- the node that the word x at place `at` leads to stands further on, within so many words
-pub record Ahead (heads size at x : ℕ) : Type 0 where
-  pub onward : at < node_at heads (x - 1)
-  pub within : node_at heads (x - 1) + 3 ≤ size
+-- node `number`, which the word at place `at` leads to, stands further on, within so many words
+pub record Ahead (heads size at number : ℕ) : Type 0 where
+  pub onward : at < node_at heads number
+  pub within : node_at heads number + 3 ≤ size
 
 module _ (heads key : ℕ) (t : List ℕ) (s : Searchable heads key t) (at code : ℕ) (m : Comes heads key t at code) where
   stands : Stands heads (length s.keys) t at
@@ -102,34 +97,30 @@ module _ (heads key : ℕ) (t : List ℕ) (s : Searchable heads key t) (at code 
   pub comes-within : at < length t
   comes-within = omega (arith, stands.low, s.held.fits)
 
-  -- and at the node that it finds there
-  pub comes-ahead : (x : ℕ) → x ≡ get_or t at 0 → (x ≡ 0 → ⊥) → Ahead heads (length t) at x
-  comes-ahead x e h =
-      rw e
-      (record {
-        onward = stands.leads.onward (omega (arith, e));
-        within = omega (arith, e, stands.leads.low, s.held.fits);
-      })
+  module _ (number : ℕ) (e : get_or t at 0 ≡ number + 1) where
+    -- it is the node that `Table` says
+    number-is : get_or t at 0 - 1 ≡ number
+    number-is = omega (arith, e)
 
-  -- a search that passes a node
-  pub comes-more : (x b : ℕ) → x ≡ get_or t at 0 → (x ≡ 0 → ⊥) → (get_or t (node_at heads (x - 1)) 0 ≡ key + 1 → ⊥) → b ≡ code % 2 → Comes heads key t (node_at heads (x - 1) + 1 + b) (code / 2)
-  comes-more x b e h o f =
-      let some : 0 < get_or t at 0 = omega (arith, e) in
-      rw (e, f)
-      (record {
-        steps = suc m.steps;
-        path = path-more heads key t m.steps (head_of heads (mix_of key)) (code_of (mix_of key)) at code m.path
-            (record {
-              some = some;
-              used = node_used heads s.keys t s.held s.some key at code m some;
-              other = rw e at o;
-            });
-      })
+    -- and at the node that it finds there
+    pub comes-ahead : Ahead heads (length t) at number
+    comes-ahead =
+        record {
+          onward = rw number-is at (stands.leads.onward (omega (arith, e)));
+          within = omega (arith, e, stands.leads.low, s.held.fits);
+        }
 
--- a search that ends: at a 0, and at a word that leads to the key's node
-module _ (heads key : ℕ) (t : List ℕ) (at code : ℕ) (m : Comes heads key t at code) (x : ℕ) (e : x ≡ get_or t at 0) where
-  pub walked_none : x ≡ 0 → Walked heads key t at
-  walked_none z = record { code = code; comes = m; stops = λ h. absurd (omega (arith, e)) }
-
-  pub walked-found : get_or t (node_at heads (x - 1)) 0 ≡ key + 1 → Walked heads key t at
-  walked-found f = record { code = code; comes = m; stops = λ h. rw e at f }
+    -- a search that passes a node
+    pub comes-more : (get_or t (node_at heads number) 0 ≡ key + 1 → ⊥) → Comes heads key t (node_at heads number + 1 + code % 2) (code / 2)
+    comes-more o =
+        let some : 0 < get_or t at 0 = omega (arith, e) in
+        rw (← number-is)
+        (record {
+          steps = suc m.steps;
+          path = path-more heads key t m.steps (head_of heads (mix_of key)) (code_of (mix_of key)) at code m.path
+              (record {
+                some = some;
+                used = node_used heads s.keys t s.held s.some key at code m some;
+                other = rw (← number-is) at o;
+              });
+        })

@@ -1,12 +1,11 @@
 // Keys numbered at their first appearance, in a lent table: heads of buckets, then nodes of three words. Each bucket is a tree in which the bits of a code
 // of the key say where to go: whatever the keys are, a search passes 64 nodes at most, where the halves of each are below 2^30.
+// Kept (buffer): nodes stand in the words that the caller lends, since a map would need a heap, which the library does not use.
 #![tactic(auto)]
 
 ghost use Rattle.std.specs.Prelude.{◌≡◌, ◌+◌, ◌<◌, ◌≤◌, length, set};
 ghost use Rattle.lists.specs.Parts.{put};
 ghost use Rattle.key_table.specs.Inner.Table.{mix_of, head_of, code_of, node_of, Searchable, Walked, Holding, Finds};
-
-use lists::index;
 
 // The halves of a key, mixed.
 fn mix(key: u64) -> u64
@@ -22,7 +21,7 @@ fn head(mixed: u64, heads: usize) -> usize
 {
     let folded = (mixed / 4294967296 + mixed % 4294967296) % 4294967296;
     let scattered = folded * 2654435769 / 65536 % 4294967296;
-    index(scattered) * heads / 4294967296
+    scattered as usize * heads / 4294967296
 }
 
 // The bits of a mixed key in the order in which the search takes them.
@@ -41,15 +40,14 @@ fn walk(table: &[u64], heads: usize, key: u64) -> usize
     let mut at = head(mixed, heads);
     let mut code = turn(mixed);
     loop {
-        let x = index(table[at]);
-        if x == 0 {
+        let Some(number) = (table[at] as usize).checked_sub(1) else {
             return at;
-        }
-        let node = heads + 3 * (x - 1);
+        };
+        let node = heads + 3 * number;
         if table[node] == key + 1 {
             return at;
         }
-        at = node + 1 + index(code % 2);
+        at = node + 1 + (code % 2) as usize;
         code /= 2;
     }
 }
@@ -72,10 +70,9 @@ pub fn find_or_add(table: &mut [u64], heads: usize, count: usize, key: u64) -> u
     ensures { Finds heads count key table.old table.new result }
 {
     let at = walk(table, heads, key);
-    let x = index(table[at]);
-    if x == 0 {
+    let Some(number) = (table[at] as usize).checked_sub(1) else {
         add(table, heads + 3 * count, key, at, count);
         return count;
-    }
-    x - 1
+    };
+    number
 }

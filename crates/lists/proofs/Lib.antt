@@ -4,6 +4,7 @@ pub mod RestLaws
 pub mod PartLaws
 pub mod KeptLaws
 pub mod TestLaws
+pub mod ChainLaws
 pub mod MapLaws
 pub mod WordLaws
 pub mod PairLaws

@@ -1,14 +1,13 @@
 -- Laws of `lengths` and `in_order`: the loops over pairs of offset and length.
 use Prim.Native.Nat.{ℕ, ◌+◌, ◌-◌, ◌*◌, ◌/◌, ◌≤◌, ◌<◌}
-use mathlib.Core.Bool.{Bool, true, false, cond, ◌&&◌, and-false}
+use mathlib.Core.Bool.{Bool, true, false, cond, ◌&&◌}
 use mathlib.Core.List.{List, [], ◌∷◌}
 use mathlib.Core.Path.{◌≡◌, refl, sym, ap, ◌∙◌}
 use native.Mathlib.Omega.{arith}
 use borrow.Author.Tests.{leb-true, leb-false, le-leb, lt-leb}
 use lib.Dec.{leb}
 use lib.ListN.{length, get_or, drop, length-drop}
-use Rattle.lists.specs.declared.PartEnd.{PartEnd}
-use Rattle.lists.specs.declared.PartEnd.TheVariants as parts
+use Rattle.std.specs.Prelude.{Option, Some, None}
 use Rattle.lists.specs.Words.{lengths, in_order}
 use Rattle.lists.specs.Inner.Pairs.{part_end}
 use Rattle.lists.proofs.RestLaws.{rest_more}
@@ -56,34 +55,18 @@ module _ (ws : List ℕ) (i left : ℕ) (r : Bool) (k : r ≡ leb (lengths (drop
 
 -- ---- pairs in order, one after the other
 
-module _ (end start size most : ℕ) where
-  pub end_before : start < end → parts.Outside ≡ part_end end start size most
-  end_before h = rw (lt-leb end start h) refl
-
-  pub end_past : most < start → parts.Outside ≡ part_end end start size most
-  end_past h = rw (lt-leb (start + size) most (omega arith), and-false (leb end start)) refl
-
-  pub end-behind : start ≤ most → most - start < size → parts.Outside ≡ part_end end start size most
-  end-behind h k = rw (lt-leb (start + size) most (omega arith), and-false (leb end start)) refl
-
-  pub end-within : end ≤ start → start ≤ most → size ≤ most - start → parts.At (start + size) ≡ part_end end start size most
-  end-within h k f = rw (le-leb end start h, le-leb (start + size) most (omega arith)) refl
-
-pub pair_ends : (end start size a n most : ℕ) (x : PartEnd) → start ≡ a → size ≡ n → x ≡ part_end end start size most → x ≡ part_end end a n most
-pair_ends end start size a n most x e f g = g ∙ rw (e, f) refl
-
-at_outside : {X : Type 0} (a : ℕ) → parts.At a ≡ parts.Outside → X
+at_outside : {X : Type 0} (a : ℕ) → Some a ≡ None → X
 at_outside a e = let z : ◌≡◌ {A = ℕ} 0 1 = cc in absurd (omega arith)
 
-at_same : (a b : ℕ) → parts.At a ≡ parts.At b → a ≡ b
+at_same : (a b : ℕ) → Some a ≡ Some b → a ≡ b
 at_same a b e = cc
 
 -- the part of a pair decides whether it and the pairs behind it are in order
-module _ (end start size most : ℕ) (x : PartEnd) (e : x ≡ part_end end start size most) where
-  answer : (p q : Bool) → leb end start ≡ p → leb (start + size) most ≡ q → x ≡ cond (p && q) (parts.At (start + size)) parts.Outside
+module _ (end start size most : ℕ) (x : Option ℕ) (e : x ≡ part_end end start size most) where
+  answer : (p q : Bool) → leb end start ≡ p → leb (start + size) most ≡ q → x ≡ cond (p && q) (Some (start + size)) None
   answer p q f g = rw (← f, ← g) e
 
-  pub order_outside : x ≡ parts.Outside → (rest : List ℕ) → in_order end most (start ∷ size ∷ rest) ≡ false
+  pub order_outside : x ≡ None → (rest : List ℕ) → in_order end most (start ∷ size ∷ rest) ≡ false
   order_outside o rest = go (leb end start) (leb (start + size) most) refl refl
     where
       go : (p q : Bool) → leb end start ≡ p → leb (start + size) most ≡ q → (p && (q && in_order (start + size) most rest)) ≡ false
@@ -91,7 +74,7 @@ module _ (end start size most : ℕ) (x : PartEnd) (e : x ≡ part_end end start
       go true false f g = refl
       go false q f g = refl
 
-  pub part-ends : (end' : ℕ) → x ≡ parts.At end' → (end ≤ start) × (end' ≡ start + size) × (start + size ≤ most)
+  pub part-ends : (end' : ℕ) → x ≡ Some end' → (end ≤ start) × (end' ≡ start + size) × (start + size ≤ most)
   part-ends end' o = go (leb end start) (leb (start + size) most) refl refl
     where
       go : (p q : Bool) → leb end start ≡ p → leb (start + size) most ≡ q → (end ≤ start) × (end' ≡ start + size) × (start + size ≤ most)
@@ -99,7 +82,7 @@ module _ (end start size most : ℕ) (x : PartEnd) (e : x ≡ part_end end start
       go true false f g = at_outside end' (sym o ∙ answer true false f g)
       go false q f g = at_outside end' (sym o ∙ answer false q f g)
 
-  pub order-at : (end' : ℕ) → x ≡ parts.At end' → (rest : List ℕ) → in_order end most (start ∷ size ∷ rest) ≡ in_order end' most rest
+  pub order-at : (end' : ℕ) → x ≡ Some end' → (rest : List ℕ) → in_order end most (start ∷ size ∷ rest) ≡ in_order end' most rest
   order-at end' o rest = let p = part-ends end' o in rw (le-leb end start p.0, le-leb (start + size) most p.2, p.1) refl
 
 -- the pairs before number i are in order, and the last of them ends at `end`
@@ -113,13 +96,13 @@ module _ (pairs : List ℕ) (most end i count : ℕ) (k : Ordering pairs most en
   pub ordering-end : count ≤ i → true ≡ in_order 0 most pairs
   ordering-end h = sym (order-none end most (drop (2 * i) pairs) (no_pair pairs i (omega arith))) ∙ k.is
 
-  module _ (less : i < count) (x : PartEnd) (e : x ≡ part_end end (get_or pairs (2 * i) 0) (get_or pairs (2 * i + 1) 0) most) where
+  module _ (less : i < count) (x : Option ℕ) (e : x ≡ part_end end (get_or pairs (2 * i) 0) (get_or pairs (2 * i + 1) 0) most) where
     split : in_order end most (get_or pairs (2 * i) 0 ∷ get_or pairs (2 * i + 1) 0 ∷ drop (2 * (i + 1)) pairs) ≡ in_order 0 most pairs
     split = sym (ap (in_order end most) (pair_rest pairs i (omega arith))) ∙ k.is
 
-    pub ordering-stop : x ≡ parts.Outside → false ≡ in_order 0 most pairs
+    pub ordering-stop : x ≡ None → false ≡ in_order 0 most pairs
     ordering-stop o = sym (order_outside end (get_or pairs (2 * i) 0) (get_or pairs (2 * i + 1) 0) most x e o (drop (2 * (i + 1)) pairs)) ∙ split
 
-    pub ordering-more : (end' : ℕ) → x ≡ parts.At end' → Ordering pairs most end' (i + 1)
+    pub ordering-more : (end' : ℕ) → x ≡ Some end' → Ordering pairs most end' (i + 1)
     ordering-more end' o =
         record { is = sym (order-at end (get_or pairs (2 * i) 0) (get_or pairs (2 * i + 1) 0) most x e end' o (drop (2 * (i + 1)) pairs)) ∙ split }

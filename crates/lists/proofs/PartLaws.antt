@@ -201,17 +201,6 @@ module _ {A : Type 0} (o₀ : List A) (at : ℕ) (c : List A) where
     pub copied-done : length c ≤ i → o ≡ put o₀ at c
     copied-done h = k.is ∙ ap (put o₀ at) (take_all i c h)
 
--- a part that is cut off a lent slice, as far as there is any
-module _ {A : Type 0} (s : List A) (a e : ℕ) where
-  pub cut_none : e ≤ a → take 0 s ≡ part s a e
-  cut_none h = let n : e - a ≡ 0 = omega arith in rw n refl
-
-  pub cut_past : length s ≤ a → take 0 s ≡ part s a e
-  cut_past h = rw (drop_of_length-le s h) (sym (take-nil (e - a)))
-
-  pub cut_some : (r t : List A) → t ≡ part s a (length s) → r ≡ take (e - a) t → r ≡ part s a e
-  cut_some r t k q = q ∙ ap (take (e - a)) (k ∙ part-drop s a)
-
 -- the part `&mut w[at..]`: what is lent, and what stands there when it is given back
 module _ {A : Type 0} (w : List A) (at : ℕ) where
   pub tail-lent : take (length w - at) (drop at w) ≡ drop at w

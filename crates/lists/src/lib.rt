@@ -8,13 +8,6 @@ ghost use Rattle.lists.specs.Tests.{all};
 ghost use Rattle.lists.specs.Words.{lengths, in_order};
 ghost use Rattle.lists.specs.Inner.Pairs.{part_end};
 
-// Where a part ends; or that it begins too early or ends outside its buffer.
-#[derive(Clone, Copy)]
-pub enum PartEnd {
-    At(usize),
-    Outside,
-}
-
 // A word as an index.
 pub fn index(x: u64) -> usize
     ensures { result ≡ x }
@@ -53,11 +46,7 @@ pub fn most(a: u64, b: u64) -> u64
 pub fn clear(work: &mut [u64])
     ensures { work.new ≡ zeros (length work.old) }
 {
-    let mut i = 0;
-    while i < work.len() {
-        work[i] = 0;
-        i += 1;
-    }
+    work.fill(0);
 }
 
 // Sets bit k of the words, and says whether it was not set before.
@@ -68,9 +57,8 @@ pub fn add(words: &mut [u64], k: usize) -> bool
     if at >= words.len() {
         return true;
     }
-    let one: u64 = 1;
     let was = words[at];
-    words[at] = was | (one << (k % 64));
+    words[at] = was | (1 << (k % 64));
     (was >> (k % 64)) % 2 == 0
 }
 
@@ -78,45 +66,31 @@ pub fn add(words: &mut [u64], k: usize) -> bool
 pub fn first(words: &[u64], n: usize) -> &[u64]
     ensures { result.now ≡ take n words.now }
 {
-    if n < words.len() {
-        return &words[..n];
-    }
-    words
+    words.get(..n).unwrap_or(words)
 }
 
 // The words from place a up to place e, as far as there are any.
 pub fn cut(words: &[u64], a: usize, e: usize) -> &[u64]
     ensures { result.now ≡ part words.now a e }
 {
-    if e <= a {
-        return &words[..0];
-    }
-    if words.len() <= a {
-        return &words[..0];
-    }
-    first(&words[a..], e - a)
+    words.get(a..e.min(words.len())).unwrap_or(&[])
 }
 
 // Word k, or 0 where there is none.
 pub fn word(words: &[u64], k: usize) -> u64
     ensures { result ≡ get_or words.now k 0 }
 {
-    if k < words.len() {
-        return words[k];
-    }
-    0
+    words.get(k).copied().unwrap_or(0)
 }
 
 // Whether each word is below the next.
 pub fn rises(words: &[u64]) -> bool
     ensures { result ≡ rising words.now }
 {
-    let mut i = 1;
-    while i < words.len() {
+    for i in 1..words.len() {
         if words[i] <= words[i - 1] {
             return false;
         }
-        i += 1;
     }
     true
 }
@@ -125,73 +99,52 @@ pub fn rises(words: &[u64]) -> bool
 pub fn below(words: &[u64], n: u64) -> bool
     ensures { result ≡ all (λ x. ltb x n) words.now }
 {
-    let mut i = 0;
-    while i < words.len() {
-        if n <= words[i] {
-            return false;
-        }
-        i += 1;
-    }
-    true
+    words.iter().all(|x| *x < n)
 }
 
 // Whether the lengths of all pairs together are at most so many.
 pub fn lengths_within(pairs: &[u64], most: u64) -> bool
     ensures { result ≡ leb (lengths pairs.now) most }
 {
-    let count = pairs.len() / 2;
     let mut left = most;
-    let mut i = 0;
-    while i < count {
+    for i in 0..pairs.len() / 2 {
         let n = pairs[2 * i + 1];
         if left < n {
             return false;
         }
         left -= n;
-        i += 1;
     }
     true
 }
 
 // Where a part ends that may not start before a place, and ends within so many elements.
-fn part_end(end: usize, start: usize, size: usize, all: usize) -> PartEnd
+fn part_end(end: usize, start: usize, size: usize, all: usize) -> Option<usize>
     ensures { result ≡ part_end end start size all }
 {
-    if start < end {
-        return PartEnd::Outside;
+    if end <= start && start <= all && size <= all - start {
+        return Some(start + size);
     }
-    if all < start {
-        return PartEnd::Outside;
-    }
-    if all - start < size {
-        return PartEnd::Outside;
-    }
-    PartEnd::At(start + size)
+    None
 }
 
 // The same of the part that pair i says.
-pub fn pair_end(pairs: &[u64], i: usize, end: usize, all: usize) -> PartEnd
+pub fn pair_end(pairs: &[u64], i: usize, end: usize, all: usize) -> Option<usize>
     requires { 2 * i + 1 < length pairs.now }
     ensures { result ≡ part_end end (get_or pairs.now (2 * i) 0) (get_or pairs.now (2 * i + 1) 0) all }
 {
-    let start = index(pairs[2 * i]);
-    let size = index(pairs[2 * i + 1]);
-    part_end(end, start, size, all)
+    part_end(end, pairs[2 * i] as usize, pairs[2 * i + 1] as usize, all)
 }
 
 // Whether the pairs are in order, within so many elements.
 pub fn in_order(pairs: &[u64], all: usize) -> bool
     ensures { result ≡ in_order 0 all pairs.now }
 {
-    let count = pairs.len() / 2;
     let mut end = 0;
-    let mut i = 0;
-    while i < count {
-        let PartEnd::At(next) = pair_end(pairs, i, end, all) else {
+    for i in 0..pairs.len() / 2 {
+        let Some(next) = pair_end(pairs, i, end, all) else {
             return false;
         };
         end = next;
-        i += 1;
     }
     true
 }
@@ -201,9 +154,5 @@ pub fn fits(x: u64, n: usize) -> bool
     requires { n ≤ 64 }
     ensures { result ≡ ltb x (2 ^ n) }
 {
-    if n == 64 {
-        return true;
-    }
-    let rest = x >> n;
-    rest == 0
+    n == 64 || x >> n == 0
 }

@@ -12,7 +12,7 @@ use Rattle.lists.proofs.TestLaws.{all-stop, all_more}
 use Rattle.aiger.specs.declared.Gate.{Gate}
 use Rattle.aiger.specs.Gates.{variable}
 use Rattle.aiger.specs.Defined.{literal, defining, ordered}
-use Rattle.aiger.proofs.DefinedLaws.{literal-low, low-literal, Defines, defines, defines-holds, orders, orders-holds}
+use Rattle.aiger.proofs.DefinedLaws.{literal-low, low-literal, Defines, defines, defines-holds, Orders, orders, orders-holds}
 
 module _ (most l v : ℕ) (q : v ≡ l / 2) where
   pub literal-above : most < v → literal most l ≡ false
@@ -26,19 +26,10 @@ module _ (most l : ℕ) (w : List ℕ) where
   abbrev pub Undefined : Type 0
   Undefined = (false ≡ (defining most l && not (holds w (variable l)))) × (w ≡ cond (defining most l) (with_bit w (variable l)) w)
 
-  undefining : (Defines most l → ⊥) → Undefined
+  pub undefining : (Defines most l → ⊥) → Undefined
   undefining n = let e = to_false (defining most l) (λ e. n (defines most l e)) in (rw e refl, rw e refl)
 
-  pub defining-zero : l ≡ 0 → Undefined
-  defining-zero h = undefining (λ d. omega (arith, d.some))
-
-  pub defining-odd : (l % 2 ≡ 0 → ⊥) → Undefined
-  defining-odd h = undefining (λ d. h d.even)
-
   module _ (v : ℕ) (q : v ≡ l / 2) where
-    pub defining_high : most < v → Undefined
-    defining_high h = undefining (λ d. omega (arith, d.low))
-
     -- where the tests of the literal have passed, the answer is that of the marks
     pub defining_said : (l ≡ 0 → ⊥) → l % 2 ≡ 0 → v ≤ most → (r : Bool) (w' : List ℕ) → r ≡ not (holds w v) → w' ≡ with_bit w v
         → (r ≡ (defining most l && not (holds w (variable l)))) × (w' ≡ cond (defining most l) (with_bit w (variable l)) w)
@@ -47,11 +38,8 @@ module _ (most l : ℕ) (w : List ℕ) where
         (rw (d, ← q) k, rw (d, ← q) x)
 
 module _ (g : Gate) where
-  pub left-not_smaller : g.output / 2 ≤ g.left / 2 → ordered g ≡ false
-  left-not_smaller h = to_false (ordered g) (λ e. let o = orders g e in omega (arith, o.left))
-
-  pub right-not_smaller : g.output / 2 ≤ g.right / 2 → ordered g ≡ false
-  right-not_smaller h = to_false (ordered g) (λ e. let o = orders g e in omega (arith, o.right))
+  pub disordered : (Orders g → ⊥) → ordered g ≡ false
+  disordered n = to_false (ordered g) (λ e. n (orders g e))
 
   pub both_smaller : g.left / 2 < g.output / 2 → g.right / 2 < g.output / 2 → ordered g ≡ true
   both_smaller h k = orders-holds g (record { left = h; right = k })

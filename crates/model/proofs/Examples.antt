@@ -2,6 +2,7 @@
 use Prim.Native.Nat.{ℕ}
 use mathlib.Core.Bool.{true, false}
 use mathlib.Core.List.{[], ◌∷◌, ◌++◌}
+use Rattle.std.specs.Prelude.{Ok, Err}
 use mathlib.Core.Path.{◌≡◌, refl}
 use lib.Dec.{eqb, ltb}
 use lib.ListN.{length, replicate}
@@ -14,7 +15,7 @@ use Rattle.aiger.specs.Defined.{literal, defining, ordered, defined}
 use Rattle.model.specs.declared.AigerLatch.{AigerLatch}
 use Rattle.model.specs.declared.AigerTransition.{AigerTransition}
 use Rattle.model.specs.declared.Counts.{Counts}
-use Rattle.model.specs.declared.Verdict.TheVariants.{Valid, Refused}
+use Rattle.aiger.specs.declared.Refusal.TheVariants.{Room}
 use Rattle.model.specs.Circuit.{Circuit, no_circuit, circuit_of, record_from, record_of, words_of_gates}
 use Rattle.model.specs.Limits.{counted, well_defined}
 use Rattle.model.specs.Checked.{checked, judged}
@@ -202,7 +203,7 @@ pub slots :
     })
 slots = (refl, refl)
 
-pub verdicts : (judged Valid K ≡ got K) × (judged (Refused 7) K ≡ refused 7)
+pub verdicts : (judged (Ok tt) K ≡ got K) × (judged (Err Room) K ≡ refused 7)
 verdicts = (refl, refl)
 
 -- the words of a record's memory: counts and arrays in the order of the fields; words that are not there are 0

@@ -1,5 +1,5 @@
 -- Laws of `Marking`: one more definition, leaf or gate, is checked and marked.
-use Prim.Native.Nat.{ℕ, ◌+◌, ◌*◌, ◌<◌, ◌≤◌}
+use Prim.Native.Nat.{ℕ, ◌+◌, ◌*◌, ◌/◌, ◌<◌, ◌≤◌}
 use mathlib.Core.Bool.{Bool, true, false, not, cond, ◌&&◌}
 use mathlib.Core.List.{List, [], ◌∷◌, ◌++◌, map, map-append, append_assoc, append-nil}
 use mathlib.Core.Path.{◌≡◌, refl, sym, ap, ◌∙◌}
@@ -220,33 +220,23 @@ module _ (most : ℕ) (w : List ℕ) where
     adds-ordered o r w₁ q k leaves gates m = marking_gate most w leaves gates m g o r w₁ q k
 
 -- a loop over the first n gates of words, which stops at the first that fails
-pub gates-start : (most : ℕ) (w : List ℕ) (fine : Bool) → not fine ≡ false → AddsGates most w fine [] w true
-gates-start most w fine t leaves m = rw (not-false fine t) at m
-
--- the leaves have failed
-pub gates_undefined : (most : ℕ) (w : List ℕ) (fine : Bool) → not fine ≡ true → (gs : List Gate) → AddsGates most w fine gs w false
-gates_undefined most w fine t gs leaves m = gates_lost most w leaves [] gs (rw (not-true fine t) at m)
-
 module _ (most : ℕ) (w ws : List ℕ) (fine : Bool) where
-  module _ (i : ℕ) (w₁ : List ℕ) (a : AddsGates most w fine (take i (triples_of gate_from ws)) w₁ true) (n : ℕ) where
-    abbrev pub gate_at : Gate
-    gate_at = gate_from (get_or ws (3 * i) 0) (get_or ws (3 * i + 1) 0) (get_or ws (3 * i + 2) 0)
+  abbrev pub gate_at : ℕ → Gate
+  gate_at i = gate_from (get_or ws (3 * i) 0) (get_or ws (3 * i + 1) 0) (get_or ws (3 * i + 2) 0)
 
-    module _ (h : i < n) (b : 3 * n ≤ length ws) (r : Bool) (w₂ : List ℕ) (k : AddsGate most w₁ gate_at w₂ r) where
-      gates-next : AddsGates most w fine (take (i + 1) (triples_of gate_from ws)) w₂ r
-      gates-next leaves m =
-          rw (take_next (triples_of gate_from ws) i gate_at (rw (triples_count gate_from ws) (omega arith)), triples_at gate_from ws i 0 gate_at (omega arith))
-          (k leaves (take i (triples_of gate_from ws)) (a leaves m))
+  module _ (i : ℕ) (w₁ : List ℕ) (a : AddsGates most w fine (take i (triples_of gate_from ws)) w₁ true) (n : ℕ) (h : i < n) (b : n ≤ length ws / 3)
+      (g : Gate) (e : g ≡ gate_at i) (r : Bool) (w₂ : List ℕ) (k : AddsGate most w₁ g w₂ r) where
+    gates-next : AddsGates most w fine (take (i + 1) (triples_of gate_from ws)) w₂ r
+    gates-next leaves m =
+        rw (take_next (triples_of gate_from ws) i g (rw (triples_count gate_from ws) (omega arith)), triples_at gate_from ws i 0 g (omega arith), ← e)
+        (k leaves (take i (triples_of gate_from ws)) (a leaves m))
 
-      pub gates-more : r ≡ true → AddsGates most w fine (take (i + 1) (triples_of gate_from ws)) w₂ true
-      gates-more t = rw t at gates-next
+    pub gates-more : r ≡ true → AddsGates most w fine (take (i + 1) (triples_of gate_from ws)) w₂ true
+    gates-more t = rw t at gates-next
 
-      pub gates-stop : r ≡ false → AddsGates most w fine (take n (triples_of gate_from ws)) w₂ false
-      gates-stop t leaves m =
-          let f : AddsGates most w fine (take (i + 1) (triples_of gate_from ws)) w₂ false = rw t at gates-next in
-          let e : take (i + 1) (triples_of gate_from ws) ++ drop (i + 1) (take n (triples_of gate_from ws)) ≡ take n (triples_of gate_from ws) =
-          rw (← take-take (i + 1) n (triples_of gate_from ws) (omega arith)) (rw take-append-drop refl) in
-          rw e at (gates_lost most w₂ leaves (take (i + 1) (triples_of gate_from ws)) (drop (i + 1) (take n (triples_of gate_from ws))) (f leaves m))
-
-    pub gates-end : i ≤ n → n ≤ i → AddsGates most w fine (take n (triples_of gate_from ws)) w₁ true
-    gates-end b h = let e : i ≡ n = omega arith in rw e at a
+    pub gates-stop : r ≡ false → AddsGates most w fine (take n (triples_of gate_from ws)) w₂ false
+    gates-stop t leaves m =
+        let f : AddsGates most w fine (take (i + 1) (triples_of gate_from ws)) w₂ false = rw t at gates-next in
+        let s : take (i + 1) (triples_of gate_from ws) ++ drop (i + 1) (take n (triples_of gate_from ws)) ≡ take n (triples_of gate_from ws) =
+        rw (← take-take (i + 1) n (triples_of gate_from ws) (omega arith)) (rw take-append-drop refl) in
+        rw s at (gates_lost most w₂ leaves (take (i + 1) (triples_of gate_from ws)) (drop (i + 1) (take n (triples_of gate_from ws))) (f leaves m))

@@ -1,13 +1,14 @@
 -- The latches of a record's words, taken one by one.
 use Prim.Native.Nat.{ℕ, zero, suc, ◌+◌, ◌*◌, ◌<◌, ◌≤◌}
-use mathlib.Core.List.{List}
+use mathlib.Core.List.{List, map}
 use mathlib.Core.Path.{◌≡◌, refl, sym, ap, ◌∙◌}
 use native.Mathlib.Omega.{arith}
-use borrow.Author.Tests.{le-ltb, lt-ltb}
-use lib.ListN.{length, get_or, take, set}
+use lib.ListN.{length, get_or, take, set, length-map}
+use lib.Seq.{ext_get_or}
+use Rattle.lists.proofs.MapLaws.{map_at}
 use Rattle.lists.proofs.RestLaws.{copy_more, copy_end}
 use Rattle.model.specs.declared.AigerLatch.{AigerLatch}
-use Rattle.model.specs.RecordWords.{latch_count_in, counts_in, latch_in, latches_in}
+use Rattle.model.specs.RecordWords.{latch_in, latches_in}
 
 pub latches-length : (ws : List ℕ) (n at : ℕ) → length (latches_in ws n at) ≡ n
 latches-length ws zero at = refl
@@ -31,17 +32,7 @@ module _ (ws : List ℕ) (r : List AigerLatch) (i : ℕ) (same : take i r ≡ ta
       let k : length (latches_in ws 8 67) ≡ 8 = latches-length ws 8 67 in
       copy_end r (latches_in ws 8 67) i same (omega arith) (omega arith)
 
--- a latch and the counts from their words
-pub latch_from_lem : (ws : List ℕ) (at a b : ℕ) → a ≡ get_or ws at 0 → b ≡ get_or ws (at + 1) 0 → record { current = a; next = b } ≡ latch_in ws at
-latch_from_lem ws at a b p q = rw (p, q) refl
-
-pub counts-from : (ws : List ℕ) (m₀ m i₀ i l o₀ o a₀ a : ℕ)
-    → m₀ ≡ get_or ws 0 0 → m ≡ m₀ → i₀ ≡ get_or ws 1 0 → i ≡ i₀ → l ≡ latch_count_in ws → o₀ ≡ get_or ws 83 0 → o ≡ o₀ → a₀ ≡ get_or ws 212 0 → a ≡ a₀
-    → record { max_variable = m; inputs = i; latches = l; outputs = o; ands = a } ≡ counts_in ws
-counts-from ws m₀ m i₀ i l o₀ o a₀ a p₁ q₁ p₂ q₂ p₃ p₄ q₄ p₅ q₅ = rw (q₁, p₁, q₂, p₂, p₃, q₄, p₄, q₅, p₅) refl
-
-pub latches_cut : (ws : List ℕ) → length ws < 213 → 0 ≡ latch_count_in ws
-latches_cut ws h = rw (lt-ltb (length ws) 213 h) refl
-
-pub latches-whole : (ws : List ℕ) (l₀ l : ℕ) → 213 ≤ length ws → l₀ ≡ get_or ws 66 0 → l ≡ l₀ → l ≡ latch_count_in ws
-latches-whole ws l₀ l h p q = rw (q, p, le-ltb (length ws) 213 h) refl
+-- an array that was mapped element by element
+pub mapped : {A B : Type 0} (f : A → B) (xs : List A) (ys : List B) (d : A) (e : B) → length xs ≡ length ys → ((i : ℕ) → i < length ys → get_or ys i e ≡ f (get_or xs i d)) → ys ≡ map f xs
+mapped f xs ys d e n k =
+    ext_get_or e ys (map f xs) (sym n ∙ sym (length-map xs f)) (λ i h. k i h ∙ sym (map_at f xs i d e (rw n h)))

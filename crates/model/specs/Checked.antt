@@ -1,11 +1,11 @@
 -- What the validation of a model record answers (R5.1; refusals R9.7, R9.11).
-use Rattle.std.specs.Prelude.{ℕ, ◌*◌, List, ◌≡◌, leb, ltb, length}
+use Rattle.std.specs.Prelude.{ℕ, ◌*◌, List, Result, ◌≡◌, leb, ltb, length}
 use Rattle.lists.specs.Answer.{Answer, got, refused, unless}
 use Rattle.lists.specs.Parts.{zeros}
+use Rattle.aiger.specs.declared.Refusal.{Refusal}
+use Rattle.aiger.specs.Refusals.{answered_as}
 use Rattle.model.specs.declared.AigerTransition.{AigerTransition}
 use Rattle.model.specs.declared.Counts.{Counts}
-use Rattle.model.specs.declared.Verdict.{Verdict}
-use Rattle.model.specs.declared.Verdict.TheVariants.{Valid, Refused}
 use Rattle.model.specs.Circuit.{Circuit, circuit_of}
 use Rattle.model.specs.Limits.{counted, well_defined}
 
@@ -32,12 +32,11 @@ checked m g w =
     (unless 11 (well_defined (circuit_of m g))
     (got (circuit_of m g)))))))
 
--- R12.13: what a verdict on a model says: there is that model, or the number of the reason why there is none
-abbrev pub judged : Verdict → Circuit → Answer Circuit
-judged Valid c = got c
-judged (Refused n) c = refused n
+-- R12.13: what the validation of a model says: there is that model, or the number of the reason why there is none
+abbrev pub judged : Result (Unit {0}) Refusal → Circuit → Answer Circuit
+judged r c = answered_as (λ _. c) r
 
--- R16.1: the promise of the validation of m with gate words g and w work words: its verdict r, and the work words after it
-pub record Validates (m : AigerTransition) (g : List ℕ) (w : ℕ) (r : Verdict) (work' : List ℕ) : Type 0 where
+-- R16.1: the promise of the validation of m with gate words g and w work words: its result r, and the work words after it
+pub record Validates (m : AigerTransition) (g : List ℕ) (w : ℕ) (r : Result (Unit {0}) Refusal) (work' : List ℕ) : Type 0 where
   pub judges : judged r (circuit_of m g) ≡ checked m g w
   pub clears : work' ≡ zeros w

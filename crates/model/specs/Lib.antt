@@ -4,4 +4,5 @@ pub mod Limits
 pub mod Checked
 pub mod Values
 pub mod RecordWords
+pub mod Lent
 pub mod Inner

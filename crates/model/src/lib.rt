@@ -1,21 +1,26 @@
 // The transition model by value, and its validation (R5).
 #![tactic(auto)]
 
-ghost use Rattle.std.specs.Prelude.{◌≡◌, true, cond, ◌&&◌, not, map, ◌*◌, ◌<◌, ◌≤◌, length, take};
+ghost use Rattle.std.specs.Prelude.{ℕ, List, ◌≡◌, true, cond, ◌&&◌, not, map, ◌+◌, ◌*◌, ◌/◌, ◌<◌, ◌≤◌, length, get_or, take};
 ghost use Rattle.lists.specs.Parts.{zeros};
 ghost use Rattle.lists.specs.Sets.{holds, with_bit};
 ghost use Rattle.lists.specs.Tests.{all};
 ghost use Rattle.lists.specs.Words.{triples_of};
 ghost use Rattle.aiger.specs.Gates.{variable, gate_from};
 ghost use Rattle.aiger.specs.Defined.{literal, defining, defined};
-ghost use Rattle.model.specs.Circuit.{current_of, next_of, record_from};
+ghost use Rattle.aiger.specs.Refusals.{answered};
+ghost use Rattle.model.specs.Circuit.{current_of, next_of};
 ghost use Rattle.model.specs.Limits.{counted};
 ghost use Rattle.model.specs.Checked.{counts_of, Validates};
-ghost use Rattle.model.specs.Inner.Marking.{AddsLeaves, AddsGate, AddsGates, Checkable, leaves_from, literals_from, limits, passed};
+ghost use Rattle.model.specs.Lent.{lent_record};
+ghost use Rattle.model.specs.Inner.Marking.{AddsLeaves, AddsGate, AddsGates, Checkable, leaves_of_record, literals_of_record, limited};
 
-use aiger::Gate;
+use aiger::{Gate, Refusal};
 
-pub mod words;
+mod lent;
+mod words;
+
+pub use lent::LentModel;
 
 #[repr(C)]
 #[derive(Clone, Copy)]
@@ -48,165 +53,108 @@ pub struct Counts {
     pub ands: usize,
 }
 
-// Whether there is a model, or the number of the reason (R9) why there is none.
-#[derive(Clone, Copy)]
-pub enum Verdict {
-    Valid,
-    Refused(u64),
-}
-
-// The counts of a record.
-pub fn counts_of(model: AigerTransition) -> Counts
-    ensures { result ≡ counts_of model }
-{
-    Counts {
-        max_variable: model.max_variable,
-        inputs: model.input_count,
-        latches: model.latch_count,
-        outputs: model.output_count,
-        ands: model.and_count,
+impl Counts {
+    // Whether the counts are within the limits and agree.
+    pub fn hold(self) -> bool
+        ensures { result ≡ counted self }
+    {
+        if 64 < self.inputs || self.latches == 0 || 8 < self.latches || 128 < self.outputs {
+            return false;
+        }
+        if self.max_variable == 0 || 1000000 < self.max_variable || self.max_variable < self.ands {
+            return false;
+        }
+        self.max_variable == self.inputs + self.latches + self.ands
     }
 }
 
-// Whether the counts are within the limits and agree.
-pub fn counts_hold(counts: Counts) -> bool
-    ensures { result ≡ counted counts }
-{
-    if 64 < counts.inputs {
-        return false;
-    }
-    if counts.latches == 0 {
-        return false;
-    }
-    if 8 < counts.latches {
-        return false;
-    }
-    if 128 < counts.outputs {
-        return false;
-    }
-    if counts.max_variable == 0 {
-        return false;
-    }
-    if 1000000 < counts.max_variable {
-        return false;
-    }
-    if counts.max_variable < counts.ands {
-        return false;
-    }
-    counts.max_variable == counts.inputs + counts.latches + counts.ands
+// The gates of a model, lent as words, three a gate, or as records.
+pub trait GateList {
+    ghost words: { Self → List ℕ };
+
+    fn count(&self) -> usize
+        ensures { result ≡ length (words self.now) / 3 };
+
+    fn gate(&self, at: usize) -> Gate
+        requires { at < length (words self.now) / 3 }
+        ensures { result ≡ gate_from (get_or (words self.now) (3 * at) 0) (get_or (words self.now) (3 * at + 1) 0) (get_or (words self.now) (3 * at + 2) 0) };
 }
 
-// The literals of the latches.
-pub fn currents(latches: [AigerLatch; 8]) -> [u64; 8]
-    ensures { result ≡ map current_of latches }
-{
-    let mut r = [0; 8];
-    let mut i = 0;
-    while i < 8 {
-        let l = latches[i];
-        r[i] = l.current;
-        i += 1;
+impl<'a> GateList for &'a [u64] {
+    ghost words = { λ s. s.now };
+
+    fn count(&self) -> usize {
+        self.len() / 3
     }
-    r
+
+    fn gate(&self, at: usize) -> Gate {
+        Gate {
+            output: self[3 * at],
+            left: self[3 * at + 1],
+            right: self[3 * at + 2],
+        }
+    }
 }
 
-// The next literals of the latches.
-pub fn nexts(latches: [AigerLatch; 8]) -> [u64; 8]
-    ensures { result ≡ map next_of latches }
-{
-    let mut r = [0; 8];
-    let mut i = 0;
-    while i < 8 {
-        let l = latches[i];
-        r[i] = l.next;
-        i += 1;
+impl<'a> From<&'a AigerTransition> for LentModel<'a> {
+    ghost from_gives = { λ whole lent. lent_record lent ≡ whole.now };
+
+    fn from(whole: &'a AigerTransition) -> LentModel<'a> {
+        LentModel {
+            counts: Counts {
+                max_variable: whole.max_variable,
+                inputs: whole.input_count,
+                latches: whole.latch_count,
+                outputs: whole.output_count,
+                ands: whole.and_count,
+            },
+            inputs: &whole.inputs,
+            latches: whole.latches,
+            outputs: &whole.outputs,
+        }
     }
-    r
 }
 
 // Whether the literal may define its variable, which has no mark yet. It has one then.
-fn define(work: &mut [u64], most: usize, literal: u64) -> bool
-    ensures { (result ≡ (defining most literal && not (holds work.old (variable literal)))) × (work.new ≡ cond (defining most literal) (with_bit work.old (variable literal)) work.old) }
+fn define(marks: &mut [u64], most: usize, literal: u64) -> bool
+    ensures { (result ≡ (defining most literal && not (holds marks.old (variable literal)))) × (marks.new ≡ cond (defining most literal) (with_bit marks.old (variable literal)) marks.old) }
 {
-    if literal == 0 {
+    let variable = (literal / 2) as usize;
+    if literal == 0 || literal % 2 != 0 || most < variable {
         return false;
     }
-    if literal % 2 != 0 {
-        return false;
-    }
-    let variable = lists::index(literal / 2);
-    if most < variable {
-        return false;
-    }
-    lists::add(work, variable)
+    lists::add(marks, variable)
 }
 
 // Whether each of the literals may define its variable, after those that are marked. They are marked then.
-fn define_all(work: &mut [u64], most: usize, literals: &[u64]) -> bool
-    ensures { AddsLeaves most work.old literals.now work.new result }
+fn define_all(marks: &mut [u64], most: usize, literals: &[u64]) -> bool
+    ensures { AddsLeaves most marks.old literals.now marks.new result }
 {
-    let mut i = 0;
-    while i < literals.len() {
-        if define(work, most, literals[i]) {
-            i += 1;
-        } else {
+    for literal in literals {
+        if !define(marks, most, *literal) {
             return false;
         }
     }
     true
 }
 
-// The same for the inputs and latches of a model. The record comes in parts, since it is long to copy.
-pub fn define_leaves(
-    counts: Counts,
-    inputs: &[u64],
-    latches: [AigerLatch; 8],
-    work: &mut [u64],
-) -> bool
-    ensures { AddsLeaves counts.max_variable work.old (leaves_from counts inputs.now latches) work.new result }
-{
-    let at = currents(latches);
-    if define_all(
-        work,
-        counts.max_variable,
-        lists::first(inputs, counts.inputs),
-    ) {
-        return define_all(work, counts.max_variable, lists::first(&at, counts.latches));
-    }
-    false
-}
-
 // Whether the operands of a gate are smaller than it, and it may define its variable. That is marked then.
-pub fn define_gate(work: &mut [u64], most: usize, gate: Gate) -> bool
-    ensures { AddsGate most work.old gate work.new result }
+pub fn define_gate(marks: &mut [u64], most: usize, gate: Gate) -> bool
+    ensures { AddsGate most marks.old gate marks.new result }
 {
-    if gate.output / 2 <= gate.left / 2 {
+    if gate.output / 2 <= gate.left / 2 || gate.output / 2 <= gate.right / 2 {
         return false;
     }
-    if gate.output / 2 <= gate.right / 2 {
-        return false;
-    }
-    define(work, most, gate.output)
+    define(marks, most, gate.output)
 }
 
-// The same for the first gates of the words, where the leaves are fine.
-fn define_gates(work: &mut [u64], most: usize, fine: bool, gates: &[u64], count: usize) -> bool
-    requires { 3 * count ≤ length gates.now }
-    ensures { AddsGates most work.old fine (take count (triples_of gate_from gates.now)) work.new result }
+// The same for the first gates.
+fn define_gates<G: GateList>(marks: &mut [u64], most: usize, gates: &G, count: usize) -> bool
+    requires { count ≤ length (G.words gates.now) / 3 }
+    ensures { AddsGates most marks.old true (take count (triples_of gate_from (G.words gates.now))) marks.new result }
 {
-    if !fine {
-        return false;
-    }
-    let mut i = 0;
-    while i < count {
-        let gate = Gate {
-            output: gates[3 * i],
-            left: gates[3 * i + 1],
-            right: gates[3 * i + 2],
-        };
-        if define_gate(work, most, gate) {
-            i += 1;
-        } else {
+    for i in 0..count {
+        if !define_gate(marks, most, gates.gate(i)) {
             return false;
         }
     }
@@ -217,95 +165,87 @@ fn define_gates(work: &mut [u64], most: usize, fine: bool, gates: &[u64], count:
 fn within(literals: &[u64], most: usize) -> bool
     ensures { result ≡ all (literal most) literals.now }
 {
-    let mut i = 0;
-    while i < literals.len() {
-        if most < lists::index(literals[i] / 2) {
+    for literal in literals {
+        if most < (*literal / 2) as usize {
             return false;
         }
-        i += 1;
     }
     true
 }
 
-// Whether no next literal and no output of a model is above 2M + 1.
-pub fn literals_hold(counts: Counts, latches: [AigerLatch; 8], outputs: &[u64]) -> bool
-    ensures { result ≡ literals_from counts latches outputs.now }
-{
-    let to = nexts(latches);
-    if within(lists::first(&to, counts.latches), counts.max_variable) {
-        return within(lists::first(outputs, counts.outputs), counts.max_variable);
+impl<'a> LentModel<'a> {
+    // The literals of the latches.
+    pub fn currents(&self) -> [u64; 8]
+        ensures { result ≡ map current_of self.now.latches }
+    {
+        self.latches.map(|latch| latch.current)
     }
-    false
-}
 
-// Whether a record, in parts, is within the limits, with so many gates and work words beside it: all that comes before its definitions.
-pub fn limits_hold(
-    counts: Counts,
-    inputs: &[u64],
-    latches: [AigerLatch; 8],
-    outputs: &[u64],
-    gates: usize,
-    room: usize,
-) -> Verdict
-    ensures { passed result ≡ limits (record_from counts inputs.now latches outputs.now) gates room }
-{
-    if room <= counts.max_variable {
-        return Verdict::Refused(7);
+    // The next literals of the latches.
+    pub fn nexts(&self) -> [u64; 8]
+        ensures { result ≡ map next_of self.now.latches }
+    {
+        self.latches.map(|latch| latch.next)
     }
-    if !counts_hold(counts) {
-        return Verdict::Refused(11);
-    }
-    if inputs.len() < counts.inputs {
-        return Verdict::Refused(11);
-    }
-    if outputs.len() < counts.outputs {
-        return Verdict::Refused(11);
-    }
-    if gates < counts.ands {
-        return Verdict::Refused(11);
-    }
-    if literals_hold(counts, latches, outputs) {
-        return Verdict::Valid;
-    }
-    Verdict::Refused(11)
-}
 
-// Whether each variable of a model is defined once. The marks are all 0 at first, and again afterwards.
-fn definitions_hold(
-    counts: Counts,
-    inputs: &[u64],
-    latches: [AigerLatch; 8],
-    gates: &[u64],
-    marks: &mut [u64],
-) -> bool
-    requires { Checkable counts.max_variable counts.ands gates.now marks.old }
-    ensures { (result ≡ defined counts.max_variable (leaves_from counts inputs.now latches) (take counts.ands (triples_of gate_from gates.now))) × (marks.new ≡ zeros (length marks.old)) }
-{
-    let fine = define_leaves(counts, inputs, latches, marks);
-    let defined = define_gates(marks, counts.max_variable, fine, gates, counts.ands);
-    lists::clear(marks);
-    defined
-}
+    // Whether each of the inputs and latches may define its variable. They are marked then.
+    pub fn define_leaves(&self, marks: &mut [u64]) -> bool
+        ensures { AddsLeaves (lent_record self.now).max_variable marks.old (leaves_of_record (lent_record self.now)) marks.new result }
+    {
+        let counts = self.counts;
+        let inputs = lists::first(self.inputs, counts.inputs);
+        let currents = self.currents();
+        define_all(marks, counts.max_variable, inputs)
+            && define_all(marks, counts.max_variable, lists::first(&currents, counts.latches))
+    }
 
-// Whether a record, in parts, and its gate words are a model. A record is long to copy, and its parts can be lent.
-pub fn validate_parts(
-    counts: Counts,
-    inputs: &[u64],
-    latches: [AigerLatch; 8],
-    outputs: &[u64],
-    gates: &[u64],
-    work: &mut [u64],
-) -> Verdict
-    ensures { Validates (record_from counts inputs.now latches outputs.now) gates.now (length work.old) result work.new }
-{
-    let room = work.len();
-    lists::clear(work);
-    let verdict = limits_hold(counts, inputs, latches, outputs, gates.len() / 3, room);
-    if let Verdict::Refused(reason) = verdict {
-        return Verdict::Refused(reason);
+    // Whether no next literal and no output is above 2M + 1.
+    pub fn literals_hold(&self) -> bool
+        ensures { result ≡ literals_of_record (lent_record self.now) }
+    {
+        let counts = self.counts;
+        let nexts = self.nexts();
+        within(lists::first(&nexts, counts.latches), counts.max_variable)
+            && within(lists::first(self.outputs, counts.outputs), counts.max_variable)
     }
-    if definitions_hold(counts, inputs, latches, gates, work) {
-        return Verdict::Valid;
+
+    // Whether the record is within the limits, with so many gates beside it.
+    fn limits_hold(&self, gates: usize) -> bool
+        ensures { result ≡ limited (lent_record self.now) gates }
+    {
+        let counts = self.counts;
+        if !counts.hold() || gates < counts.ands {
+            return false;
+        }
+        if self.inputs.len() < counts.inputs || self.outputs.len() < counts.outputs {
+            return false;
+        }
+        self.literals_hold()
     }
-    Verdict::Refused(11)
+
+    // Whether each variable is defined once. The marks are all 0 at first, and again afterwards.
+    fn definitions_hold<G: GateList>(&self, gates: &G, marks: &mut [u64]) -> bool
+        requires { Checkable (lent_record self.now).max_variable (lent_record self.now).and_count (G.words gates.now) marks.old }
+        ensures { (result ≡ defined (lent_record self.now).max_variable (leaves_of_record (lent_record self.now)) (take (lent_record self.now).and_count (triples_of gate_from (G.words gates.now)))) × (marks.new ≡ zeros (length marks.old)) }
+    {
+        let counts = self.counts;
+        let defined = self.define_leaves(marks)
+            && define_gates(marks, counts.max_variable, gates, counts.ands);
+        marks.fill(0);
+        defined
+    }
+
+    // Whether the record and its gates are a model.
+    pub fn validate<G: GateList>(&self, gates: &G, work: &mut [u64]) -> Result<(), Refusal>
+        ensures { Validates (lent_record self.now) (G.words gates.now) (length work.old) result work.new }
+    {
+        work.fill(0);
+        if work.len() <= self.counts.max_variable {
+            return Err(Refusal::Room);
+        }
+        if !self.limits_hold(gates.count()) || !self.definitions_hold(gates, work) {
+            return Err(Refusal::Definition);
+        }
+        Ok(())
+    }
 }

@@ -1,9 +1,10 @@
 // A model record lent as the 213 words of its memory, taken apart with no copy but of the latches.
 ghost use Rattle.std.specs.Prelude.{◌≡◌, ◌<◌};
 ghost use Rattle.lists.specs.Parts.{part};
-ghost use Rattle.model.specs.RecordWords.{latch_count_in, counts_in, latch_in, latches_in};
+ghost use Rattle.model.specs.RecordWords.{latch_count_in, counts_in, latch_in, latches_in, record_in};
+ghost use Rattle.model.specs.Lent.{lent_record};
 
-use crate::{AigerLatch, Counts};
+use crate::{AigerLatch, Counts, LentModel};
 
 // The number of latches; a record that is cut has none.
 fn latch_count(words: &[u64]) -> usize
@@ -12,31 +13,19 @@ fn latch_count(words: &[u64]) -> usize
     if words.len() < 213 {
         return 0;
     }
-    lists::index(lists::word(words, 66))
+    lists::word(words, 66) as usize
 }
 
-pub fn counts(words: &[u64]) -> Counts
+fn counts(words: &[u64]) -> Counts
     ensures { result ≡ counts_in words.now }
 {
     Counts {
-        max_variable: lists::index(lists::word(words, 0)),
-        inputs: lists::index(lists::word(words, 1)),
+        max_variable: lists::word(words, 0) as usize,
+        inputs: lists::word(words, 1) as usize,
         latches: latch_count(words),
-        outputs: lists::index(lists::word(words, 83)),
-        ands: lists::index(lists::word(words, 212)),
+        outputs: lists::word(words, 83) as usize,
+        ands: lists::word(words, 212) as usize,
     }
-}
-
-pub fn inputs(words: &[u64]) -> &[u64]
-    ensures { result.now ≡ part words.now 2 66 }
-{
-    lists::cut(words, 2, 66)
-}
-
-pub fn outputs(words: &[u64]) -> &[u64]
-    ensures { result.now ≡ part words.now 84 212 }
-{
-    lists::cut(words, 84, 212)
 }
 
 // The latch whose two words begin at a place.
@@ -50,17 +39,28 @@ fn latch(words: &[u64], at: usize) -> AigerLatch
     }
 }
 
-pub fn latches(words: &[u64]) -> [AigerLatch; 8]
+fn latches(words: &[u64]) -> [AigerLatch; 8]
     ensures { result ≡ latches_in words.now 8 67 }
 {
-    let mut r = [AigerLatch {
+    let mut latches = [AigerLatch {
         current: 0,
         next: 0,
     }; 8];
-    let mut i = 0;
-    while i < 8 {
-        r[i] = latch(words, 67 + 2 * i);
-        i += 1;
+    for i in 0..8 {
+        latches[i] = latch(words, 67 + 2 * i);
     }
-    r
+    latches
+}
+
+impl<'a> LentModel<'a> {
+    pub fn from_words(words: &'a [u64]) -> LentModel<'a>
+        ensures { lent_record result ≡ record_in words.now }
+    {
+        LentModel {
+            counts: counts(words),
+            inputs: lists::cut(words, 2, 66),
+            latches: latches(words),
+            outputs: lists::cut(words, 84, 212),
+        }
+    }
 }

@@ -11,7 +11,6 @@ use Rattle.text.specs.Numbers.{number_of}
 use Rattle.text.specs.Texts.{good_text}
 use Rattle.aiger.specs.Gates.{gate_from}
 use Rattle.aiger.specs.Defined.{literal, defining, ordered, defined}
-use Rattle.model.specs.declared.Verdict.TheVariants.{Valid, Refused}
 use Rattle.model.specs.Circuit.{Circuit}
 use Rattle.model.specs.Limits.{counted, well_defined}
 use Rattle.model_read.specs.Reading.{read_transition, read_of, gates_after}
@@ -228,35 +227,18 @@ pub five_before_seven : read_transition (bytes "aag 9 1 1 1 1\n") 0 0 ≡ refuse
 unfolding read_transition good_text every number_of counted
 five_before_seven = refl
 
--- what the call returns: the record with zeros past the counts; where it refuses, the number and zeros
+-- what the call returns: the record with zeros past the counts, or the number of a refusal
 pub returned :
-    (read_of (read_transition shortest 0 2) ≡ record {
-      verdict = Valid;
-      model =
-          record {
-            max_variable = 1;
-            input_count = 0;
-            inputs = zeros 64;
-            latch_count = 1;
-            latches = record { current = 2; next = 0 } ∷ replicate 7 (record { current = 0; next = 0 });
-            output_count = 0;
-            outputs = zeros 128;
-            and_count = 0;
-          };
-    })
-    × (read_of (read_transition shortest 0 1) ≡ record {
-      verdict = Refused 7;
-      model =
-          record {
-            max_variable = 0;
-            input_count = 0;
-            inputs = zeros 64;
-            latch_count = 0;
-            latches = replicate 8 (record { current = 0; next = 0 });
-            output_count = 0;
-            outputs = zeros 128;
-            and_count = 0;
-          };
-    })
+    (read_of (read_transition shortest 0 2) ≡ got (record {
+      max_variable = 1;
+      input_count = 0;
+      inputs = zeros 64;
+      latch_count = 1;
+      latches = record { current = 2; next = 0 } ∷ replicate 7 (record { current = 0; next = 0 });
+      output_count = 0;
+      outputs = zeros 128;
+      and_count = 0;
+    }))
+    × (read_of (read_transition shortest 0 1) ≡ refused 7)
 unfolding read_transition good_text every number_of counted well_defined literal defining ordered defined
 returned = (refl, refl)

@@ -3,6 +3,7 @@ use Rattle.std.specs.Prelude.{Option, Some, None}
 use Prim.Native.Nat.{ℕ, ◌*◌, ◌/◌, ◌<◌, ◌≤◌}
 use mathlib.Core.Bool.{Bool, true, false, not}
 use mathlib.Core.List.{List, []}
+use Rattle.std.specs.Prelude.{Result, Ok, Err}
 use mathlib.Core.Path.{◌≡◌, refl, sym, ap, ◌∙◌}
 use native.Mathlib.Omega.{arith}
 use lib.ListN.{length, drop, replicate}
@@ -22,10 +23,11 @@ use Rattle.aiger.specs.declared.Gate.{Gate}
 use Rattle.aiger.specs.Gates.{gate_words}
 use Rattle.aiger.specs.Sections.{Section, section}
 use Rattle.aiger.proofs.SectionLaws.{section-length}
+use Rattle.aiger.specs.declared.Refusal.{Refusal}
+use Rattle.aiger.specs.declared.Refusal.TheVariants as refusal
+use Rattle.aiger.specs.Refusals.{refusal_number, answered}
 use Rattle.model.specs.declared.AigerTransition.{AigerTransition}
 use Rattle.model.specs.declared.Counts.{Counts}
-use Rattle.model.specs.declared.Verdict.{Verdict}
-use Rattle.model.specs.declared.Verdict.TheVariants.{Valid, Refused}
 use Rattle.model.specs.Circuit.{Circuit, circuit_of, record_of, no_circuit, no_latch}
 use Rattle.model.specs.Limits.{counted, well_defined}
 use Rattle.circuit_lines.specs.SectionLines.{literal_line, gate_line}
@@ -33,13 +35,8 @@ use Rattle.model_text.specs.ModelLines.{latch_line}
 use Rattle.circuit_lines.specs.Inner.Takes.{lines_from}
 use Rattle.model_text.specs.Header.{header_of}
 use Rattle.model_text.specs.Inner.Takes.{Headed, TakesCounts}
-use Rattle.model_read.specs.declared.ReadTransition.{ReadTransition}
 use Rattle.model_read.specs.Reading.{sections_of, model_of, body_of, read_transition, read_of, gates_after, Reads}
 use Rattle.model_read.specs.Inner.Passes.{verdict_of, Started, start_of, with_gates, record_with, Starts, TakesStart, Writes, gates_of, Readable}
-
--- a refusal's number beside a record of zeros
-pub refused_with : (reason : ℕ) (m : AigerTransition) → m ≡ record_of no_circuit → record { verdict = Refused reason; model = m } ≡ read_of (refused reason)
-refused_with reason m e = rw e refl
 
 -- ---- the sections in two parts: all but the gates, then the gates
 
@@ -72,11 +69,11 @@ circuit-back c n ls =
       take-append_seam c.outputs (drop (length c.outputs) (zeros 128)),
     ) refl
 
-verdict_valid : (x : Answer Circuit) → Valid ≡ verdict_of x → (c : Circuit) × (x ≡ got c)
-verdict_valid (got c) e = (c, refl)
-verdict_valid (refused k) e = absurd (let z : ◌≡◌ {A = ℕ} 0 1 = cc in omega arith)
+verdict_got : (x : Answer Circuit) → got tt ≡ verdict_of x → (c : Circuit) × (x ≡ got c)
+verdict_got (got c) e = (c, refl)
+verdict_got (refused k) e = absurd (let z : ◌≡◌ {A = ℕ} 0 1 = cc in omega arith)
 
-verdict_refused : (x : Answer Circuit) (k : ℕ) → Refused k ≡ verdict_of x → x ≡ refused k
+verdict_refused : (x : Answer Circuit) (k : ℕ) → refused k ≡ verdict_of x → x ≡ refused k
 verdict_refused (got c) k e = absurd (let z : ◌≡◌ {A = ℕ} 0 1 = cc in omega arith)
 verdict_refused (refused j) k e = let q : k ≡ j = cc in rw q refl
 
@@ -101,21 +98,21 @@ gates-got c n ls d e = from (and_then-got (section (gate_line Transition) n ls) 
 
 -- the promise of an acceptance
 accepts : (answer : Answer Circuit) (c d : Circuit) (gates : List Gate) → answer ≡ got d → d ≡ with_gates c gates → (g g' w' : List ℕ) (n : ℕ) → w' ≡ zeros n
-    → (v : Verdict) (m : AigerTransition) → v ≡ Valid → m ≡ record_with c (length gates) → g' ≡ front g (words_of gate_words gates) → Reads answer g n (record { verdict = v; model = m }) g' w'
-accepts answer c d gates e q g g' w' n z v m u k x = record { returns = rw (e, q, u, k) refl; writes = rw (e, q) x; clears = z }
+    → (m : AigerTransition) → m ≡ record_with c (length gates) → g' ≡ front g (words_of gate_words gates) → Reads answer g n (Ok m) g' w'
+accepts answer c d gates e q g g' w' n z m k x = record { returns = rw (e, q, k) refl; writes = rw (e, q) x; clears = z }
 
 -- the promise of a refusal
-refuses : (answer : Answer Circuit) (k : ℕ) → answer ≡ refused k → (g w : List ℕ) (n : ℕ) → w ≡ zeros n → (r : ReadTransition) → r ≡ read_of (refused k) → Reads answer g n r g w
-refuses answer k e g w n z r q = record { returns = q ∙ ap read_of (sym e); writes = ap (λ (x : Answer Circuit). gates_after x g) (sym e); clears = z }
+refuses : (answer : Answer Circuit) (k : Refusal) → answer ≡ refused (refusal_number k) → (g w : List ℕ) (n : ℕ) → w ≡ zeros n → Reads answer g n (Err k) g w
+refuses answer k e g w n z = record { returns = ap read_of (sym e); writes = ap (λ (x : Answer Circuit). gates_after x g) (sym e); clears = z }
 
 module _ (s : Bytes) (c : Cursor) (n : Counts) (g w : List ℕ) (k : Readable n g w) (h : Option (Parsed AigerTransition)) (t : TakesStart s c n h) where
   abbrev answer : Answer Circuit
   answer = model_of n (lines_from s c)
 
-  pub model_no_head : h ≡ None → (r : ReadTransition) → r ≡ read_of (refused 8) → Reads answer g (length w) r g w
-  model_no_head e r q =
+  pub model_no_head : h ≡ None → Reads answer g (length w) (Err refusal.Line) g w
+  model_no_head e =
       let f : TakesStart s c n None = rw e at t in
-      refuses answer 8 (model-split n (lines_from s c) ∙ rw f refl) g w (length w) k.clear r q
+      refuses answer refusal.Line (model-split n (lines_from s c) ∙ rw f refl) g w (length w) k.clear
 
   module _ (x : Parsed AigerTransition) (is : h ≡ Some x) where
     abbrev m : AigerTransition
@@ -134,20 +131,20 @@ module _ (s : Bytes) (c : Cursor) (n : Counts) (g w : List ℕ) (k : Readable n 
     pub model-room : m.max_variable < length w
     model-room = rw (starts.model, starts.variables) k.room
 
-    module _ (v : Verdict) (q : v ≡ verdict_of (gates_of (circuit_of m []) m.and_count (lines_from s e))) where
-      verdict_is : v ≡ verdict_of answer
+    module _ (v : Result (Unit {0}) Refusal) (q : answered v ≡ verdict_of (gates_of (circuit_of m []) m.and_count (lines_from s e))) where
+      verdict_is : answered v ≡ verdict_of answer
       verdict_is = q ∙ rw (starts.model, circuit-back starts.circuit n.ands (lines_from s e), answer-is) refl
 
-      pub model-refused : (j : ℕ) → v ≡ Refused j → (w' : List ℕ) (l : ℕ) → w' ≡ zeros l → l ≡ length w → (r : ReadTransition) → r ≡ read_of (refused j) → Reads answer g (length w) r g w'
-      model-refused j u w' l z y r x = refuses answer j (verdict_refused answer j (sym u ∙ verdict_is)) g w' (length w) (zeros-kept w' l (length w) z y) r x
+      pub model-refused : (j : Refusal) → v ≡ Err j → (w' : List ℕ) → w' ≡ zeros (length w) → Reads answer g (length w) (Err j) g w'
+      model-refused j u w' z = refuses answer j (verdict_refused answer (refusal_number j) (rw u at verdict_is)) g w' (length w) z
 
-      pub model-accepted : v ≡ Valid → (w' : List ℕ) (l : ℕ) → w' ≡ zeros l → l ≡ length w → (g' : List ℕ) → Writes s e n.ands g g' → Reads answer g (length w) (record { verdict = v; model = m }) g' w'
-      model-accepted u w' l z y g' x =
-          let d = verdict_valid answer (sym u ∙ verdict_is) in
+      pub model-accepted : (u : Unit {0}) → v ≡ Ok u → (w' : List ℕ) → w' ≡ zeros (length w) → (g' : List ℕ) → Writes s e n.ands g g' → Reads answer g (length w) (Ok m) g' w'
+      model-accepted u o w' z g' x =
+          let d = verdict_got answer (rw o at verdict_is) in
           let a = gates-got starts.circuit n.ands (lines_from s e) d.0 (sym answer-is ∙ d.1) in
           let b : length a.gates ≡ n.ands = section-length (gate_line Transition) n.ands (lines_from s e) a.gates a.rest a.takes in
-          let y' : m ≡ record_with starts.circuit (length a.gates) = starts.model ∙ ap (record_with starts.circuit) (sym b) in
-          accepts answer starts.circuit d.0 a.gates d.1 a.is g g' w' (length w) (zeros-kept w' l (length w) z y) v m u y' (x a.gates a.rest a.takes)
+          let y : m ≡ record_with starts.circuit (length a.gates) = starts.model ∙ ap (record_with starts.circuit) (sym b) in
+          accepts answer starts.circuit d.0 a.gates d.1 a.is g g' w' (length w) z m y (x a.gates a.rest a.takes)
 
 -- ---- the reasons before the sections
 
@@ -155,23 +152,23 @@ module _ (s : Bytes) (c : Cursor) (n : Counts) (g w : List ℕ) (z : w ≡ zeros
   abbrev body : Answer Circuit
   body = body_of (length g) (length w) (lines_from s c) n
 
-  pub body-counts : not b ≡ true → (r : ReadTransition) → r ≡ read_of (refused 5) → Reads body g (length w) r g w
-  body-counts t r x = refuses body 5 (rw (← q, not-true b t) refl) g w (length w) z r x
+  pub body-counts : not b ≡ true → Reads body g (length w) (Err refusal.Counts) g w
+  body-counts t = refuses body refusal.Counts (rw (← q, not-true b t) refl) g w (length w) z
 
   module _ (t : not b ≡ false) where
-    pub body-words : length g / 3 < n.ands → (r : ReadTransition) → r ≡ read_of (refused 7) → Reads body g (length w) r g w
-    body-words h r x = refuses body 7 (rw (← q, not-false b t, lt-leb (3 * n.ands) (length g) (omega arith)) refl) g w (length w) z r x
+    pub body-words : length g / 3 < n.ands → Reads body g (length w) (Err refusal.Room) g w
+    body-words h = refuses body refusal.Room (rw (← q, not-false b t, lt-leb (3 * n.ands) (length g) (omega arith)) refl) g w (length w) z
 
     module _ (h : n.ands ≤ length g / 3) where
-      pub body-work : length w ≤ n.max_variable → (r : ReadTransition) → r ≡ read_of (refused 7) → Reads body g (length w) r g w
-      body-work u r x =
-          refuses body 7 (rw (← q, not-false b t, le-leb (3 * n.ands) (length g) (omega arith), le-ltb n.max_variable (length w) u) refl) g w (length w) z r x
+      pub body-work : length w ≤ n.max_variable → Reads body g (length w) (Err refusal.Room) g w
+      body-work u =
+          refuses body refusal.Room (rw (← q, not-false b t, le-leb (3 * n.ands) (length g) (omega arith), le-ltb n.max_variable (length w) u) refl) g w (length w) z
 
       module _ (u : n.max_variable < length w) where
         pub body-readable : Readable n g w
         body-readable = record { counts = sym q ∙ not-false b t; words = omega arith; room = u; clear = z }
 
-        pub body-model : (r : ReadTransition) (g' w' : List ℕ) → Reads (model_of n (lines_from s c)) g (length w) r g' w' → Reads body g (length w) r g' w'
+        pub body-model : (r : Result AigerTransition Refusal) (g' w' : List ℕ) → Reads (model_of n (lines_from s c)) g (length w) r g' w' → Reads body g (length w) r g' w'
         body-model r g' w' k =
             let e : body ≡ model_of n (lines_from s c) =
             rw (← q, not-false b t, le-leb (3 * n.ands) (length g) (omega arith), lt-ltb n.max_variable (length w) u) refl in
@@ -181,16 +178,16 @@ module _ (s : Bytes) (g : List ℕ) (w : ℕ) (b : Bool) (q : b ≡ good_text li
   abbrev text : Answer Circuit
   text = read_transition s (length g) w
 
-  pub text_refused : not b ≡ true → (w' : List ℕ) → w' ≡ zeros w → (r : ReadTransition) → r ≡ read_of (refused 3) → Reads text g w r g w'
+  pub text_refused : not b ≡ true → (w' : List ℕ) → w' ≡ zeros w → Reads text g w (Err refusal.Text) g w'
   unfolding read_transition
-  text_refused t w' z r x = refuses text 3 (rw (← q, not-true b t) refl) g w' w z r x
+  text_refused t w' z = refuses text refusal.Text (rw (← q, not-true b t) refl) g w' w z
 
   module _ (t : not b ≡ false) (h : Option (Parsed Counts)) (k : TakesCounts s h) where
-    pub header_bad : h ≡ None → (w' : List ℕ) → w' ≡ zeros w → (r : ReadTransition) → r ≡ read_of (refused 4) → Reads text g w r g w'
+    pub header_bad : h ≡ None → (w' : List ℕ) → w' ≡ zeros w → Reads text g w (Err refusal.Header) g w'
     unfolding read_transition
-    header_bad e w' z r x = let f : header_of (lines_of s) ≡ refused 4 = rw e at k in refuses text 4 (rw (← q, not-false b t, f) refl) g w' w z r x
+    header_bad e w' z = let f : header_of (lines_of s) ≡ refused 4 = rw e at k in refuses text refusal.Header (rw (← q, not-false b t, f) refl) g w' w z
 
-    pub header_read : (p : Parsed Counts) → h ≡ Some p → (w₁ : List ℕ) → w₁ ≡ zeros w → (r : ReadTransition) (g' w' : List ℕ)
+    pub header_read : (p : Parsed Counts) → h ≡ Some p → (w₁ : List ℕ) → w₁ ≡ zeros w → (r : Result AigerTransition Refusal) (g' w' : List ℕ)
         → Reads (body_of (length g) (length w₁) (lines_from s p.next) p.value) g (length w₁) r g' w' → Reads text g w r g' w'
     unfolding read_transition
     header_read p e w₁ z r g' w' x =

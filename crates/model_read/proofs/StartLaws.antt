@@ -22,26 +22,7 @@ use Rattle.model.proofs.CountLaws.{counted_facts}
 use Rattle.circuit_lines.specs.SectionLines.{literal_line}
 use Rattle.model_text.specs.ModelLines.{latch_line}
 use Rattle.circuit_lines.specs.Inner.Takes.{lines_from, Takes, TakesArray, TakesFront}
-use Rattle.model_text.specs.Inner.Takes.{TakesLatches}
 use Rattle.model_read.specs.Inner.Passes.{start_of, record_with, TakesStart}
-
--- the part of an array of zeros that is lent is as long as the section
-pub lent_length : (size n : ℕ) → n ≤ size → n ≡ length (take n (zeros size))
-lent_length size n h = sym (length-take-le n (zeros size) (rw (zeros-length size) h))
-
--- the array after it was lent
-module _ (size : ℕ) (s : Bytes) (c : Cursor) (n : ℕ) (p : Option Cursor) (o : List ℕ) (h : n ≤ size) (e : length o ≡ length (take n (zeros size)))
-    (t : Takes (literal_line Transition) s c (length (take n (zeros size))) p o) where
-  lent : length (take n (zeros size)) ≡ n
-  lent = sym (lent_length size n h)
-
-  pub array_bad : p ≡ None → TakesArray (literal_line Transition) s c n (zeros size) None
-  array_bad u = let f : Takes (literal_line Transition) s c (length (take n (zeros size))) None o = rw u at t in rw lent at f
-
-  pub array-taken : (q : Cursor) → p ≡ Some q → TakesArray (literal_line Transition) s c n (zeros size) (Some (record { value = o ++ drop n (zeros size); next = q }))
-  array-taken q u =
-      let f : Takes (literal_line Transition) s c (length (take n (zeros size))) (Some q) o = rw u at t in
-      record { items = o; stored = rw (e, lent) refl; takes = rw lent at f }
 
 -- ---- the three sections, one after the other
 
@@ -52,31 +33,37 @@ record_is : (n : Counts) (is os : List ℕ) (ls : List AigerLatch) (inputs outpu
     → record_from n inputs latches outputs ≡ record_with (record { variables = n.max_variable; inputs = is; latches = ls; outputs = os; gates = [] }) n.ands
 record_is n is os ls inputs outputs latches a b d li ll lo = rw (a, b, d, li, ll, lo) refl
 
-module _ (s : Bytes) (c : Cursor) (n : Counts) (k : counted n ≡ true) (r₁ : Option (Parsed (List ℕ))) (a : TakesArray (literal_line Transition) s c n.inputs (zeros 64) r₁) where
+module _ (s : Bytes) (c : Cursor) (n : Counts) (k : counted n ≡ true) (r₁ : Option (Parsed (List ℕ))) (a : n.inputs ≤ 64 → TakesArray (literal_line Transition) s c n.inputs (zeros 64) r₁) where
+  inputs_of : TakesArray (literal_line Transition) s c n.inputs (zeros 64) r₁
+  inputs_of = a (counted_facts n k).inputs
+
   pub head_without_inputs : r₁ ≡ None → TakesStart s c n None
-  head_without_inputs e = let f : Takes (literal_line Transition) s c n.inputs None [] = rw e at a in rw f refl
+  head_without_inputs e = let f : Takes (literal_line Transition) s c n.inputs None [] = rw e at inputs_of in rw f refl
 
-  module _ (p₁ : Parsed (List ℕ)) (e₁ : r₁ ≡ Some p₁) (r₂ : Option (Parsed (List AigerLatch))) (b : n.latches ≤ 8 → TakesLatches s p₁.next n.latches r₂) where
+  module _ (p₁ : Parsed (List ℕ)) (e₁ : r₁ ≡ Some p₁) (r₂ : Option (Parsed (List AigerLatch))) (b : n.latches ≤ 8 → TakesArray latch_line s p₁.next n.latches (replicate 8 no_latch) r₂) where
     inputs-taken : TakesFront (literal_line Transition) s c n.inputs (zeros 64) p₁
-    inputs-taken = rw e₁ at a
+    inputs-taken = rw e₁ at inputs_of
 
-    latches_of_lem : TakesLatches s p₁.next n.latches r₂
+    latches_of_lem : TakesArray latch_line s p₁.next n.latches (replicate 8 no_latch) r₂
     latches_of_lem = b (counted_facts n k).latches
 
     pub head_without_latches : r₂ ≡ None → TakesStart s c n None
     head_without_latches e = let f : Takes latch_line s p₁.next n.latches None [] = rw e at latches_of_lem in rw (inputs-taken.takes, f) refl
 
-    module _ (p₂ : Parsed (List AigerLatch)) (e₂ : r₂ ≡ Some p₂) (r₃ : Option (Parsed (List ℕ))) (d : TakesArray (literal_line Transition) s p₂.next n.outputs (zeros 128) r₃) where
+    module _ (p₂ : Parsed (List AigerLatch)) (e₂ : r₂ ≡ Some p₂) (r₃ : Option (Parsed (List ℕ))) (d : n.outputs ≤ 128 → TakesArray (literal_line Transition) s p₂.next n.outputs (zeros 128) r₃) where
       latches-taken : TakesFront latch_line s p₁.next n.latches (replicate 8 no_latch) p₂
       latches-taken = rw e₂ at latches_of_lem
 
+      outputs_of : TakesArray (literal_line Transition) s p₂.next n.outputs (zeros 128) r₃
+      outputs_of = d (counted_facts n k).outputs
+
       pub head_without_outputs : r₃ ≡ None → TakesStart s c n None
       head_without_outputs e =
-          let f : Takes (literal_line Transition) s p₂.next n.outputs None [] = rw e at d in rw (inputs-taken.takes, latches-taken.takes, f) refl
+          let f : Takes (literal_line Transition) s p₂.next n.outputs None [] = rw e at outputs_of in rw (inputs-taken.takes, latches-taken.takes, f) refl
 
       module _ (p₃ : Parsed (List ℕ)) (e₃ : r₃ ≡ Some p₃) where
         outputs-taken : TakesFront (literal_line Transition) s p₂.next n.outputs (zeros 128) p₃
-        outputs-taken = rw e₃ at d
+        outputs-taken = rw e₃ at outputs_of
 
         abbrev circuit : Circuit
         circuit = record { variables = n.max_variable; inputs = inputs-taken.items; latches = latches-taken.items; outputs = outputs-taken.items; gates = [] }
@@ -93,11 +80,3 @@ module _ (s : Bytes) (c : Cursor) (n : Counts) (k : counted n ≡ true) (r₁ : 
                   (section-length latch_line n.latches (lines_from s p₁.next) latches-taken.items (lines_from s p₂.next) latches-taken.takes)
                   (section-length (literal_line Transition) n.outputs (lines_from s p₂.next) outputs-taken.items (lines_from s p₃.next) outputs-taken.takes);
             }
-
--- ---- what the arrays have room for
-
-pub inputs_fit : (n : Counts) → counted n ≡ true → n.inputs ≤ 64
-inputs_fit n k = (counted_facts n k).inputs
-
-pub outputs_fit : (n : Counts) → counted n ≡ true → n.outputs ≤ 128
-outputs_fit n k = (counted_facts n k).outputs

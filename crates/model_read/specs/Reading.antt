@@ -1,16 +1,17 @@
 -- The transition reader (R5; refusals R9.3, R9.4, R9.5, R9.7, R9.8, R9.11 in this order): from the bytes to the model or the first number.
-use Rattle.std.specs.Prelude.{ℕ, ◌*◌, List, ◌≡◌, leb, ltb, drop}
+use Rattle.std.specs.Prelude.{ℕ, ◌*◌, List, Result, ◌≡◌, leb, ltb, drop}
 use Rattle.lists.specs.Answer.{Answer, got, refused, unless, and_then}
 use Rattle.lists.specs.Parts.{Bytes, front, zeros}
 use Rattle.text.specs.declared.Reader.TheVariants.{Transition}
 use Rattle.text.specs.Lines.{lines_of}
 use Rattle.text.specs.Texts.{limited, good_text}
+use Rattle.aiger.specs.declared.Refusal.{Refusal}
+use Rattle.aiger.specs.Refusals.{answered}
 use Rattle.aiger.specs.Sections.{section}
+use Rattle.model.specs.declared.AigerTransition.{AigerTransition}
 use Rattle.model.specs.declared.Counts.{Counts}
-use Rattle.model.specs.declared.Verdict.TheVariants.{Valid, Refused}
-use Rattle.model.specs.Circuit.{Circuit, record_of, words_of_gates, no_circuit}
+use Rattle.model.specs.Circuit.{Circuit, record_of, words_of_gates}
 use Rattle.model.specs.Limits.{counted, well_defined}
-use Rattle.model_read.specs.declared.ReadTransition.{ReadTransition}
 use Rattle.model_text.specs.Header.{header_of}
 use Rattle.circuit_lines.specs.SectionLines.{literal_line, gate_line}
 use Rattle.model_text.specs.ModelLines.{latch_line}
@@ -47,10 +48,10 @@ unfoldable pub read_transition : Bytes → ℕ → ℕ → Answer Circuit
 read_transition t g w =
     unless 3 (good_text limited Transition t) (and_then (header_of (lines_of t)) (body_of g w (drop 1 (lines_of t))))
 
--- R10.3: what the call returns: the model's record, or the number of a refusal and a record of zeros
-abbrev pub read_of : Answer Circuit → ReadTransition
-read_of (got c) = record { verdict = Valid; model = record_of c }
-read_of (refused n) = record { verdict = Refused n; model = record_of no_circuit }
+-- R10.3: what the call returns: the model's record, or the number of a refusal
+abbrev pub read_of : Answer Circuit → Answer AigerTransition
+read_of (got c) = got (record_of c)
+read_of (refused n) = refused n
 
 -- R10.4: the gate words after the call: the model's in front and the rest as it was; all as they were where it refuses
 abbrev pub gates_after : Answer Circuit → List ℕ → List ℕ
@@ -58,7 +59,7 @@ gates_after (got c) g = front g (words_of_gates c)
 gates_after (refused n) g = g
 
 -- R16.1: the promise of the call, where `answer` is the model or the first number: what it returns, the gate and the work words after it
-pub record Reads (answer : Answer Circuit) (gates : List ℕ) (work : ℕ) (r : ReadTransition) (gates' work' : List ℕ) : Type 0 where
-  pub returns : r ≡ read_of answer
+pub record Reads (answer : Answer Circuit) (gates : List ℕ) (work : ℕ) (r : Result AigerTransition Refusal) (gates' work' : List ℕ) : Type 0 where
+  pub returns : answered r ≡ read_of answer
   pub writes : gates' ≡ gates_after answer gates
   pub clears : work' ≡ zeros work

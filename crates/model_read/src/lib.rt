@@ -3,25 +3,19 @@
 #![tactic(auto)]
 
 ghost use Rattle.std.specs.Prelude.{◌≡◌, true, ◌*◌, ◌≤◌, ◌<◌, length, []};
-ghost use Rattle.lists.specs.Answer.{refused};
 ghost use Rattle.lists.specs.Parts.{zeros};
+ghost use Rattle.aiger.specs.Refusals.{answered};
 ghost use Rattle.model.specs.Circuit.{circuit_of, record_of, no_circuit};
 ghost use Rattle.model.specs.Limits.{counted};
-ghost use Rattle.circuit_lines.specs.SectionLines.{literal_line};
-ghost use Rattle.circuit_lines.specs.Inner.Takes.{lines_from, TakesArray};
-ghost use Rattle.model_read.specs.Reading.{model_of, body_of, read_transition, read_of, Reads};
+ghost use Rattle.circuit_lines.specs.Inner.Takes.{lines_from};
+ghost use Rattle.model_read.specs.Reading.{model_of, body_of, read_transition, Reads};
 ghost use Rattle.model_read.specs.Inner.Passes.{TakesStart, AddsNext, ChecksGates, Writes, gates_of, verdict_of, Readable};
 
-use aiger::Gate;
-use model::{AigerLatch, AigerTransition, Counts, Verdict};
+use aiger::{Gate, Refusal};
+use circuit_lines::LiteralLine;
+use model::{AigerLatch, AigerTransition, Counts, LentModel};
+use model_text::LatchLine;
 use text::{Cursor, Parsed, Reader};
-
-// The model that was read, or the number of the reason with a record of zeros.
-#[derive(Clone, Copy)]
-pub struct ReadTransition {
-    pub verdict: Verdict,
-    pub model: AigerTransition,
-}
 
 // One more gate is checked and marked, where those before hold.
 fn define_next(work: &mut [u64], most: usize, fine: bool, gate: Gate) -> bool
@@ -72,18 +66,8 @@ fn write_gates(s: &[u8], cursor: Cursor, n: usize, gates: &mut [u64])
     }
 }
 
-// The inputs or the outputs of the n lines from a cursor on, with zeros past them.
-fn take_array<const N: usize>(s: &[u8], cursor: Cursor, n: usize) -> Option<Parsed<[u64; N]>>
-    requires { n ≤ N }
-    ensures { TakesArray (literal_line Reader.Transition) s.now cursor n (zeros N) result }
-{
-    let mut value = [0; N];
-    let next = circuit_lines::take_literals(Reader::Transition, s, cursor, &mut value[..n])?;
-    Some(Parsed { value, next })
-}
-
 // A record of zeros.
-fn no_model() -> AigerTransition
+pub fn no_model() -> AigerTransition
     ensures { result ≡ record_of no_circuit }
 {
     AigerTransition {
@@ -106,9 +90,16 @@ fn take_head(s: &[u8], cursor: Cursor, counts: Counts) -> Option<Parsed<AigerTra
     requires { counted counts ≡ true }
     ensures { TakesStart s.now cursor counts result }
 {
-    let inputs = take_array(s, cursor, counts.inputs)?;
-    let latches = model_text::take_latches(s, inputs.next, counts.latches)?;
-    let outputs = take_array(s, latches.next, counts.outputs)?;
+    let literal = LiteralLine {
+        reader: Reader::Transition,
+    };
+    let blank = AigerLatch {
+        current: 0,
+        next: 0,
+    };
+    let inputs = circuit_lines::take_array(literal, s, cursor, counts.inputs, 0)?;
+    let latches = circuit_lines::take_array(LatchLine {}, s, inputs.next, counts.latches, blank)?;
+    let outputs = circuit_lines::take_array(literal, s, latches.next, counts.outputs, 0)?;
     let next = outputs.next;
     let inputs = inputs.value;
     let latches = latches.value;
@@ -129,13 +120,12 @@ fn take_head(s: &[u8], cursor: Cursor, counts: Counts) -> Option<Parsed<AigerTra
 }
 
 // Whether a model is well defined with the gates of the lines from a cursor on. The work words are all 0 at first.
-fn check_model(s: &[u8], cursor: Cursor, model: AigerTransition, work: &mut [u64]) -> Verdict
+fn check_model(s: &[u8], cursor: Cursor, model: AigerTransition, work: &mut [u64]) -> Result<(), Refusal>
     requires { (model.max_variable < length work.old) × (work.old ≡ zeros (length work.old)) }
-    ensures { result ≡ verdict_of (gates_of (circuit_of model []) model.and_count (lines_from s.now cursor)) }
+    ensures { answered result ≡ verdict_of (gates_of (circuit_of model []) model.and_count (lines_from s.now cursor)) }
 {
-    let n = model::counts_of(model);
-    let latches = model.latches;
-    let fine = model::define_leaves(n, &model.inputs, latches, work);
+    let lent = LentModel::from(&model);
+    let fine = lent.define_leaves(work);
     let Some(good) = check_gates(
         s,
         cursor,
@@ -144,25 +134,12 @@ fn check_model(s: &[u8], cursor: Cursor, model: AigerTransition, work: &mut [u64
         fine,
         work,
     ) else {
-        return Verdict::Refused(8);
+        return Err(Refusal::Line);
     };
-    if !good {
-        return Verdict::Refused(11);
+    if !good || !lent.literals_hold() {
+        return Err(Refusal::Definition);
     }
-    if model::literals_hold(n, latches, &model.outputs) {
-        return Verdict::Valid;
-    }
-    Verdict::Refused(11)
-}
-
-// The answer of a refusal: its number, and a record of zeros.
-fn refuse(reason: u64) -> ReadTransition
-    ensures { result ≡ read_of (refused reason) }
-{
-    ReadTransition {
-        verdict: Verdict::Refused(reason),
-        model: no_model(),
-    }
+    Ok(())
 }
 
 // The model of the lines from a cursor on. The work words are all 0 at first, and there is room for what the counts ask for.
@@ -172,26 +149,19 @@ fn read_model(
     counts: Counts,
     gates: &mut [u64],
     work: &mut [u64],
-) -> ReadTransition
+) -> Result<AigerTransition, Refusal>
     requires { Readable counts gates.old work.old }
     ensures { Reads (model_of counts (lines_from s.now cursor)) gates.old (length work.old) result gates.new work.new }
 {
     let Some(head) = take_head(s, cursor, counts) else {
-        return refuse(8);
+        return Err(Refusal::Line);
     };
     let model = head.value;
-    let verdict = check_model(s, head.next, model, work);
-    lists::clear(work);
-    match verdict {
-        Verdict::Valid => {
-            write_gates(s, head.next, counts.ands, gates);
-            ReadTransition {
-                verdict: verdict,
-                model: model,
-            }
-        }
-        Verdict::Refused(reason) => refuse(reason),
-    }
+    let checked = check_model(s, head.next, model, work);
+    work.fill(0);
+    checked?;
+    write_gates(s, head.next, counts.ands, gates);
+    Ok(model)
 }
 
 // The model of the lines after a header, from a cursor on. The work words are all 0 at first.
@@ -201,32 +171,32 @@ fn read_body(
     counts: Counts,
     gates: &mut [u64],
     work: &mut [u64],
-) -> ReadTransition
+) -> Result<AigerTransition, Refusal>
     requires { work.old ≡ zeros (length work.old) }
     ensures { Reads (body_of (length gates.old) (length work.old) (lines_from s.now cursor) counts) gates.old (length work.old) result gates.new work.new }
 {
-    if !model::counts_hold(counts) {
-        return refuse(5);
+    if !counts.hold() {
+        return Err(Refusal::Counts);
     }
     if gates.len() / 3 < counts.ands {
-        return refuse(7);
+        return Err(Refusal::Room);
     }
     if work.len() <= counts.max_variable {
-        return refuse(7);
+        return Err(Refusal::Room);
     }
     read_model(s, cursor, counts, gates, work)
 }
 
 // Reads a transition text: the record, and the gates' words in front of the lent ones.
-pub fn parse_ascii_aiger_transition(s: &[u8], gates: &mut [u64], work: &mut [u64]) -> ReadTransition
+pub fn parse_ascii_aiger_transition(s: &[u8], gates: &mut [u64], work: &mut [u64]) -> Result<AigerTransition, Refusal>
     ensures { Reads (read_transition s.now (length gates.old) (length work.old)) gates.old (length work.old) result gates.new work.new }
 {
     lists::clear(work);
     if !text::good_text(Reader::Transition, s) {
-        return refuse(3);
+        return Err(Refusal::Text);
     }
     let Some(header) = model_text::take_model_header(s) else {
-        return refuse(4);
+        return Err(Refusal::Header);
     };
     read_body(s, header.next, header.value, gates, work)
 }

@@ -1,32 +1,32 @@
 -- Laws of `step_of`, as the code goes through its cases.
 use Prim.Native.Nat.{ℕ, ◌+◌, ◌^◌, ◌<◌, ◌≤◌}
-use mathlib.Core.Bool.{Bool, true, false, not}
+use mathlib.Core.Bool.{Bool, true, false}
 use mathlib.Core.List.{List}
+use Rattle.std.specs.Prelude.{Result, Ok, Err}
 use mathlib.Core.Path.{◌≡◌, refl}
 use native.Mathlib.Omega.{arith}
 use lib.Dec.{ltb}
 use lib.ListN.{length, take, length-take}
 use lib.Seq.{length-take-le}
-use borrow.Author.Tests.{not-true, not-false}
 use Rattle.lists.specs.Answer.{refused}
 use Rattle.lists.specs.Parts.{zeros}
 use Rattle.lists.proofs.ZeroLaws.{zeros-length, zeros-take}
 use Rattle.model.specs.declared.AigerTransition.{AigerTransition}
-use Rattle.model.specs.declared.Verdict.{Verdict}
+use Rattle.aiger.specs.declared.Refusal.{Refusal}
+use Rattle.aiger.specs.declared.Refusal.TheVariants as refusal
+use Rattle.aiger.specs.Refusals.{refusal_number, answered}
 use Rattle.model.specs.Circuit.{circuit_of}
 use Rattle.model.specs.Checked.{checked, judged}
 use Rattle.model.proofs.ValueLaws.{checked-got}
 use Rattle.model_step.specs.declared.Outcome.{Outcome}
-use Rattle.model_step.specs.declared.Stepped.TheVariants.{Done, Refused}
-use Rattle.model_step.specs.Step.{step_of, answer_of, step_values, outcome_under}
+use Rattle.model_step.specs.Step.{step_of, step_values, outcome_under}
 use Rattle.model_step.specs.Inner.Runnable.{Runnable}
 use Rattle.model_step.proofs.RunnableLaws.{IsModel, runnable}
-use Rattle.model.specs.declared.Verdict.TheVariants as verdict
 
 module _ (m : AigerTransition) (g : List ℕ) (w s x : ℕ) where
-  pub step_invalid : (v : Verdict) → judged v (circuit_of m g) ≡ checked m g w → (n : ℕ) → v ≡ verdict.Refused n → answer_of (Refused n) ≡ step_of m g w s x
+  pub step_invalid : (v : Result (Unit {0}) Refusal) → judged v (circuit_of m g) ≡ checked m g w → (n : Refusal) → v ≡ Err n → answered {A = Outcome} (Err n) ≡ step_of m g w s x
   unfolding step_of
-  step_invalid v q n e = let k : refused n ≡ checked m g w = rw e at q in rw (← k) refl
+  step_invalid v q n e = let k : refused (refusal_number n) ≡ checked m g w = rw e at q in rw (← k) refl
 
 module _ {m : AigerTransition} {g : List ℕ} {w : ℕ} (p : IsModel m g w) where
   pub step_room : m.max_variable < w
@@ -47,18 +47,18 @@ module _ {m : AigerTransition} {g : List ℕ} {w : ℕ} (p : IsModel m g w) wher
     latches-count : length (take m.latch_count m.latches) ≡ m.latch_count
     latches-count = length-take-le m.latch_count m.latches (omega (arith, enough, (runnable p).few_latches))
 
-    pub step-state : not b ≡ true → answer_of (Refused 12) ≡ step_of m g w s x
+    pub step-state : b ≡ false → answered (Err refusal.Step) ≡ step_of m g w s x
     unfolding step_of
-    step-state t = rw (p.is, latches-count, ← e, not-true b t)
+    step-state t = rw (p.is, latches-count, ← e, t)
 
-    module _ (t : not b ≡ false) (is : List ℕ) (q : is ≡ take m.input_count m.inputs) (d : Bool) (f : d ≡ ltb x (2 ^ length is)) where
+    module _ (t : b ≡ true) (is : List ℕ) (q : is ≡ take m.input_count m.inputs) (d : Bool) (f : d ≡ ltb x (2 ^ length is)) where
       inputs_fit : d ≡ ltb x (2 ^ length (take m.input_count m.inputs))
       inputs_fit = rw q at f
 
-      pub step-word : not d ≡ true → answer_of (Refused 12) ≡ step_of m g w s x
+      pub step-word : d ≡ false → answered (Err refusal.Step) ≡ step_of m g w s x
       unfolding step_of
-      step-word u = rw (p.is, latches-count, ← e, not-false b t, ← inputs_fit, not-true d u)
+      step-word u = rw (p.is, latches-count, ← e, t, ← inputs_fit, u)
 
-      pub step-done : not d ≡ false → (o : Outcome) → o ≡ outcome_under (circuit_of m g) (step_values (circuit_of m g) s x) → answer_of (Done o) ≡ step_of m g w s x
+      pub step-done : d ≡ true → (o : Outcome) → o ≡ outcome_under (circuit_of m g) (step_values (circuit_of m g) s x) → answered (Ok o) ≡ step_of m g w s x
       unfolding step_of
-      step-done u o r = rw (p.is, latches-count, ← e, not-false b t, ← inputs_fit, not-false d u, r)
+      step-done u o r = rw (p.is, latches-count, ← e, t, ← inputs_fit, u, r)

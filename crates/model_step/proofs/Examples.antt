@@ -2,6 +2,7 @@
 use Prim.Native.Nat.{ℕ, zero, suc, ◌+◌, ◌^◌}
 use mathlib.Core.Bool.{true}
 use mathlib.Core.List.{List, [], ◌∷◌, ◌++◌, map}
+use Rattle.std.specs.Prelude.{Ok, Err}
 use mathlib.Core.Path.{◌≡◌, refl}
 use lib.ListN.{replicate}
 use Rattle.lists.specs.Answer.{got, refused}
@@ -13,8 +14,10 @@ use Rattle.model.specs.declared.AigerLatch.{AigerLatch}
 use Rattle.model.specs.Circuit.{Circuit, record_of}
 use Rattle.model.specs.Limits.{counted, well_defined}
 use Rattle.model.specs.Checked.{checked}
-use Rattle.model_step.specs.Step.{step_values, outcome_under, step_of, answer_of}
-use Rattle.model_step.specs.declared.Stepped.TheVariants.{Done, Refused}
+use Rattle.model_step.specs.Step.{step_values, outcome_under, step_of}
+use Rattle.aiger.specs.declared.Refusal.TheVariants.{Room}
+use Rattle.aiger.specs.Refusals.{answered}
+use Rattle.model_step.specs.declared.Outcome.{Outcome}
 use Rattle.model_step.proofs.Table.{model_k, step_from}
 
 abbrev pub latch : ℕ → ℕ → AigerLatch
@@ -112,5 +115,5 @@ pub full_steps :
 unfolding step_of checked every counted well_defined literal defining ordered defined step_values outcome_under value
 full_steps = (refl, refl, refl)
 
-pub stepped : (answer_of (Done (record { target = 1; high = 2; low = 3 })) ≡ got (record { target = 1; high = 2; low = 3 })) × (answer_of (Refused 7) ≡ refused 7)
+pub stepped : (answered {A = Outcome} (Ok (record { target = 1; high = 2; low = 3 })) ≡ got (record { target = 1; high = 2; low = 3 })) × (answered {A = Outcome} (Err Room) ≡ refused 7)
 stepped = (refl, refl)

@@ -2,6 +2,7 @@
 use Prim.Native.Nat.{ℕ, ◌+◌, ◌*◌, ◌≤◌, ◌<◌}
 use mathlib.Core.Bool.{true}
 use mathlib.Core.List.{List, map}
+use Rattle.std.specs.Prelude.{Result, Ok}
 use mathlib.Core.Path.{◌≡◌, sym}
 use native.Mathlib.Omega.{arith}
 use lib.ListN.{take}
@@ -14,8 +15,7 @@ use Rattle.aiger.specs.declared.Gate.{Gate}
 use Rattle.aiger.specs.Gates.{variable, output_of, gate_from}
 use Rattle.aiger.proofs.DefinedLaws.{Defines, Orders, defined_facts}
 use Rattle.model.specs.declared.AigerTransition.{AigerTransition}
-use Rattle.model.specs.declared.Verdict.{Verdict}
-use Rattle.model.specs.declared.Verdict.TheVariants.{Valid}
+use Rattle.aiger.specs.declared.Refusal.{Refusal}
 use Rattle.model.specs.Circuit.{Circuit, circuit_of, current_of, next_of, currents_of, nexts_of, leaves_of}
 use Rattle.model.specs.Limits.{well_defined}
 use Rattle.model.specs.Checked.{checked, counts_of, judged}
@@ -63,8 +63,8 @@ model-inside c h =
 pub record IsModel (m : AigerTransition) (g : List ℕ) (w : ℕ) : Type 0 where
   pub is : checked m g w ≡ got (circuit_of m g)
 
-pub is-model : (m : AigerTransition) (g : List ℕ) (w : ℕ) (v : Verdict) → judged v (circuit_of m g) ≡ checked m g w → v ≡ Valid → IsModel m g w
-is-model m g w v q e = let k : got (circuit_of m g) ≡ checked m g w = rw e at q in record { is = sym k }
+pub is-model : (m : AigerTransition) (g : List ℕ) (w : ℕ) (v : Result (Unit {0}) Refusal) → judged v (circuit_of m g) ≡ checked m g w → (u : Unit {0}) → v ≡ Ok u → IsModel m g w
+is-model m g w v q u e = let k : got (circuit_of m g) ≡ checked m g w = rw e at q in record { is = sym k }
 
 pub runnable : {m : AigerTransition} {g : List ℕ} {w : ℕ} → IsModel m g w → Runnable m g (m.max_variable + 1)
 runnable {m} {g} {w} e =

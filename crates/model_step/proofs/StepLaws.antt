@@ -1,5 +1,5 @@
 -- Laws for the code of the step: words that hold values, loaded from bits, computed gate by gate, and packed into words again.
-use Prim.Native.Nat.{ℕ, ◌+◌, ◌*◌, ◌-◌, ◌/◌, ◌%◌, ◌^◌, ◌≤◌, ◌<◌, min}
+use Prim.Native.Nat.{ℕ, zero, suc, ◌+◌, ◌*◌, ◌-◌, ◌/◌, ◌%◌, ◌^◌, ◌≤◌, ◌<◌, min}
 use mathlib.Core.Bool.{Bool, true, false, ◌&&◌, cond}
 use mathlib.Core.List.{List, [], ◌∷◌, ◌++◌, map}
 use mathlib.Core.Logic.{⊎_elim}
@@ -10,11 +10,13 @@ use lib.ListN.{length, get_or, take, drop, set, length-set, length-map, length-t
 use lib.Seq.{length-take-le, take-length, get_or-set_same, get_or-set_other, get_or-take}
 use borrow.Author.Tests.{eqb-true, eqb-false}
 use Rattle.lists.specs.Bits.{odd, bits, bit, packed}
+use Rattle.lists.specs.Parts.{part}
 use Rattle.lists.specs.Tests.{Each}
 use Rattle.lists.specs.Words.{triples_of}
 use Rattle.lists.proofs.BitLaws.{odd-bit, bit_lt, odd-xor, product_odd, bits-length, bits_append, packed_under}
 use Rattle.lists.proofs.BoolLaws.{below_or, xor-turns}
 use Rattle.lists.proofs.MapLaws.{map-take, map-drop, each_maps}
+use Rattle.lists.proofs.PartLaws.{part-drop}
 use Rattle.lists.proofs.RestLaws.{rest_more, take_next}
 use Rattle.lists.proofs.TestLaws.{each_at, each-so, each_take}
 use Rattle.lists.proofs.WordLaws.{triples_count, triples_at}
@@ -72,19 +74,18 @@ assigned-next v ls x k h =
 
 -- the variables of the first k literals have taken the bits of x
 pub record Loading (w₀ : List ℕ) (lits : List ℕ) (x : ℕ) (w : List ℕ) (k : ℕ) : Type 0 where
-  pub passed : k ≤ length lits
   pub same : length w ≡ length w₀
   pub holds : Becomes w₀ w (λ v. assigned v (take k lits) (bits k x))
 
 pub loading-none : (w lits : List ℕ) (x : ℕ) → Loading w lits x w 0
-loading-none w lits x = record { passed = omega arith; same = refl; holds = becomes-same w }
+loading-none w lits x = record { same = refl; holds = becomes-same w }
 
 module _ (w₀ lits : List ℕ) (x : ℕ) (w : List ℕ) (k : ℕ) (l : Loading w₀ lits x w k) where
   pub loading-inside : Inside (length w₀) lits → k < length lits → (at : ℕ) → at ≡ variable (get_or lits k 0) → at < length w
-  loading-inside i h at e = omega (arith, inside-at (length w₀) lits i k h)
+  loading-inside i h at e = omega (arith, l.same, inside-at (length w₀) lits i k h)
 
   pub loading-more : k < length lits → (at : ℕ) → at ≡ variable (get_or lits k 0) → at < length w → Loading w₀ lits x (set w at (x / 2 ^ k % 2)) (k + 1)
-  loading-more h at e a = record { passed = omega arith; same = simp length-set l.same; holds = record { so = λ v s. one v s } }
+  loading-more h at e a = record { same = simp length-set l.same; holds = record { so = λ v s. one v s } }
     where
       last : odd (x / 2 ^ k % 2) ≡ odd (x / 2 ^ k)
       last = let q : x / 2 ^ k % 2 % 2 ≡ x / 2 ^ k % 2 = omega arith in rw q
@@ -94,8 +95,8 @@ module _ (w₀ lits : List ℕ) (x : ℕ) (w : List ℕ) (k : ℕ) (l : Loading 
           let u : Valuation = assigned v (take k lits) (bits k x) in
           rw (assigned-next v lits x k h, ← e) (stored-set w u at (x / 2 ^ k % 2) (odd (x / 2 ^ k)) (l.holds.so v s) last a)
 
-  pub loading-done : length lits ≤ k → Becomes w₀ w (λ v. assigned v lits (bits (length lits) x))
-  loading-done h = let e : k ≡ length lits = omega arith in rw (e, take-length lits) at l.holds
+  pub loading-done : k ≡ length lits → Becomes w₀ w (λ v. assigned v lits (bits (length lits) x))
+  loading-done e = rw (e, take-length lits) at l.holds
 
 -- ---- run_gates
 
@@ -123,90 +124,79 @@ pub becomes-more : (w₀ w : List ℕ) (gs : List Gate) → Becomes w₀ w (λ v
     → Becomes w₀ u (λ v. computed v (gs ++ hs))
 becomes-more w₀ w gs a u hs b = record { so = λ v s. rw (computed_append v gs hs) (b.so (computed v gs) (a.so v s)) }
 
-abbrev pub gate_at : List ℕ → ℕ → Gate
-gate_at g at = gate_from (get_or g at 0) (get_or g (at + 1) 0) (get_or g (at + 2) 0)
-
 -- the first i gates are computed
-pub record Running (w₀ g : List ℕ) (count : ℕ) (w : List ℕ) (i at : ℕ) : Type 0 where
-  pub passed : i ≤ count
-  pub place : at ≡ 3 * i
+pub record Running (w₀ g w : List ℕ) (i : ℕ) : Type 0 where
   pub same : length w ≡ length w₀
   pub holds : Becomes w₀ w (λ v. computed v (take i (triples_of gate_from g)))
 
-pub running_none : (w g : List ℕ) (count : ℕ) → Running w g count w 0 0
-running_none w g count = record { passed = omega arith; place = refl; same = refl; holds = becomes-same w }
+pub running_none : (w g : List ℕ) → Running w g w 0
+running_none w g = record { same = refl; holds = becomes-same w }
 
-module _ (w₀ g : List ℕ) (count : ℕ) (w : List ℕ) (i at : ℕ) (r : Running w₀ g count w i at) where
+module _ (w₀ g w : List ℕ) (i : ℕ) (r : Running w₀ g w i) (count : ℕ) (n : count ≤ length g / 3) (h : i < count)
+    (a : Gate) (e : a ≡ gate_from (get_or g (3 * i) 0) (get_or g (3 * i + 1) 0) (get_or g (3 * i + 2) 0)) where
   abbrev gates : List Gate
   gates = triples_of gate_from g
 
-  pub running-done : count ≤ i → Becomes w₀ w (λ v. computed v (take count gates))
-  running-done h = let e : i ≡ count = omega arith in rw e at r.holds
+  here : get_or gates i a ≡ a
+  here = triples_at gate_from g i 0 a (omega arith) ∙ sym e
 
-  module _ (n : 3 * count ≤ length g) (h : i < count) where
-    here : get_or gates i (gate_at g at) ≡ gate_at g at
-    here = rw r.place (triples_at gate_from g i 0 (gate_at g (3 * i)) (omega arith))
+  enough : count ≤ length gates
+  enough = omega (arith, triples_count gate_from g)
 
-    enough : count ≤ length gates
-    enough = omega (arith, triples_count gate_from g)
+  pub running-inside : Each (InsideGate (length w₀)) (take count gates) → InsideGate (length w) a
+  running-inside k =
+      let f = each_at (InsideGate (length w₀)) (take count gates) i a k (rw (length-take-le count gates enough) h) in
+      rw r.same (rw (get_or-take count gates i a h, here) at f)
 
-    pub running-inside : Each (InsideGate (length w₀)) (take count gates) → InsideGate (length w) (gate_at g at)
-    running-inside k =
-        let f = each_at (InsideGate (length w₀)) (take count gates) i (gate_at g at) k (rw (length-take-le count gates enough) h) in
-        rw r.same (rw (get_or-take count gates i (gate_at g at) h, here) at f)
-
-    pub running_more : (u : List ℕ) → length u ≡ length w → Becomes w u (λ v. computed v (gate_at g at ∷ [])) → Running w₀ g count u (i + 1) (at + 3)
-    running_more u n k =
-        record {
-          passed = omega arith;
-          place = omega arith;
-          same = n ∙ r.same;
-          holds = rw (take_next gates i (gate_at g at) (omega (arith, enough)), here) (becomes-more w₀ w (take i gates) r.holds u (gate_at g at ∷ []) k);
-        }
+  pub running_more : (u : List ℕ) → length u ≡ length w → Becomes w u (λ v. computed v (a ∷ [])) → Running w₀ g u (i + 1)
+  running_more u n k =
+      record {
+        same = n ∙ r.same;
+        holds = rw (take_next gates i a (omega (arith, enough)), here) (becomes-more w₀ w (take i gates) r.holds u (a ∷ []) k);
+      }
 
 -- ---- word
 
 -- the literals from place k on are packed
-pub record Packing (w lits : List ℕ) (start k r : ℕ) : Type 0 where
-  pub passed : k ≤ length lits
-  pub stops : min start (length lits) ≤ k
+pub record Packing (w lits : List ℕ) (k r : ℕ) : Type 0 where
   pub is : r ≡ packed (map (value (held w)) (drop k lits))
 
-pub packing-none : (w lits : List ℕ) (start : ℕ) → Packing w lits start (length lits) 0
-packing-none w lits start = record { passed = omega arith; stops = omega arith; is = rw (drop_of_length-le lits {i = length lits} (omega arith)) }
+pub packing-none : (w lits : List ℕ) → Packing w lits (length lits) 0
+packing-none w lits = record { is = rw (drop_of_length-le lits {i = length lits} (omega arith)) }
 
-module _ (w lits : List ℕ) (start k r : ℕ) (p : Packing w lits start k r) where
-  pub packing-done : k ≤ start → r ≡ packed (map (value (held w)) (drop start lits))
-  packing-done h = p.is ∙ ⊎_elim (λ b. let e : k ≡ start = omega arith in rw e) empty (below_or start (length lits))
-    where
-      -- no literals, where they end before `start`
-      empty : length lits ≤ start → packed (map (value (held w)) (drop k lits)) ≡ packed (map (value (held w)) (drop start lits))
-      empty b = rw (drop_of_length-le lits {i = k} (omega arith), drop_of_length-le lits {i = start} b)
+module _ (w lits : List ℕ) (k r : ℕ) (p : Packing w lits k r) (h : 0 < k) (j : k ≤ length lits) where
+  pub packing-room : length lits ≤ 64 → (a : Bool) (b : ℕ) → b ≡ bit a → b + 2 * r < 18446744073709551616
+  packing-room n a b e =
+      let small : r < 2 ^ 63 = rw p.is (packed_under (map (value (held w)) (drop k lits)) 63 (rw (length-map, length-drop) (omega arith))) in
+      omega (arith, small, bit_lt a)
 
-  module _ (n : length lits ≤ start + 64) (h : start < k) where
-    small : r < 2 ^ 63
-    small = rw p.is (packed_under (map (value (held w)) (drop k lits)) 63 (rw (length-map, length-drop) (omega arith)))
+  pub packing-inside : Inside (length w) lits → variable (get_or lits (k - 1) 0) < length w
+  packing-inside i = inside-at (length w) lits i (k - 1) (omega arith)
 
-    pub packing-room : (a : Bool) (b : ℕ) → b ≡ bit a → b + 2 * r < 18446744073709551616
-    packing-room a b e = omega (arith, small, bit_lt a)
+  pub packing-more : (b : ℕ) → b ≡ bit (value (held w) (get_or lits (k - 1) 0)) → Packing w lits (k - 1) (b + 2 * r)
+  packing-more b e = let f : k - 1 + 1 ≡ k = omega arith in record { is = rw (rest_more lits (k - 1) 0 (omega arith), f, e, p.is) }
 
-    pub packing-inside : Inside (length w) lits → variable (get_or lits (k - 1) 0) < length w
-    packing-inside i = inside-at (length w) lits i (k - 1) (omega arith)
-
-    pub packing-more : (b : ℕ) → b ≡ bit (value (held w) (get_or lits (k - 1) 0)) → Packing w lits start (k - 1) (b + 2 * r)
-    packing-more b e =
-        let f : k - 1 + 1 ≡ k = omega arith in
-        record { passed = omega arith; stops = omega arith; is = rw (rest_more lits (k - 1) 0 (omega arith), f, e, p.is) }
+pub packing-done : (w lits : List ℕ) (k r : ℕ) → Packing w lits k r → k ≤ 0 → r ≡ packed (map (value (held w)) lits)
+packing-done w lits k r p h = let e : k ≡ 0 = omega arith in rw e at p.is
 
 -- ---- read_out
 
-pub read_low : (n : ℕ) (nexts outputs lits : List ℕ) → Readable n nexts outputs → lits ≡ take 64 outputs → (length lits ≤ 0 + 64) × Inside n lits
+pub read_low : (n : ℕ) (nexts outputs lits : List ℕ) → Readable n nexts outputs → lits ≡ take 64 outputs → (length lits ≤ 64) × Inside n lits
 read_low n nexts outputs lits r e = rw e (omega (arith, length-take 64 outputs), each_take (λ (l : ℕ). variable l < n) 64 outputs r.inside_outputs)
 
-pub read_all : (v : Valuation) (nexts outputs lits : List ℕ) (target high low : ℕ) → lits ≡ take 64 outputs
-    → target ≡ packed (map (value v) nexts) → high ≡ packed (map (value v) (drop 64 outputs)) → low ≡ packed (map (value v) lits)
+each_drop : (P : ℕ → Type 0) (n : ℕ) (l : List ℕ) → Each P l → Each P (drop n l)
+each_drop P zero l e = e
+each_drop P (suc n) [] e = tt
+each_drop P (suc n) (x ∷ l) e = each_drop P n l e.1
+
+pub read_high : (n : ℕ) (nexts outputs lits : List ℕ) → Readable n nexts outputs → lits ≡ part outputs 64 (length outputs) → (length lits ≤ 64) × Inside n lits
+read_high n nexts outputs lits r e =
+    rw (e, part-drop outputs 64) (omega (arith, length-drop 64 outputs, r.few_outputs), each_drop (λ (l : ℕ). variable l < n) 64 outputs r.inside_outputs)
+
+pub read_all : (v : Valuation) (nexts outputs highs lits : List ℕ) (target high low : ℕ) → highs ≡ part outputs 64 (length outputs) → lits ≡ take 64 outputs
+    → target ≡ packed (map (value v) nexts) → high ≡ packed (map (value v) highs) → low ≡ packed (map (value v) lits)
     → ◌≡◌ {A = Outcome} (record { target = target; high = high; low = low }) (readings v nexts outputs)
-read_all v nexts outputs lits target high low q t h l =
-    let b : high ≡ packed (drop 64 (map (value v) outputs)) = h ∙ rw (map-drop (value v) 64 outputs) in
+read_all v nexts outputs highs lits target high low p q t h l =
+    let b : high ≡ packed (drop 64 (map (value v) outputs)) = h ∙ rw (p, part-drop outputs 64, map-drop (value v) 64 outputs) in
     let c : low ≡ packed (take 64 (map (value v) outputs)) = l ∙ rw (q, map-take (value v) 64 outputs) in
     rw (t, b, c)

@@ -8,8 +8,6 @@ use Rattle.model.specs.declared.AigerTransition.{AigerTransition}
 use Rattle.model.specs.Circuit.{Circuit, currents_of, nexts_of}
 use Rattle.model.specs.Checked.{checked}
 use Rattle.model_step.specs.declared.Outcome.{Outcome}
-use Rattle.model_step.specs.declared.Stepped.{Stepped}
-use Rattle.model_step.specs.declared.Stepped.TheVariants.{Done, Refused}
 
 -- R6.3: the values at the beginning: every variable is false
 abbrev pub start : Valuation
@@ -56,8 +54,3 @@ step_of m g w s x =
     unless 12 (ltb s (2 ^ length c.latches))
     (unless 12 (ltb x (2 ^ length c.inputs))
     (got (outcome_under c (step_values c s x)))))
-
--- R12.13: what the call's answer says: the outcome, or the number of the reason
-abbrev pub answer_of : Stepped → Answer Outcome
-answer_of (Done o) = got o
-answer_of (Refused n) = refused n

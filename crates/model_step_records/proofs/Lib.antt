@@ -1,5 +1,3 @@
--- Laws of the passes over records, and a slice that is lent again.
-pub mod PassLaws
-pub mod BeginLaws
-pub mod TakeLaws
+-- Gates as records and as words, and a slice that is lent again.
+pub mod RecordLaws
 pub mod Again

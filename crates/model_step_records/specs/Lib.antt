@@ -1,2 +1,1 @@
--- The step (R6) over a lent list of records (R12.4).
-pub mod Inner
+-- The step (R6) over a lent list of records (R12.4): its promise is `step_of`, of the words of the records.

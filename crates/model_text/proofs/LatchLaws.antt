@@ -24,10 +24,8 @@ use Rattle.text.proofs.FieldLaws.{fields_none, fields_some}
 use Rattle.text.proofs.LiteralLaws.{Writes, WritesNone, fields_missing, fields_unreadable, fields_got}
 use Rattle.model.specs.declared.AigerLatch.{AigerLatch}
 use Rattle.model_text.specs.ModelLines.{is_number, initializer, latch_fields, latch_line}
-use Rattle.model_text.specs.Inner.Takes.{TakesLatch}
 use Rattle.model_text.specs.Inner.OneLine.{initializers}
 use Rattle.circuit_lines.specs.Inner.OneLine.{answer_or}
-use Rattle.circuit_lines.proofs.PlaceLaws.{one_none, one_bad, one_got}
 use Rattle.text.specs.declared.Taken.TheVariants as taken
 
 -- ---- initializer_holds
@@ -74,7 +72,7 @@ module _ (l : Bytes) (at current : ℕ) (f : Option Field) (q : f ≡ field_at l
     pub end_one : b ≡ false → (r : Bool) → r ≡ initializer current (part l x.start x.end) → r ≡ initializers current (fields_of (drop at l))
     end_one u r p = p ∙ rest [] (one g refl (sym t ∙ u))
 
--- ---- latch_line
+-- ---- the line of a latch
 
 -- two readable literals
 latch_read : (c n : Bytes) (v w : ℕ) → number_of Transition c ≡ Some v → number_of Transition n ≡ Some w → (fs : List Bytes)
@@ -134,16 +132,3 @@ module _ (l : Bytes) (t : Taken) (q : t ≡ taken_at Transition l 0) where
 
       pub latch_none : r ≡ false → answer_or 8 None ≡ latch_line l
       latch_none e = sym (rw e at read_both)
-
--- ---- take_latch
-
-module _ (s : Bytes) (c : Cursor) (r : Option Line) (q : r ≡ line_at s c.at) where
-  pub no_latch_line : r ≡ None → TakesLatch s c None
-  no_latch_line k = one_none latch_line s c r q k
-
-  module _ (l : Line) (k : r ≡ Some l) (x : Option AigerLatch) (p : answer_or 8 x ≡ latch_line (part s l.start l.end)) where
-    pub latch_bad : x ≡ None → TakesLatch s c None
-    latch_bad u = one_bad latch_line s c r q l k (sym p ∙ ap (answer_or 8) u)
-
-    pub latch_got : (g : AigerLatch) → x ≡ Some g → TakesLatch s c (Some (record { value = g; next = l.next }))
-    latch_got g u = one_got latch_line s c r q l k g (sym p ∙ ap (answer_or 8) u)

@@ -1,5 +1,4 @@
 -- What is proved of the functions that take the header and the latch lines.
 pub mod LatchLaws
 pub mod HeaderLaws
-pub mod StoringLaws
 pub mod Examples

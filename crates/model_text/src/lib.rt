@@ -1,16 +1,17 @@
 // The header and the latch lines of a transition text (R5). Its other lines are those of `circuit_lines`.
 #![tactic(auto)]
 
-ghost use Rattle.std.specs.Prelude.{◌≡◌, ◌≤◌, drop};
+ghost use Rattle.std.specs.Prelude.{◌≡◌, drop};
 ghost use Rattle.text.specs.Fields.{fields_of};
 ghost use Rattle.model_text.specs.Header.{counts_from};
 ghost use Rattle.model_text.specs.ModelLines.{initializer, latch_line};
-ghost use Rattle.model_text.specs.Inner.Takes.{TakesCounts, TakesLatch, TakesLatches};
+ghost use Rattle.model_text.specs.Inner.Takes.{TakesCounts};
 ghost use Rattle.model_text.specs.Inner.OneLine.{initializers};
 ghost use Rattle.circuit_lines.specs.Inner.OneLine.{answer_or};
 
+use circuit_lines::{LineKind, TakeLine};
 use model::{AigerLatch, Counts};
-use text::{Cursor, Parsed, Reader, Taken};
+use text::{Parsed, Reader, Taken};
 
 fn counts_of(ns: [u64; 5]) -> Counts
     ensures { result ≡ counts_from ns }
@@ -66,54 +67,31 @@ fn latch_end(l: &[u8], at: usize, current: u64) -> bool
     initializer_holds(&l[field.start..field.end], current)
 }
 
-// The latch of a line.
-fn latch_line(l: &[u8]) -> Option<AigerLatch>
-    ensures { answer_or 8 result ≡ latch_line l.now }
-{
-    let Taken::Got {
-        value: current,
-        next: at,
-    } = text::next_number(Reader::Transition, l, 0)
-    else {
-        return None;
-    };
-    let Taken::Got { value: next, next: end } = text::next_number(Reader::Transition, l, at) else {
-        return None;
-    };
-    if !latch_end(l, end, current) {
-        return None;
+// Lines with a latch: its literal, its next literal and perhaps an initializer.
+#[derive(Clone, Copy)]
+pub struct LatchLine {}
+
+impl LineKind for LatchLine {
+    type Item = AigerLatch;
+
+    ghost item = { λ kind. latch_line };
+
+    fn read(self, line: &[u8]) -> Option<AigerLatch> {
+        let Taken::Got {
+            value: current,
+            next: at,
+        } = text::next_number(Reader::Transition, line, 0)
+        else {
+            return None;
+        };
+        let Taken::Got { value: next, next: end } = text::next_number(Reader::Transition, line, at) else {
+            return None;
+        };
+        if !latch_end(line, end, current) {
+            return None;
+        }
+        Some(AigerLatch { current, next })
     }
-    Some(AigerLatch { current, next })
 }
 
-// The latch of the line at a cursor.
-fn take_latch(s: &[u8], cursor: Cursor) -> Option<Parsed<AigerLatch>>
-    ensures { TakesLatch s.now cursor result }
-{
-    let line = text::next_line(s, cursor)?;
-    let value = latch_line(&s[line.start..line.end])?;
-    Some(Parsed {
-        value,
-        next: line.next,
-    })
-}
-
-// The latches of the n lines from a cursor on, with zeros past them; none for n above 8.
-pub fn take_latches(s: &[u8], cursor: Cursor, n: usize) -> Option<Parsed<[AigerLatch; 8]>>
-    ensures { n ≤ 8 → TakesLatches s.now cursor n result }
-{
-    if 8 < n {
-        return None;
-    }
-    let mut value = [AigerLatch {
-        current: 0,
-        next: 0,
-    }; 8];
-    let mut next = cursor;
-    for i in 0..n {
-        let latch = take_latch(s, next)?;
-        value[i] = latch.value;
-        next = latch.next;
-    }
-    Some(Parsed { value, next })
-}
+impl TakeLine for LatchLine {}

@@ -21,6 +21,5 @@ pub extern "C" fn nit_step_records(
 ) -> NitStepped
     ensures { StepsFlat (step_of (record_in model.now) (words_of gate_words gates.now) (length work.old) state input) work.old result work.new }
 {
-    let stepped = model_step_records::evaluate_records(model, gates, work, state, input);
-    models::flat_stepped(stepped)
+    models::flat_stepped(model_step_records::evaluate_records(model, gates, work, state, input))
 }

@@ -2,12 +2,13 @@
 ghost use Rattle.std.specs.Prelude.{◌≡◌, length};
 ghost use Rattle.model.specs.RecordWords.{record_in};
 ghost use Rattle.model_read.specs.Reading.{read_transition};
-ghost use Rattle.model_step.specs.Step.{step_of, answer_of};
-ghost use Rattle.nitrasovy.specs.Inner.FlatEnums.{reason_of};
+ghost use Rattle.aiger.specs.Refusals.{answered};
+ghost use Rattle.model_step.specs.Step.{step_of};
 ghost use Rattle.nitrasovy.specs.FlatModels.{flat_step, ReadsFlat, StepsFlat};
 
-use model::{AigerTransition, Verdict, words};
-use model_step::Stepped;
+use aiger::Refusal;
+use model::{AigerTransition, LentModel};
+use model_step::Outcome;
 
 // Reason 0 and the model, or the number of the reason and a record of zeros.
 #[repr(C)]
@@ -27,42 +28,32 @@ pub struct NitStepped {
     pub low: u64,
 }
 
-// The number of a verdict: 0 where there is a model.
-pub fn reason_of(verdict: Verdict) -> u64
-    ensures { result ≡ reason_of verdict }
-{
-    match verdict {
-        Verdict::Valid => 0,
-        Verdict::Refused(reason) => reason,
-    }
-}
-
 // Reads a transition model from a text; its gate words go to the front of `gates`.
 #[unsafe(no_mangle)]
 pub extern "C" fn nit_read_transition(text: &[u8], gates: &mut [u64], work: &mut [u64]) -> NitRead
     ensures { ReadsFlat (read_transition text.now (length gates.old) (length work.old)) gates.old work.old result gates.new work.new }
 {
-    let read = model_read::parse_ascii_aiger_transition(text, gates, work);
-    let verdict = read.verdict;
-    let model = read.model;
-    NitRead {
-        reason: reason_of(verdict),
-        model: model,
+    match model_read::parse_ascii_aiger_transition(text, gates, work) {
+        Ok(model) => NitRead { reason: 0, model },
+        Err(refusal) => NitRead {
+            reason: u64::from(refusal),
+            model: model_read::no_model(),
+        },
     }
 }
 
-pub fn flat_stepped(stepped: Stepped) -> NitStepped
-    ensures { result ≡ flat_step (answer_of stepped) }
+pub fn flat_stepped(stepped: Result<Outcome, Refusal>) -> NitStepped
+    ensures { result ≡ flat_step (answered stepped) }
 {
     match stepped {
-        Stepped::Done(o) => NitStepped {
+        Ok(outcome) => NitStepped {
             reason: 0,
-            target: o.target,
-            high: o.high,
-            low: o.low,
+            target: outcome.target,
+            high: outcome.high,
+            low: outcome.low,
         },
-        Stepped::Refused(reason) => NitStepped {
-            reason: reason,
+        Err(refusal) => NitStepped {
+            reason: u64::from(refusal),
             target: 0,
             high: 0,
             low: 0,
@@ -81,15 +72,6 @@ pub extern "C" fn nit_step(
 ) -> NitStepped
     ensures { StepsFlat (step_of (record_in model.now) gates.now (length work.old) state input) work.old result work.new }
 {
-    let stepped = model_step::evaluate_parts(
-        words::counts(model),
-        words::inputs(model),
-        words::latches(model),
-        words::outputs(model),
-        gates,
-        work,
-        state,
-        input,
-    );
-    flat_stepped(stepped)
+    let lent = LentModel::from_words(model);
+    flat_stepped(model_step::evaluate(&lent, &gates, work, state, input))
 }

@@ -1,13 +1,18 @@
 // The obligations: rows, rows with outputs, and terminal lists. A model is lent as the words of its memory.
 ghost use Rattle.std.specs.Prelude.{◌≡◌};
+ghost use Rattle.aiger.specs.Refusals.{answered};
 ghost use Rattle.model.specs.RecordWords.{record_in};
 ghost use Rattle.obligation_spec.specs.Calls.{asked_of};
-ghost use Rattle.obligation.specs.Promise.{answer_of, buffers_of};
+ghost use Rattle.obligation_check.specs.Questions.{asked_in};
+ghost use Rattle.obligation.specs.Promise.{buffers_of};
 ghost use Rattle.nitrasovy.specs.Inner.FlatEnums.{flat_sizes};
 ghost use Rattle.nitrasovy.specs.FlatObligations.{RelationFlat, TransducerFlat, TerminalFlat};
 
-use model::words;
-use obligation::{Made, relation, terminal, transducer};
+use aiger::Refusal;
+use cnf::ClauseCounts;
+use model::LentModel;
+use obligation::Claim;
+use obligation_check::Question;
 
 // Reason 0 and the numbers of clauses and literals, or the number of the reason and zeros.
 #[repr(C)]
@@ -18,32 +23,52 @@ pub struct NitMade {
     pub literals: usize,
 }
 
-fn flat_made(made: Made) -> NitMade
-    ensures { result ≡ flat_sizes (answer_of made) }
+fn flat_made(made: Result<ClauseCounts, Refusal>) -> NitMade
+    ensures { result ≡ flat_sizes (answered made) }
 {
     match made {
-        Made::Clauses(appended) => NitMade {
+        Ok(appended) => NitMade {
             reason: 0,
             clauses: appended.clauses,
             literals: appended.literals,
         },
-        Made::Refused(reason) => NitMade {
-            reason: reason,
+        Err(refusal) => NitMade {
+            reason: u64::from(refusal),
             clauses: 0,
             literals: 0,
         },
     }
 }
 
+// What is asked about a model that is lent as its words.
+fn question<'a>(
+    model: &'a [u64],
+    gates: &'a [u64],
+    relevant: &'a [u64],
+    predicate_pairs: &'a [u64],
+    predicate_literals: &'a [u32],
+) -> Question<'a>
+    ensures { asked_in result ≡ asked_of (record_in model.now) gates.now relevant.now predicate_pairs.now predicate_literals.now }
+{
+    let lent = LentModel::from_words(model);
+    Question {
+        model: lent,
+        gates,
+        relevant,
+        predicate_pairs,
+        predicate_literals,
+    }
+}
+
 // A row with claimed targets.
 #[unsafe(no_mangle)]
-pub extern "C" fn nit_relation_row(
-    model: &[u64],
-    gates: &[u64],
-    relevant: &[u64],
+pub extern "C" fn nit_relation_row<'a>(
+    model: &'a [u64],
+    gates: &'a [u64],
+    relevant: &'a [u64],
     source: u64,
-    predicate_pairs: &[u64],
-    predicate_literals: &[u32],
+    predicate_pairs: &'a [u64],
+    predicate_literals: &'a [u32],
     targets: &[u64],
     work: &mut [u64],
     pairs: &mut [u64],
@@ -51,33 +76,25 @@ pub extern "C" fn nit_relation_row(
 ) -> NitMade
     ensures { RelationFlat (asked_of (record_in model.now) gates.now relevant.now predicate_pairs.now predicate_literals.now) source targets.now (buffers_of pairs.old literals.old work.old) result (buffers_of pairs.new literals.new work.new) }
 {
-    let made = relation::row_parts(
-        words::counts(model),
-        words::inputs(model),
-        words::latches(model),
-        words::outputs(model),
-        gates,
-        relevant,
-        source,
-        predicate_pairs,
-        predicate_literals,
-        targets,
+    let question = question(model, gates, relevant, predicate_pairs, predicate_literals);
+    flat_made(obligation::make(
+        &question,
+        Claim::Relation { source, targets },
         work,
         pairs,
         literals,
-    );
-    flat_made(made)
+    ))
 }
 
 // A row with claimed outcomes.
 #[unsafe(no_mangle)]
-pub extern "C" fn nit_transducer_row(
-    model: &[u64],
-    gates: &[u64],
-    relevant: &[u64],
+pub extern "C" fn nit_transducer_row<'a>(
+    model: &'a [u64],
+    gates: &'a [u64],
+    relevant: &'a [u64],
     source: u64,
-    predicate_pairs: &[u64],
-    predicate_literals: &[u32],
+    predicate_pairs: &'a [u64],
+    predicate_literals: &'a [u32],
     observed: &[u64],
     outcomes: &[u64],
     work: &mut [u64],
@@ -86,33 +103,28 @@ pub extern "C" fn nit_transducer_row(
 ) -> NitMade
     ensures { TransducerFlat (asked_of (record_in model.now) gates.now relevant.now predicate_pairs.now predicate_literals.now) source observed.now outcomes.now (buffers_of pairs.old literals.old work.old) result (buffers_of pairs.new literals.new work.new) }
 {
-    let made = transducer::row_parts(
-        words::counts(model),
-        words::inputs(model),
-        words::latches(model),
-        words::outputs(model),
-        gates,
-        relevant,
-        source,
-        predicate_pairs,
-        predicate_literals,
-        observed,
-        outcomes,
+    let question = question(model, gates, relevant, predicate_pairs, predicate_literals);
+    flat_made(obligation::make(
+        &question,
+        Claim::Transducer {
+            source,
+            observed,
+            outcomes,
+        },
         work,
         pairs,
         literals,
-    );
-    flat_made(made)
+    ))
 }
 
 // A terminal list.
 #[unsafe(no_mangle)]
-pub extern "C" fn nit_terminal(
-    model: &[u64],
-    gates: &[u64],
-    relevant: &[u64],
-    predicate_pairs: &[u64],
-    predicate_literals: &[u32],
+pub extern "C" fn nit_terminal<'a>(
+    model: &'a [u64],
+    gates: &'a [u64],
+    relevant: &'a [u64],
+    predicate_pairs: &'a [u64],
+    predicate_literals: &'a [u32],
     bad_output: u64,
     states: &[u64],
     work: &mut [u64],
@@ -121,20 +133,15 @@ pub extern "C" fn nit_terminal(
 ) -> NitMade
     ensures { TerminalFlat (asked_of (record_in model.now) gates.now relevant.now predicate_pairs.now predicate_literals.now) bad_output states.now (buffers_of pairs.old literals.old work.old) result (buffers_of pairs.new literals.new work.new) }
 {
-    let made = terminal::list_parts(
-        words::counts(model),
-        words::inputs(model),
-        words::latches(model),
-        words::outputs(model),
-        gates,
-        relevant,
-        predicate_pairs,
-        predicate_literals,
-        bad_output,
-        states,
+    let question = question(model, gates, relevant, predicate_pairs, predicate_literals);
+    flat_made(obligation::make(
+        &question,
+        Claim::Terminal {
+            bad: bad_output,
+            states,
+        },
         work,
         pairs,
         literals,
-    );
-    flat_made(made)
+    ))
 }

@@ -2,6 +2,7 @@
 use Prim.Native.Nat.{ℕ, ◌≤◌, ◌<◌, ◌^◌}
 use mathlib.Core.Bool.{true, false}
 use mathlib.Core.List.{List, [], ◌++◌, map}
+use Rattle.std.specs.Prelude.{Result}
 use mathlib.Core.Path.{◌≡◌, sym, ap, subst, ◌∙◌}
 use native.Mathlib.Omega.{arith}
 use lib.ListN.{length, get_or, take, length-map}
@@ -23,7 +24,8 @@ use Rattle.obligation_claims.specs.Inner.Claims.{keys_from, outcome_keys, state_
 use Rattle.obligation_claims.specs.Inner.Filling.{InOrder}
 use Rattle.obligation_claims.proofs.ClaimLaws.{state-clauses, outcome-clauses}
 use Rattle.obligation_claims.proofs.KeyLaws.{picked_low}
-use Rattle.obligation.specs.declared.Made.{Made}
+use Rattle.cnf.specs.declared.ClauseCounts.{ClauseCounts}
+use Rattle.aiger.specs.declared.Refusal.{Refusal}
 use Rattle.obligation.specs.Inner.Appended.{parts_of, claimed_of, all_lists, Ready, Asks, MakesAll}
 use Rattle.obligation.proofs.ListLaws.{relation_is, transducer_is, terminal_is}
 use Rattle.obligation.proofs.ReadyLaws.{low-nexts, low-currents, low-outputs, few-nexts, few-currents, row-ready, terminal_ready, few_states, few_outcomes, few-observed, states_ready, outcomes_ready}
@@ -79,7 +81,7 @@ module _ (q : Asked) (a : Asks q) (sized : Sized q.model) where
           ∙ ap (λ (ls : List ℕ). map simplified (map (λ s. differing ls (bits (length ls) s)) targets)) ne
           ∙ ap (λ (n : ℕ). map simplified (map (λ s. differing (nexts_of (circuit q)) (bits n s)) targets)) (length-map (circuit q).latches next_of))
 
-      pub relation_made : (pairs literals : List ℕ) (r : Made) (pairs' literals' : List ℕ)
+      pub relation_made : (pairs literals : List ℕ) (r : Result ClauseCounts Refusal) (pairs' literals' : List ℕ)
           → MakesAll (words_of simplified (all_lists (parts_of currents source inputs q.relevant q.pairs q.words q.gates q.model.and_count) (claimed_of keys targets false) 1)) pairs literals r pairs' literals'
           → MakesAll (relation_clauses (circuit q) q.relevant (predicate q) source targets) pairs literals r pairs' literals'
       relation_made pairs literals r pairs' literals' m =
@@ -111,7 +113,7 @@ module _ (q : Asked) (a : Asks q) (sized : Sized q.model) where
           ∙ ap (λ (n : ℕ). map simplified (map (λ o. differing (nexts_of (circuit q)) (bits n o.target) ++ differing seen (output_bits o)) (outcomes_of outcomes))) (length-map (circuit q).latches next_of)
           ∙ ap (λ (os : List ℕ). map simplified (map (λ o. target_list (circuit q) o.target ++ differing (map (λ i. get_or os i 0) observed) (output_bits o)) (outcomes_of outcomes))) oe)
 
-      pub transducer_made : (pairs literals : List ℕ) (r : Made) (pairs' literals' : List ℕ)
+      pub transducer_made : (pairs literals : List ℕ) (r : Result ClauseCounts Refusal) (pairs' literals' : List ℕ)
           → MakesAll (words_of simplified (all_lists (parts_of currents source inputs q.relevant q.pairs q.words q.gates q.model.and_count) (claimed_of keys outcomes true) 1)) pairs literals r pairs' literals'
           → MakesAll (transducer_clauses (circuit q) q.relevant (predicate q) source observed (outcomes_of outcomes)) pairs literals r pairs' literals'
       transducer_made pairs literals r pairs' literals' m =
@@ -139,7 +141,7 @@ module _ (q : Asked) (a : Asks q) (sized : Sized q.model) where
         ∙ ap (λ (ls : List ℕ). map simplified (map (λ s. differing ls (bits (length ls) s)) states)) ce
         ∙ ap (λ (n : ℕ). map simplified (map (λ s. differing (currents_of (circuit q)) (bits n s)) states)) (length-map (circuit q).latches current_of))
 
-    pub terminal_made : (pairs literals : List ℕ) (r : Made) (pairs' literals' : List ℕ)
+    pub terminal_made : (pairs literals : List ℕ) (r : Result ClauseCounts Refusal) (pairs' literals' : List ℕ)
         → MakesAll (words_of simplified (all_lists (parts_of none 0 inputs q.relevant q.pairs q.words q.gates q.model.and_count) (claimed_of keys states false) last)) pairs literals r pairs' literals'
         → MakesAll (terminal_clauses (circuit q) q.relevant (predicate q) bad states) pairs literals r pairs' literals'
     terminal_made pairs literals r pairs' literals' m =

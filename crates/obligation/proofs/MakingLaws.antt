@@ -16,6 +16,10 @@ use Rattle.cnf.proofs.AppendLaws.{appends_then, space-empty, space-less, space-l
 use Rattle.obligation_spec.specs.Lists.{source_lists, predicate_literal, gate_lists}
 use Rattle.obligation_gates.proofs.SourceLaws.{count}
 use Rattle.obligation_claims.specs.Inner.Claims.{claim_list, state_claims, outcome_claims}
+use Rattle.obligation.specs.declared.making.Claims.{Claims}
+use Rattle.obligation.specs.declared.making.Claims.TheVariants.{States, Outcomes}
+use Rattle.obligation.specs.Inner.Planned.{count_in, words_in, wide_in}
+use Rattle.obligation_gates.specs.Inner.Encoding.{Bounded}
 use Rattle.obligation.specs.Inner.Appended.{Parts, Claimed, claimed_of, front_lists, claim_lists, all_lists, claim_count, FrontReady, ClaimsReady, empty}
 
 module _ (p : Parts) (f : FrontReady p) where
@@ -85,12 +89,6 @@ module _ (p : Parts) (f : FrontReady p) where
 states_many : (keys states : List ℕ) → length (state_claims keys states) ≡ length states
 states_many keys states = length-map states (λ s. claim_list keys (s ∷ []))
 
-pub count-wide : (words : ℕ) (wide : Bool) → wide ≡ true → words / 3 ≡ claim_count words wide
-count-wide words wide e = rw e refl
-
-pub count-narrow : (words : ℕ) (wide : Bool) → wide ≡ false → words ≡ claim_count words wide
-count-narrow words wide e = rw e refl
-
 pub claims_many : (keys words : List ℕ) (wide : Bool) → length (claim_lists (claimed_of keys words wide)) ≡ claim_count (length words) wide
 claims_many keys words true = triples_count (λ t h l. claim_list keys (t ∷ h ∷ l ∷ [])) words
 claims_many keys words false = states_many keys words
@@ -109,9 +107,17 @@ module _ (keys words : List ℕ) (at : ClauseCounts) (s : Space at 1000000) wher
   pub outcomes_space : (wide : Bool) → ClaimsReady (claimed_of keys words wide) → Space at (length words / 3)
   outcomes_space wide d = space-less at (length words / 3) 1000000 (omega (arith, d.few_words)) s
 
-module _ (keys words : List ℕ) (wide : Bool) (a b : ClauseCounts) (p w p' w' : List ℕ) where
-  pub claims-wide : wide ≡ true → Appends (outcome_claims keys words) a p w b p' w' → Appends (claim_lists (claimed_of keys words wide)) a p w b p' w'
-  claims-wide e g = rw e g
+-- ---- a plan of the code
 
-  pub claims-narrow : wide ≡ false → Appends (state_claims keys words) a p w b p' w' → Appends (claim_lists (claimed_of keys words wide)) a p w b p' w'
-  claims-narrow e g = rw e g
+pub count_same : (claims : Claims) → count_in claims ≡ claim_count (length (words_in claims)) (wide_in claims)
+count_same (States words) = refl
+count_same (Outcomes words) = refl
+
+-- inputs as the code lends them
+pub bounded_inputs : (p : Parts) → FrontReady p → (is : List ℕ) → is ≡ p.inputs → Bounded is p.relevant p.pairs p.words
+bounded_inputs p f is e = rw e f.bounded
+
+pub limited_inputs : (p : Parts) (is : List ℕ) → is ≡ p.inputs → (a b : ClauseCounts) (ps ws ps' ws' : List ℕ)
+    → Appends (map (map (predicate_literal is p.relevant)) (clauses_in p.words p.pairs)) a ps ws b ps' ws'
+    → Appends (map (map (predicate_literal p.inputs p.relevant)) (clauses_in p.words p.pairs)) a ps ws b ps' ws'
+limited_inputs p is e a b ps ws ps' ws' g = rw e at g

@@ -1,6 +1,7 @@
 -- From the clauses to the promise of a call: the answer by cases, the buffers, and the meaning.
 use Prim.Native.Nat.{ℕ, ◌*◌, ◌/◌, ◌≤◌, ◌<◌}
 use mathlib.Core.List.{List}
+use Rattle.std.specs.Prelude.{Result, Ok, Err}
 use mathlib.Core.Path.{◌≡◌, refl, sym, ap, ◌∙◌}
 use native.Mathlib.Omega.{arith}
 use borrow.Author.Tests.{le-leb, lt-leb}
@@ -15,9 +16,10 @@ use Rattle.cnf.specs.Inner.Appending.{Holding}
 use Rattle.cnf.proofs.AppendLaws.{holding-pairs, holding-words}
 use Rattle.obligation_spec.specs.Calls.{Asked, within, relation_row, transducer_row, terminal_list}
 use Rattle.obligation_spec.proofs.ReturnedLaws.{in_buffers, relation_returned, transducer_returned, terminal_returned}
-use Rattle.obligation.specs.declared.Made.{Made}
-use Rattle.obligation.specs.declared.Made.TheVariants.{Clauses, Refused}
-use Rattle.obligation.specs.Promise.{answer_of, sizes, pairs_after, literals_after, Buffers, lent_of, Makes, clauses_after, MakesRelation, MakesTransducer, MakesTerminal}
+use Rattle.aiger.specs.declared.Refusal.{Refusal}
+use Rattle.aiger.specs.declared.Refusal.TheVariants.{ResultRoom}
+use Rattle.aiger.specs.Refusals.{refusal_number, answered}
+use Rattle.obligation.specs.Promise.{sizes, pairs_after, literals_after, Buffers, lent_of, Makes, clauses_after, MakesRelation, MakesTransducer, MakesTerminal}
 use Rattle.obligation.specs.Inner.Appended.{room_of, Continues, MakesAll}
 
 -- ---- an accepted answer: its clauses are those in the buffers at exit
@@ -31,7 +33,7 @@ stands : (cs : List Clause) (t : ClauseCounts) (pairs words pairs' words' : List
     → returned t.clauses pairs' words' ≡ in_buffers cs pairs words
 stands cs t pairs words pairs' words' s p l = rw (← s, p, l) refl
 
-returned-by : (answer : Answer (List Clause)) (b : Buffers) (r : Made) (after : Buffers) (t : ClauseCounts) → Makes answer b r after → answer_of r ≡ got t → Returned answer b t after
+returned-by : (answer : Answer (List Clause)) (b : Buffers) (r : Result ClauseCounts Refusal) (after : Buffers) (t : ClauseCounts) → Makes answer b r after → answered r ≡ got t → Returned answer b t after
 returned-by answer b r after t m e =
     let a = and_then-got answer (λ cs. got (sizes cs)) t (sym m.answers ∙ e) in
     let cs : List Clause = a.0 in
@@ -41,7 +43,7 @@ returned-by answer b r after t m e =
     let l : after.literals ≡ front b.literals (literals_of cs) = m.literals ∙ ap (λ (x : Answer (List Clause)). literals_after x b.literals) is in
     record { clauses = cs; is = is; stand = stands cs t b.pairs b.literals after.pairs after.literals s p l }
 
-module _ (q : Asked) (sized : Sized q.model) (b : Buffers) (r : Made) (after : Buffers) where
+module _ (q : Asked) (sized : Sized q.model) (b : Buffers) (r : Result ClauseCounts Refusal) (after : Buffers) where
   pub relation_promise : (source : ℕ) (targets : List ℕ) → Makes (relation_row q source targets (lent_of b)) b r after → MakesRelation q source targets b r after
   relation_promise source targets m =
       record {
@@ -69,12 +71,12 @@ module _ (q : Asked) (sized : Sized q.model) (b : Buffers) (r : Made) (after : B
 -- ---- the answer by cases
 
 -- a refusal, with the buffers as they were and the work words zero
-pub makes-refused : (answer : Answer (List Clause)) (n : ℕ) (pairs literals work work' : List ℕ) → answer ≡ refused n → work' ≡ zeros (length work)
-    → Makes answer (record { pairs = pairs; literals = literals; work = work }) (Refused n) (record { pairs = pairs; literals = literals; work = work' })
+pub makes-refused : (answer : Answer (List Clause)) (n : Refusal) (pairs literals work work' : List ℕ) → answer ≡ refused (refusal_number n) → work' ≡ zeros (length work)
+    → Makes answer (record { pairs = pairs; literals = literals; work = work }) (Err n) (record { pairs = pairs; literals = literals; work = work' })
 makes-refused answer n pairs literals work work' e z = record { answers = rw e refl; pairs = rw e refl; literals = rw e refl; clears = z }
 
 -- what is left of a call
-pub makes-rest : (answer rest : Answer (List Clause)) (pairs literals work : List ℕ) (r : Made) (pairs' literals' work' : List ℕ)
+pub makes-rest : (answer rest : Answer (List Clause)) (pairs literals work : List ℕ) (r : Result ClauseCounts Refusal) (pairs' literals' work' : List ℕ)
     → answer ≡ rest → Continues rest pairs literals r pairs' literals' → work' ≡ zeros (length work)
     → Makes answer (record { pairs = pairs; literals = literals; work = work }) r (record { pairs = pairs'; literals = literals'; work = work' })
 makes-rest answer rest pairs literals work r pairs' literals' work' e m z =
@@ -86,14 +88,14 @@ module _ (cs : List Clause) (pairs literals : List ℕ) (p w p' w' : List ℕ) (
   within_no_pairs : length pairs / 2 < size.clauses → within (room_of pairs literals) cs ≡ refused 20
   within_no_pairs k = rw (lt-leb (2 * length cs) (length pairs) (omega (arith, h.clauses))) refl
 
-  pub no_pairs : length pairs / 2 < size.clauses → MakesAll cs pairs literals (Refused 20) pairs literals
+  pub no_pairs : length pairs / 2 < size.clauses → MakesAll cs pairs literals (Err ResultRoom) pairs literals
   no_pairs k = let e = within_no_pairs k in record { answers = rw e refl; pairs_are = rw e refl; literals_are = rw e refl }
 
   module _ (k : size.clauses ≤ length pairs / 2) where
     within_no_words : length literals < size.literals → within (room_of pairs literals) cs ≡ refused 20
     within_no_words j = rw (le-leb (2 * length cs) (length pairs) (omega (arith, h.clauses)), lt-leb (length (literals_of cs)) (length literals) (omega (arith, h.literals))) refl
 
-    pub no_words : length literals < size.literals → MakesAll cs pairs literals (Refused 20) pairs literals
+    pub no_words : length literals < size.literals → MakesAll cs pairs literals (Err ResultRoom) pairs literals
     no_words j = let e = within_no_words j in record { answers = rw e refl; pairs_are = rw e refl; literals_are = rw e refl }
 
     module _ (j : size.literals ≤ length literals) (at : ClauseCounts) (pairs' literals' : List ℕ) (g : Holding pairs literals cs at pairs' literals') where
@@ -106,7 +108,7 @@ module _ (cs : List Clause) (pairs literals : List ℕ) (p w p' w' : List ℕ) (
           counts-are : (t : ClauseCounts) (a b : ℕ) → t.clauses ≡ a → t.literals ≡ b → t ≡ record { clauses = a; literals = b }
           counts-are t a b e f = rw (← e, ← f) refl
 
-      pub made_all : MakesAll cs pairs literals (Clauses at) pairs' literals'
+      pub made_all : MakesAll cs pairs literals (Ok at) pairs' literals'
       made_all =
           let room : 2 * at.clauses ≤ length pairs = omega (arith, h.clauses, g.clauses) in
           let words : at.literals ≤ length literals = omega (arith, h.literals, g.literals) in

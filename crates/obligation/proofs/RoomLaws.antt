@@ -2,6 +2,7 @@
 use Prim.Native.Nat.{ℕ, ◌+◌, ◌*◌, ◌/◌, ◌≤◌}
 use mathlib.Core.Bool.{Bool, true, false}
 use mathlib.Core.List.{List, [], ◌∷◌, ◌++◌, map}
+use Rattle.std.specs.Prelude.{Ok}
 use mathlib.Core.Path.{◌≡◌, refl, sym, ◌∙◌}
 use native.Mathlib.Nat.{mul-suc, mul-le-mul}
 use native.Mathlib.Omega.{arith}
@@ -19,7 +20,6 @@ use Rattle.cnf.proofs.AppendLaws.{appends-start}
 use Rattle.cnf.proofs.SizeLaws.{total, total_append, total_more, kept-few}
 use Rattle.obligation_spec.specs.Lists.{valued, source_lists, predicate_literal, gate_lists}
 use Rattle.obligation_claims.specs.Inner.Claims.{claim_list, state_claims, outcome_claims}
-use Rattle.obligation.specs.declared.Made.TheVariants.{Clauses}
 use Rattle.obligation.specs.Inner.Appended.{Parts, Claimed, front_lists, claim_lists, all_lists, claim_count, Ready, Roomy, MakesAll, empty}
 use Rattle.obligation.proofs.PromiseLaws.{made_all}
 use Rattle.obligation.proofs.MakingLaws.{front-most, claims_many, claims-few}
@@ -96,7 +96,7 @@ module _ (p : Parts) (c : Claimed) (last : ℕ) (r : Ready p c last) where
   pub made_roomy : (pairs literals : List ℕ) (n : ℕ) → n ≡ claim_count (length c.words) c.wide
       → Roomy (length p.currents) (length p.pairs / 2) p.ands (length c.keys) n (length pairs) (length literals)
       → (at : ClauseCounts) (pairs' literals' : List ℕ) → Appends (all_lists p c last) empty pairs literals at pairs' literals'
-      → MakesAll (words_of simplified (all_lists p c last)) pairs literals (Clauses at) pairs' literals'
+      → MakesAll (words_of simplified (all_lists p c last)) pairs literals (Ok at) pairs' literals'
   made_roomy pairs literals n e room at pairs' literals' g =
       let literals-fit : length p.currents + 7 * p.ands + length c.keys * claim_count (length c.words) c.wide + 1025 ≤ length literals = rw (← e) room.literals_suffice in
       let h = appends-start (all_lists p c last) pairs literals at pairs' literals' g in

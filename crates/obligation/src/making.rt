@@ -3,106 +3,102 @@ ghost use Rattle.std.specs.Prelude.{true, ◌≡◌, ◌*◌, ◌≤◌};
 ghost use Rattle.lists.specs.Words.{words_of};
 ghost use Rattle.cnf.specs.Simplified.{simplified};
 ghost use Rattle.cnf.specs.Inner.Appending.{Appends, Space};
-ghost use Rattle.obligation.specs.Inner.Appended.{parts_of, claimed_of, front_lists, claim_lists, all_lists, claim_count, FrontReady, ClaimsReady, Ready, Roomy, MakesAll, empty};
+ghost use Rattle.obligation.specs.Inner.Appended.{front_lists, claim_lists, all_lists, FrontReady, ClaimsReady, Ready, Roomy, MakesAll, empty};
+ghost use Rattle.obligation.specs.Inner.Planned.{count_in, parts_in, claimed_in};
 
-use crate::Made;
+use aiger::Refusal;
 use cnf::ClauseCounts;
+use obligation_check::Question;
+
+// The words of claims: one a state, three an outcome.
+#[derive(Clone, Copy)]
+pub enum Claims<'a> {
+    States(&'a [u64]),
+    Outcomes(&'a [u64]),
+}
+
+// What the clauses are made of beside what is asked about: the latches at a source's bits, the claims and the keys of their literals, and
+// the literal of a last clause. The true constant, whose clause is dropped, is none.
+#[derive(Clone, Copy)]
+pub struct Plan<'a> {
+    pub currents: &'a [u64],
+    pub source: u64,
+    pub keys: &'a [u64],
+    pub claims: Claims<'a>,
+    pub last: u64,
+}
 
 // Appends the clauses of source latches, predicate and gates.
 fn append_front(
-    currents: &[u64],
-    source: u64,
-    inputs: &[u64],
-    relevant: &[u64],
-    predicate_pairs: &[u64],
-    predicate_literals: &[u32],
-    gates: &[u64],
-    ands: usize,
+    question: &Question,
+    plan: &Plan,
     pairs: &mut [u64],
     literals: &mut [u32],
 ) -> ClauseCounts
-    requires { FrontReady (parts_of currents.now source inputs.now relevant.now predicate_pairs.now predicate_literals.now gates.now ands) }
-    ensures { Appends (front_lists (parts_of currents.now source inputs.now relevant.now predicate_pairs.now predicate_literals.now gates.now ands)) empty pairs.old literals.old result pairs.new literals.new }
+    requires { FrontReady (parts_in question.now plan.now) }
+    ensures { Appends (front_lists (parts_in question.now plan.now)) empty pairs.old literals.old result pairs.new literals.new }
 {
+    let model = question.model;
     let start = ClauseCounts {
         clauses: 0,
         literals: 0,
     };
-    let sources = obligation_gates::append_sources(currents, source, pairs, literals, start);
+    let sources = obligation_gates::append_sources(plan.currents, plan.source, pairs, literals, start);
     let limited = obligation_gates::append_predicate(
-        inputs,
-        relevant,
-        predicate_pairs,
-        predicate_literals,
+        lists::first(model.inputs, model.counts.inputs),
+        question.relevant,
+        question.predicate_pairs,
+        question.predicate_literals,
         pairs,
         literals,
         sources,
     );
-    obligation_gates::append_ands(gates, ands, pairs, literals, limited)
+    obligation_gates::append_ands(question.gates, model.counts.ands, pairs, literals, limited)
 }
 
-// Appends the clauses of the claims: of one word each, or of three where they are wide.
+// Appends the clauses of the claims.
 fn append_claims(
-    keys: &[u64],
-    words: &[u64],
-    wide: bool,
+    plan: &Plan,
     pairs: &mut [u64],
     literals: &mut [u32],
     at: ClauseCounts,
 ) -> ClauseCounts
-    requires { ClaimsReady (claimed_of keys.now words.now wide) × Space at 1000000 }
-    ensures { Appends (claim_lists (claimed_of keys.now words.now wide)) at pairs.old literals.old result pairs.new literals.new }
+    requires { ClaimsReady (claimed_in plan.now) × Space at 1000000 }
+    ensures { Appends (claim_lists (claimed_in plan.now)) at pairs.old literals.old result pairs.new literals.new }
 {
-    if wide {
-        return obligation_claims::append_outcomes(keys, words, pairs, literals, at);
+    match plan.claims {
+        Claims::States(words) => {
+            obligation_claims::append_states(plan.keys, words, pairs, literals, at)
+        }
+        Claims::Outcomes(words) => {
+            obligation_claims::append_outcomes(plan.keys, words, pairs, literals, at)
+        }
     }
-    obligation_claims::append_states(keys, words, pairs, literals, at)
 }
 
 // Appends all clauses of an obligation: a row's end with the claims, a terminal list's with a clause of one literal.
 fn append_all(
-    currents: &[u64],
-    source: u64,
-    inputs: &[u64],
-    relevant: &[u64],
-    predicate_pairs: &[u64],
-    predicate_literals: &[u32],
-    gates: &[u64],
-    ands: usize,
-    keys: &[u64],
-    words: &[u64],
-    wide: bool,
-    last: u64,
+    question: &Question,
+    plan: &Plan,
     pairs: &mut [u64],
     literals: &mut [u32],
 ) -> ClauseCounts
-    requires { Ready (parts_of currents.now source inputs.now relevant.now predicate_pairs.now predicate_literals.now gates.now ands) (claimed_of keys.now words.now wide) last }
-    ensures { Appends (all_lists (parts_of currents.now source inputs.now relevant.now predicate_pairs.now predicate_literals.now gates.now ands) (claimed_of keys.now words.now wide) last) empty pairs.old literals.old result pairs.new literals.new }
+    requires { Ready (parts_in question.now plan.now) (claimed_in plan.now) plan.now.last }
+    ensures { Appends (all_lists (parts_in question.now plan.now) (claimed_in plan.now) plan.now.last) empty pairs.old literals.old result pairs.new literals.new }
 {
-    let front = append_front(
-        currents,
-        source,
-        inputs,
-        relevant,
-        predicate_pairs,
-        predicate_literals,
-        gates,
-        ands,
-        pairs,
-        literals,
-    );
-    let claimed = append_claims(keys, words, wide, pairs, literals, front);
-    obligation_gates::push_literal(last, pairs, literals, claimed)
+    let front = append_front(question, plan, pairs, literals);
+    let claimed = append_claims(plan, pairs, literals, front);
+    obligation_gates::push_literal(plan.last, pairs, literals, claimed)
 }
 
-// How many claims so many words are.
-fn claim_count(words: usize, wide: bool) -> usize
-    ensures { result ≡ claim_count words wide }
+// How many claims there are.
+fn claim_count(claims: Claims) -> usize
+    ensures { result ≡ count_in claims.entry }
 {
-    if wide {
-        return words / 3;
+    match claims {
+        Claims::States(words) => words.len(),
+        Claims::Outcomes(words) => words.len() / 3,
     }
-    words
 }
 
 // Whether the room suffices for every obligation of so many parts. A predicate has at most 1,024 literals, a gate's clauses have seven.
@@ -126,128 +122,46 @@ fn roomy(
 
 // Makes the clauses where they may not fit: they are measured with buffers that have no room, and then written, or nothing is.
 fn make_measured(
-    currents: &[u64],
-    source: u64,
-    inputs: &[u64],
-    relevant: &[u64],
-    predicate_pairs: &[u64],
-    predicate_literals: &[u32],
-    gates: &[u64],
-    ands: usize,
-    keys: &[u64],
-    words: &[u64],
-    wide: bool,
-    last: u64,
+    question: &Question,
+    plan: &Plan,
     pairs: &mut [u64],
     literals: &mut [u32],
-) -> Made
-    requires { Ready (parts_of currents.now source inputs.now relevant.now predicate_pairs.now predicate_literals.now gates.now ands) (claimed_of keys.now words.now wide) last }
-    ensures { MakesAll (words_of simplified (all_lists (parts_of currents.now source inputs.now relevant.now predicate_pairs.now predicate_literals.now gates.now ands) (claimed_of keys.now words.now wide) last)) pairs.old literals.old result pairs.new literals.new }
+) -> Result<ClauseCounts, Refusal>
+    requires { Ready (parts_in question.now plan.now) (claimed_in plan.now) plan.now.last }
+    ensures { MakesAll (words_of simplified (all_lists (parts_in question.now plan.now) (claimed_in plan.now) plan.now.last)) pairs.old literals.old result pairs.new literals.new }
 {
-    let mut no_pairs = [0u64; 1];
-    let mut no_literals = [0u32; 1];
-    let size = append_all(
-        currents,
-        source,
-        inputs,
-        relevant,
-        predicate_pairs,
-        predicate_literals,
-        gates,
-        ands,
-        keys,
-        words,
-        wide,
-        last,
-        &mut no_pairs,
-        &mut no_literals,
-    );
+    let mut no_pairs = [0; 1];
+    let mut no_literals = [0; 1];
+    let size = append_all(question, plan, &mut no_pairs, &mut no_literals);
     if pairs.len() / 2 < size.clauses {
-        return Made::Refused(20);
+        return Err(Refusal::ResultRoom);
     }
     if literals.len() < size.literals {
-        return Made::Refused(20);
+        return Err(Refusal::ResultRoom);
     }
-    let made = append_all(
-        currents,
-        source,
-        inputs,
-        relevant,
-        predicate_pairs,
-        predicate_literals,
-        gates,
-        ands,
-        keys,
-        words,
-        wide,
-        last,
-        pairs,
-        literals,
-    );
-    Made::Clauses(made)
+    Ok(append_all(question, plan, pairs, literals))
 }
 
 // Makes the clauses: at once where there is room for any such obligation, else measured first.
 pub fn make(
-    currents: &[u64],
-    source: u64,
-    inputs: &[u64],
-    relevant: &[u64],
-    predicate_pairs: &[u64],
-    predicate_literals: &[u32],
-    gates: &[u64],
-    ands: usize,
-    keys: &[u64],
-    words: &[u64],
-    wide: bool,
-    last: u64,
+    question: &Question,
+    plan: Plan,
     pairs: &mut [u64],
     literals: &mut [u32],
-) -> Made
-    requires { Ready (parts_of currents.now source inputs.now relevant.now predicate_pairs.now predicate_literals.now gates.now ands) (claimed_of keys.now words.now wide) last }
-    ensures { MakesAll (words_of simplified (all_lists (parts_of currents.now source inputs.now relevant.now predicate_pairs.now predicate_literals.now gates.now ands) (claimed_of keys.now words.now wide) last)) pairs.old literals.old result pairs.new literals.new }
+) -> Result<ClauseCounts, Refusal>
+    requires { Ready (parts_in question.now plan) (claimed_in plan) plan.last }
+    ensures { MakesAll (words_of simplified (all_lists (parts_in question.now plan.entry) (claimed_in plan.entry) plan.entry.last)) pairs.old literals.old result pairs.new literals.new }
 {
-    let claims = claim_count(words.len(), wide);
     if roomy(
-        currents.len(),
-        predicate_pairs.len() / 2,
-        ands,
-        keys.len(),
-        claims,
+        plan.currents.len(),
+        question.predicate_pairs.len() / 2,
+        question.model.counts.ands,
+        plan.keys.len(),
+        claim_count(plan.claims),
         pairs.len(),
         literals.len(),
     ) {
-        return Made::Clauses(append_all(
-            currents,
-            source,
-            inputs,
-            relevant,
-            predicate_pairs,
-            predicate_literals,
-            gates,
-            ands,
-            keys,
-            words,
-            wide,
-            last,
-            pairs,
-            literals,
-        ));
+        return Ok(append_all(question, &plan, pairs, literals));
     }
-    make_measured(
-        currents,
-        source,
-        inputs,
-        relevant,
-        predicate_pairs,
-        predicate_literals,
-        gates,
-        ands,
-        keys,
-        words,
-        wide,
-        last,
-        pairs,
-        literals,
-    )
+    make_measured(question, &plan, pairs, literals)
 }

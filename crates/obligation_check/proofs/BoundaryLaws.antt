@@ -2,6 +2,7 @@
 use Prim.Native.Nat.{ℕ, ◌+◌, ◌-◌, ◌*◌, ◌/◌, ◌≤◌, ◌<◌, ◌^◌}
 use mathlib.Core.Bool.{Bool, true, false, not, ◌&&◌, and-false, and-true}
 use mathlib.Core.List.{List, [], ◌∷◌}
+use Rattle.std.specs.Prelude.{Result, Ok, Err}
 use mathlib.Core.Path.{◌≡◌, refl, sym, ap, ◌∙◌}
 use native.Mathlib.Nat.{lt_trans, mul-le-mul_right}
 use native.Mathlib.Omega.{arith}
@@ -12,19 +13,18 @@ use lib.Seq.{length-take-le}
 use mir.Facts.{Fits-le}
 use mir.Syntax.{w64}
 use mir.Val.{Fits}
+use Rattle.std.specs.Prelude.{Option, Some, None}
 use Rattle.lists.specs.Answer.{got, unless, and_then}
 use Rattle.lists.specs.Parts.{part}
 use Rattle.lists.specs.Sets.{rising}
 use Rattle.lists.specs.Tests.{all, every}
-use Rattle.lists.specs.declared.PartEnd.{PartEnd}
-use Rattle.lists.specs.declared.PartEnd.TheVariants as parts
 use Rattle.lists.specs.Words.{in_order, lengths}
 use Rattle.lists.specs.Inner.Pairs.{part_end}
 use Rattle.lists.proofs.PairLaws.{pair_rest, no_pair, order-none, order_outside, part-ends, order-at}
 use Rattle.lists.proofs.TestLaws.{every_fails}
 use Rattle.lists.proofs.WordLaws.{pairs_end}
-use Rattle.model.specs.declared.Verdict.{Verdict}
-use Rattle.model.specs.declared.Verdict.TheVariants.{Valid, Refused}
+use Rattle.aiger.specs.declared.Refusal.{Refusal}
+use Rattle.aiger.specs.declared.Refusal.TheVariants.{Boundary}
 use Rattle.model.specs.Checked.{checked, judged, Validates}
 use Rattle.model.proofs.ValueLaws.{checked-got}
 use Rattle.cnf.specs.Clauses.{clauses_in}
@@ -34,7 +34,7 @@ use Rattle.obligation_check.specs.Inner.Boundary.{indexes, predicate_holds, Boun
 
 -- the loop over the pairs: the rest decides, and where the part of the pair at i ends
 module _ (n : ℕ) (words pairs : List ℕ) (end i : ℕ) (r : Bool) (k : r ≡ predicate_holds n end words (drop (2 * i) pairs)) where
-  module _ (h : i < length pairs / 2) (x : PartEnd) (e : x ≡ part_end end (get_or pairs (2 * i) 0) (get_or pairs (2 * i + 1) 0) (length words)) where
+  module _ (h : i < length pairs / 2) (x : Option ℕ) (e : x ≡ part_end end (get_or pairs (2 * i) 0) (get_or pairs (2 * i + 1) 0) (length words)) where
     abbrev start : ℕ
     start = get_or pairs (2 * i) 0
 
@@ -47,10 +47,10 @@ module _ (n : ℕ) (words pairs : List ℕ) (end i : ℕ) (r : Bool) (k : r ≡ 
     next : r ≡ predicate_holds n end words (start ∷ size ∷ rest)
     next = k ∙ ap (predicate_holds n end words) (pair_rest pairs i (omega arith))
 
-    pub pair_stop : x ≡ parts.Outside → false ≡ r
+    pub pair_stop : x ≡ None → false ≡ r
     pair_stop o = sym (next ∙ ap (λ (b : Bool). b && all (indexes n) (clauses_in words (start ∷ size ∷ rest))) (order_outside end start size (length words) x e o rest))
 
-    module _ (end' : ℕ) (o : x ≡ parts.At end') (offset : ℕ) (first : offset ≡ get_or pairs (2 * i) 0) where
+    module _ (end' : ℕ) (o : x ≡ Some end') (offset : ℕ) (first : offset ≡ get_or pairs (2 * i) 0) where
       ends : (end ≤ start) × (end' ≡ start + size) × (start + size ≤ length words)
       ends = part-ends end start size (length words) x e end' o
 
@@ -139,9 +139,9 @@ module _ (latches : ℕ) (states : List ℕ) where
   unfolding states_claimed
   claims-are b e c n = e ∙ ap (λ (k : ℕ). every (rising states ∷ all (λ s. ltb s (2 ^ k)) states ∷ [])) (sym n)
 
-  pub states_fall : (q : Bool) → q ≡ rising states → q ≡ false → ClaimsStates latches states false
+  pub states_fall : (q : Bool) → q ≡ rising states → q ≡ false → ClaimsStates latches states q
   unfolding every
-  states_fall q e f = claims-are false (rw (← e, f) refl)
+  states_fall q e f = claims-are q (rw (← e, f) refl)
 
   pub states_rise : (q : Bool) → q ≡ rising states → q ≡ true → (top : ℕ) → top ≡ 2 ^ latches → (b : Bool) → b ≡ all (λ s. ltb s top) states → ClaimsStates latches states b
   unfolding every
@@ -149,22 +149,22 @@ module _ (latches : ℕ) (states : List ℕ) where
 
 -- ---- the whole check
 
-module _ (q : Asked) (w : ℕ) (work' : List ℕ) (v : Verdict) (h : Validates q.model q.gates w v work') where
+module _ (q : Asked) (w : ℕ) (work' : List ℕ) (v : Result (Unit {0}) Refusal) (h : Validates q.model q.gates w v work') where
   at-work : (lent : Lent) → lent.work ≡ w → asked q lent ≡ and_then (judged v (circuit q)) (λ c. unless 13 (bounded c q.relevant q.pairs q.words) (got c))
   at-work lent e = rw (e, ← h.judges) refl
 
-  pub check_refused : (n : ℕ) → v ≡ Refused n → Checks q w v work'
-  check_refused n e = record { judges = λ lent k. rw e (sym (at-work lent k ∙ rw e refl)); clears = h.clears }
+  pub check_refused : (n : Refusal) → v ≡ Err n → Checks q w (Err n) work'
+  check_refused n e = record { judges = λ lent k. sym (at-work lent k ∙ rw e refl); clears = h.clears }
 
-  module _ (valid : v ≡ Valid) where
+  module _ (u : Unit {0}) (valid : v ≡ Ok u) where
     as_many : length (circuit q).inputs ≡ q.model.input_count
     as_many =
         let g : checked q.model q.gates w ≡ got (circuit q) = sym (rw valid at h.judges) in
         length-take-le q.model.input_count q.model.inputs (checked-got q.model q.gates w (circuit q) g).inputs
 
     module _ (b : Bool) (f : Bounds q.model.input_count q.relevant q.pairs q.words b) where
-      pub check_valid : b ≡ true → Checks q w v work'
-      check_valid t = record { judges = λ lent k. rw valid (sym (at-work lent k ∙ rw (valid, ← f (circuit q) as_many, t) refl)); clears = h.clears }
+      pub check_valid : b ≡ true → Checks q w (Ok tt) work'
+      check_valid t = record { judges = λ lent k. sym (at-work lent k ∙ rw (valid, ← f (circuit q) as_many, t) refl); clears = h.clears }
 
-      pub check_13 : b ≡ false → Checks q w (Refused 13) work'
+      pub check_13 : b ≡ false → Checks q w (Err Boundary) work'
       check_13 t = record { judges = λ lent k. sym (at-work lent k ∙ rw (valid, ← f (circuit q) as_many, t) refl); clears = h.clears }

@@ -1,2 +1,3 @@
 -- R9.13 and R9.14 as the functions check them.
+pub mod Questions
 pub mod Inner

@@ -3,26 +3,34 @@
 
 ghost use Rattle.std.specs.Prelude.{◌≡◌, ◌+◌, ◌*◌, ◌/◌, ◌≤◌, ◌<◌, ◌^◌, ltb, length, get_or};
 ghost use Rattle.lists.specs.Tests.{all};
-ghost use Rattle.model.specs.Circuit.{record_from};
 ghost use Rattle.obligation_spec.specs.Lists.{outcomes_of};
 ghost use Rattle.obligation_spec.specs.Limits.{before, rising_outcomes};
-ghost use Rattle.obligation_spec.specs.Calls.{asked_of};
+ghost use Rattle.model.specs.Lent.{lent_record};
+ghost use Rattle.obligation_check.specs.Questions.{asked_in};
 ghost use Rattle.obligation_check.specs.Inner.Boundary.{indexes, predicate_holds, Bounds, IsState, ClaimsStates, ClaimsOutcomes, no_outcome, outcome_fits, Checks};
 
-use lists::PartEnd;
-use model::{AigerLatch, Counts, Verdict};
+use aiger::Refusal;
+use model::LentModel;
 use model_step::Outcome;
+
+// What every obligation is asked about: a model, relevant inputs, and a predicate as pairs and literals.
+#[derive(Clone, Copy)]
+pub struct Question<'a> {
+    pub model: LentModel<'a>,
+    pub gates: &'a [u64],
+    pub relevant: &'a [u64],
+    pub predicate_pairs: &'a [u64],
+    pub predicate_literals: &'a [u32],
+}
 
 // Whether each word of a clause indexes one of n relevant inputs.
 fn indexes_hold(clause: &[u32], n: u32) -> bool
     ensures { result ≡ indexes n clause.now }
 {
-    let mut i = 0;
-    while i < clause.len() {
-        if n <= clause[i] / 2 {
+    for word in clause {
+        if n <= *word / 2 {
             return false;
         }
-        i += 1;
     }
     true
 }
@@ -34,18 +42,15 @@ fn predicate_holds(predicate_pairs: &[u64], predicate_literals: &[u32], n: u32) 
     let size = predicate_literals.len();
     let count = predicate_pairs.len() / 2;
     let mut end = 0;
-    let mut i = 0;
-    while i < count {
-        let PartEnd::At(next) = lists::pair_end(predicate_pairs, i, end, size) else {
+    for i in 0..count {
+        let Some(next) = lists::pair_end(predicate_pairs, i, end, size) else {
             return false;
         };
-        let offset = lists::index(predicate_pairs[2 * i]);
-        if indexes_hold(&predicate_literals[offset..next], n) {
-            end = next;
-            i += 1;
-        } else {
+        let offset = predicate_pairs[2 * i] as usize;
+        if !indexes_hold(&predicate_literals[offset..next], n) {
             return false;
         }
+        end = next;
     }
     true
 }
@@ -100,10 +105,7 @@ pub fn states_claimed(latches: usize, claims: &[u64]) -> bool
     requires { latches ≤ 8 }
     ensures { ClaimsStates latches claims.now result }
 {
-    if lists::rises(claims) {
-        return lists::below(claims, states(latches));
-    }
-    false
+    lists::rises(claims) && lists::below(claims, states(latches))
 }
 
 // Whether the halves of an outcome's outputs have no bit at n or above.
@@ -114,10 +116,7 @@ fn bits_hold(high: u64, low: u64, n: usize) -> bool
     if 64 <= n {
         return lists::fits(high, n - 64);
     }
-    if high == 0 {
-        return lists::fits(low, n);
-    }
-    false
+    high == 0 && lists::fits(low, n)
 }
 
 // Whether an outcome comes before another: target, high, low.
@@ -150,11 +149,8 @@ fn outcomes_rise(words: &[u64]) -> bool
     ensures { result ≡ rising_outcomes (outcomes_of words.now) }
 {
     let count = words.len() / 3;
-    let mut i = 1;
-    while i < count {
-        if comes_before(outcome_at(words, i - 1), outcome_at(words, i)) {
-            i += 1;
-        } else {
+    for i in 1..count {
+        if !comes_before(outcome_at(words, i - 1), outcome_at(words, i)) {
             return false;
         }
     }
@@ -168,15 +164,9 @@ fn outcomes_fit(words: &[u64], latches: usize, n: usize) -> bool
 {
     let count = words.len() / 3;
     let top = states(latches);
-    let mut i = 0;
-    while i < count {
+    for i in 0..count {
         let outcome = outcome_at(words, i);
-        if top <= outcome.target {
-            return false;
-        }
-        if bits_hold(outcome.high, outcome.low, n) {
-            i += 1;
-        } else {
+        if top <= outcome.target || !bits_hold(outcome.high, outcome.low, n) {
             return false;
         }
     }
@@ -203,31 +193,27 @@ pub fn outcomes_claimed(latches: usize, outputs: u64, observed: &[u64], words: &
     outcomes_fit(words, latches, observed.len())
 }
 
-// Whether there is a model, and relevant inputs and predicate are right: R9.7, R9.11 and R9.13.
-pub fn check(
-    counts: Counts,
-    inputs: &[u64],
-    latches: [AigerLatch; 8],
-    outputs: &[u64],
-    gates: &[u64],
-    relevant: &[u64],
-    predicate_pairs: &[u64],
-    predicate_literals: &[u32],
-    work: &mut [u64],
-) -> Verdict
-    ensures { Checks (asked_of (record_from counts inputs.now latches outputs.now) gates.now relevant.now predicate_pairs.now predicate_literals.now) (length work.old) result work.new }
-{
-    let verdict = model::validate_parts(counts, inputs, latches, outputs, gates, work);
-    let Verdict::Valid = verdict else {
-        return verdict;
-    };
-    if validate_boundary(
-        counts.inputs as u64,
-        relevant,
-        predicate_pairs,
-        predicate_literals,
-    ) {
-        return verdict;
+impl<'a> Question<'a> {
+    // Whether relevant inputs and predicate are right for the model: R9.13.
+    fn boundary_holds(&self) -> bool
+        ensures { Bounds (lent_record self.now.model).input_count self.now.relevant.now self.now.predicate_pairs.now self.now.predicate_literals.now result }
+    {
+        validate_boundary(
+            self.model.counts.inputs as u64,
+            self.relevant,
+            self.predicate_pairs,
+            self.predicate_literals,
+        )
     }
-    Verdict::Refused(13)
+
+    // Whether there is a model, and relevant inputs and predicate are right: R9.7, R9.11 and R9.13.
+    pub fn check(&self, work: &mut [u64]) -> Result<(), Refusal>
+        ensures { Checks (asked_in self.now) (length work.old) result work.new }
+    {
+        self.model.validate(&self.gates, work)?;
+        if !self.boundary_holds() {
+            return Err(Refusal::Boundary);
+        }
+        Ok(())
+    }
 }

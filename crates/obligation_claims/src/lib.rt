@@ -75,8 +75,7 @@ fn sort_first(keys: &mut [u64], n: usize)
     if n < 2 {
         return;
     }
-    let mut work = [0; 136];
-    word_sort::sort(&mut keys[..n], &mut work);
+    word_sort::sort(&mut keys[..n]);
 }
 
 // Puts the keys of a state's literals in order, and says how many there are.
@@ -187,7 +186,7 @@ fn push_claim(
     let Fill::Words(n) = fill_claim(keys, claim, list) else {
         return at;
     };
-    cnf::push_simplified(list, n, work, pairs, literals, at)
+    cnf::push_simplified(list, n, pairs, literals, at)
 }
 
 // Appends the clauses of claimed states.

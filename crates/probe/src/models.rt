@@ -5,20 +5,14 @@ ghost use Rattle.model.specs.Checked.{checked};
 ghost use Rattle.model.specs.RecordWords.{record_in};
 ghost use Rattle.probe.specs.Inner.Flat.{reason_of};
 
-use model::words;
-use nitrasovy::models;
+use model::LentModel;
 
 #[unsafe(no_mangle)]
 pub extern "C" fn probe_validate(model: &[u64], gates: &[u64], work: &mut [u64]) -> u64
     ensures { (result ≡ reason_of (checked (record_in model.now) gates.now (length work.old))) × (work.new ≡ zeros (length work.old)) }
 {
-    let verdict = model::validate_parts(
-        words::counts(model),
-        words::inputs(model),
-        words::latches(model),
-        words::outputs(model),
-        gates,
-        work,
-    );
-    models::reason_of(verdict)
+    match LentModel::from_words(model).validate(&gates, work) {
+        Ok(()) => 0,
+        Err(refusal) => u64::from(refusal),
+    }
 }

@@ -2,12 +2,9 @@
 // What the published Rust answered is in the file `stdout`; README.md says how it was made.
 #![tactic(auto)]
 
-ghost use Rattle.std.specs.Prelude.{◌≤◌, length, IfOk};
-
-use replay_text::form::Count;
+use replay_text::form::Call;
 use replay_text::{form, show};
 use std::io;
-use std::io::Read;
 
 mod models;
 mod obligations;
@@ -22,15 +19,18 @@ struct Progress {
 
 // Makes the call of a case and prints its answer.
 fn answer(numbers: &[u64], block: &[u8], out: &mut [u8], at: usize) -> usize {
-    let call = lists::word(numbers, 0);
+    let Some(call) = form::call_of(lists::word(numbers, 0)) else {
+        return show::malformed(out, at);
+    };
     match call {
-        1 => models::read_case(numbers, block, out, at),
-        2 => models::step_case(numbers, out, at),
-        3 | 4 | 5 => obligations::made_case(numbers, out, at),
-        6 => texts::witness_case(numbers, block, out, at),
-        7 => texts::compose_case(numbers, block, out, at),
-        8 => texts::literal_case(numbers, block, out, at),
-        _ => show::malformed(out, at),
+        Call::ReadTransition => models::read_case(numbers, block, out, at),
+        Call::Step => models::step_case(numbers, out, at),
+        Call::RelationRow | Call::TransducerRow | Call::Terminal => obligations::made_case(
+            call, numbers, out, at,
+        ),
+        Call::ReadWitness => texts::witness_case(numbers, block, out, at),
+        Call::Compose => texts::compose_case(numbers, block, out, at),
+        Call::TakeLiteral => texts::literal_case(numbers, block, out, at),
     }
 }
 
@@ -50,11 +50,8 @@ fn replay_block(
     out: &mut [u8],
     to: usize,
 ) -> Progress {
-    let end = text_print::advance(start, form::size(numbers, 1));
-    if input.len() <= end {
-        return stop(input, out, to);
-    }
-    if input[end] != 10 {
+    let end = start.saturating_add(form::size(numbers, 1));
+    if input.get(end) != Some(&10) {
         return stop(input, out, to);
     }
     let printed = answer(numbers, form::bytes(input, start, end), out, to);
@@ -66,15 +63,15 @@ fn replay_block(
 
 // Replays the case at a place.
 fn replay_case(input: &[u8], at: usize, out: &mut [u8], to: usize) -> Progress {
-    let mut room = [0u64; 8192];
+    let mut room = [0; 8192];
     let end = scan::line_end(input, at);
-    let Count::Of(n) = form::numbers(form::bytes(input, at, end), &mut room) else {
+    let Some(n) = form::numbers(form::bytes(input, at, end), &mut room) else {
         return stop(input, out, to);
     };
     replay_block(
         input,
         lists::first(&room, n),
-        text_print::advance(end, 1),
+        end.saturating_add(1),
         out,
         to,
     )
@@ -95,24 +92,9 @@ fn replay(input: &[u8], out: &mut [u8]) -> usize {
     to
 }
 
-// Reads until the buffer is full or the input ends, and says how many bytes stand in front.
-fn read_full<R: Read>(reader: &mut R, buffer: &mut [u8]) -> io::Result<usize>
-    ensures { IfOk result (λ n. n ≤ length buffer.new) }
-{
-    let mut done = 0;
-    while done < buffer.len() {
-        let n = reader.read(&mut buffer[done..])?;
-        if n == 0 {
-            break;
-        }
-        done += n;
-    }
-    Ok(done)
-}
-
 // Prints the answers to standard input, by way of lent buffers. More than there is room for is malformed.
 fn answers(rt: &(impl Input + Print), input: &mut [u8], out: &mut [u8]) -> io::Result<()> {
-    let n = read_full(&mut rt.reader(), input)?;
+    let n = whole_input::read_full(&mut rt.reader(), input)?;
     if n == input.len() {
         return rt.write_all(b"malformed\n");
     }

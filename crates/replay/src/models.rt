@@ -5,20 +5,18 @@ use replay_text::{form, show};
 
 // The words of the latches.
 fn latch_words(latches: [AigerLatch; 8]) -> [u64; 16] {
-    let mut words = [0u64; 16];
-    let mut i = 0;
-    while i < 8 {
+    let mut words = [0; 16];
+    for i in 0..8 {
         let latch = latches[i];
         words[2 * i] = latch.current;
         words[2 * i + 1] = latch.next;
-        i += 1;
     }
     words
 }
 
 // Prints M I L O A.
 fn show_counts(model: AigerTransition, out: &mut [u8], at: usize) -> usize {
-    let counts: [u64; 5] = [
+    let counts = [
         model.max_variable as u64,
         model.input_count as u64,
         model.latch_count as u64,
@@ -36,12 +34,7 @@ fn show_model(model: AigerTransition, out: &mut [u8], at: usize) -> usize {
     let outputs = model.outputs;
     let counted = show_counts(model, out, at);
     let first = show::zero(out, counted, &inputs, model.input_count);
-    let second = show::zero(
-        out,
-        first,
-        &latches,
-        text_print::advance(model.latch_count, model.latch_count),
-    );
+    let second = show::zero(out, first, &latches, model.latch_count.saturating_mul(2));
     show::zero(out, second, &outputs, model.output_count)
 }
 
@@ -52,11 +45,7 @@ fn read_lent(text: &[u8], gates: &mut [u64], work: &mut [u64], out: &mut [u8], a
     let reasoned = show::number(out, named, read.reason);
     let model = read.model;
     let shown = show_model(model, out, reasoned);
-    let used = text_print::advance(
-        model.and_count,
-        text_print::advance(model.and_count, model.and_count),
-    );
-    let listed = show::kept(out, shown, gates, used);
+    let listed = show::kept(out, shown, gates, model.and_count.saturating_mul(3));
     show::zero(out, listed, work, 0)
 }
 
@@ -74,10 +63,7 @@ fn read_with(
     }
     let gate_words = form::size(numbers, 2);
     let work_words = form::size(numbers, 3);
-    if gates.len() < gate_words {
-        return show::malformed(out, at);
-    }
-    if work.len() < work_words {
+    if gates.len() < gate_words || work.len() < work_words {
         return show::malformed(out, at);
     }
     read_lent(
@@ -103,7 +89,7 @@ fn step_lent(numbers: &[u64], work: &mut [u64], out: &mut [u8], at: usize) -> us
     let state = lists::word(numbers, 3);
     let input = lists::word(numbers, 4);
     let stepped = models::nit_step(record, gates, work, state, input);
-    let answer: [u64; 4] = [stepped.reason, stepped.target, stepped.high, stepped.low];
+    let answer = [stepped.reason, stepped.target, stepped.high, stepped.low];
     let named = text_print::print_bytes(out, at, b"step");
     let listed = show::words(out, named, &answer);
     show::zero(out, listed, work, 0)

@@ -2,6 +2,7 @@
 // lengths of the record, the gate words, the relevant inputs, the predicate's pairs and literals and the two lists of the claim, and these.
 use nitrasovy::obligations;
 use nitrasovy::obligations::NitMade;
+use replay_text::form::Call;
 use replay_text::{form, show};
 
 // The lengths stand from the first of these places on, and the lists from the second.
@@ -9,20 +10,10 @@ const LENGTHS: usize = 6;
 
 const LISTS: usize = 13;
 
-// The word of a literal.
-fn narrow(x: u64) -> u32 {
-    (x % 4294967296) as u32
-}
-
 // Copies words to literals, as far as there is room.
 fn copy_literals(words: &[u64], to: &mut [u32]) {
-    let mut i = 0;
-    while i < to.len() {
-        if words.len() <= i {
-            return;
-        }
-        to[i] = narrow(words[i]);
-        i += 1;
+    for (literal, word) in to.iter_mut().zip(words) {
+        *literal = (*word % 4294967296) as u32;
     }
 }
 
@@ -100,31 +91,33 @@ fn terminal(
 
 // Makes the call that a case names.
 fn make(
+    call: Call,
     numbers: &[u64],
     predicate_pairs: &[u32],
     work: &mut [u64],
     pairs: &mut [u64],
     literals: &mut [u32],
 ) -> NitMade {
-    let call = lists::word(numbers, 0);
     match call {
-        3 => relation(numbers, predicate_pairs, work, pairs, literals),
-        4 => transducer(numbers, predicate_pairs, work, pairs, literals),
+        Call::RelationRow => relation(numbers, predicate_pairs, work, pairs, literals),
+        Call::TransducerRow => transducer(numbers, predicate_pairs, work, pairs, literals),
         _ => terminal(numbers, predicate_pairs, work, pairs, literals),
     }
 }
 
 // Prints which call was made.
-fn show_name(call: u64, out: &mut [u8], at: usize) -> usize {
-    match call {
-        3 => text_print::print_bytes(out, at, b"relation"),
-        4 => text_print::print_bytes(out, at, b"transducer"),
-        _ => text_print::print_bytes(out, at, b"terminal"),
-    }
+fn show_name(call: Call, out: &mut [u8], at: usize) -> usize {
+    let name: &[u8] = match call {
+        Call::RelationRow => b"relation",
+        Call::TransducerRow => b"transducer",
+        _ => b"terminal",
+    };
+    text_print::print_bytes(out, at, name)
 }
 
 // Makes the call with exactly these words lent, and prints the answer: the counts, the pairs and the literals.
 fn made_lent(
+    call: Call,
     numbers: &[u64],
     predicate_pairs: &[u32],
     work: &mut [u64],
@@ -133,22 +126,18 @@ fn made_lent(
     out: &mut [u8],
     at: usize,
 ) -> usize {
-    let made = make(numbers, predicate_pairs, work, pairs, literals);
-    let answer: [u64; 3] = [made.reason, made.clauses as u64, made.literals as u64];
-    let named = show_name(lists::word(numbers, 0), out, at);
+    let made = make(call, numbers, predicate_pairs, work, pairs, literals);
+    let answer = [made.reason, made.clauses as u64, made.literals as u64];
+    let named = show_name(call, out, at);
     let counted = show::words(out, named, &answer);
-    let first = show::kept(
-        out,
-        counted,
-        pairs,
-        text_print::advance(made.clauses, made.clauses),
-    );
+    let first = show::kept(out, counted, pairs, made.clauses.saturating_mul(2));
     let second = show::kept_literals(out, first, literals, made.literals);
     show::zero(out, second, work, 0)
 }
 
 // Makes the call with so many words lent.
 fn made_with(
+    call: Call,
     numbers: &[u64],
     predicate_pairs: &[u32],
     work: &mut [u64],
@@ -160,16 +149,11 @@ fn made_with(
     let work_words = form::size(numbers, 2);
     let pair_words = form::size(numbers, 3);
     let literal_words = form::size(numbers, 4);
-    if work.len() < work_words {
-        return show::malformed(out, at);
-    }
-    if pairs.len() < pair_words {
-        return show::malformed(out, at);
-    }
-    if literals.len() < literal_words {
+    if work.len() < work_words || pairs.len() < pair_words || literals.len() < literal_words {
         return show::malformed(out, at);
     }
     made_lent(
+        call,
         numbers,
         predicate_pairs,
         &mut work[..work_words],
@@ -182,6 +166,7 @@ fn made_with(
 
 // Makes the call with the predicate's literals in front of the room that is lent for them.
 fn made_for(
+    call: Call,
     numbers: &[u64],
     predicate_pairs: &mut [u32],
     work: &mut [u64],
@@ -199,6 +184,7 @@ fn made_for(
     }
     copy_literals(part(numbers, 4), predicate_pairs);
     made_with(
+        call,
         numbers,
         &predicate_pairs[..count],
         work,
@@ -210,12 +196,13 @@ fn made_for(
 }
 
 // A case of one of the three calls.
-pub fn made_case(numbers: &[u64], out: &mut [u8], at: usize) -> usize {
+pub fn made_case(call: Call, numbers: &[u64], out: &mut [u8], at: usize) -> usize {
     let mut predicate_pairs = [0u32; 2048];
     let mut work = [show::WORD; 4096];
     let mut pairs = [show::WORD; 8192];
     let mut literals = [show::LITERAL; 8192];
     made_for(
+        call,
         numbers,
         &mut predicate_pairs,
         &mut work,

@@ -6,7 +6,7 @@ use text::{Cursor, Reader};
 
 // Prints an answer of the witness reader.
 fn show_counts(read: NitWitness, out: &mut [u8], at: usize) -> usize {
-    let answer: [u64; 8] = [
+    let answer = [
         read.reason,
         read.max_variable as u64,
         read.inputs as u64,
@@ -44,7 +44,7 @@ fn compose_lent(
     let buffer = form::bytes(texts, end, texts.len());
     let pairs = lists::cut(numbers, 5, numbers.len());
     let composed = compositions::nit_compose(model, buffer, pairs, work, room);
-    let answer: [u64; 2] = [composed.reason, composed.bytes as u64];
+    let answer = [composed.reason, composed.bytes as u64];
     let named = text_print::print_bytes(out, at, b"compose");
     let counted = show::words(out, named, &answer);
     let cleared = show::zero(out, counted, work, 0);
@@ -60,18 +60,12 @@ fn compose_with(
     out: &mut [u8],
     at: usize,
 ) -> usize {
-    if numbers.len() < 5 {
-        return show::malformed(out, at);
-    }
-    if texts.len() < form::size(numbers, 4) {
+    if numbers.len() < 5 || texts.len() < form::size(numbers, 4) {
         return show::malformed(out, at);
     }
     let work_words = form::size(numbers, 2);
     let room_bytes = form::size(numbers, 3);
-    if work.len() < work_words {
-        return show::malformed(out, at);
-    }
-    if room.len() < room_bytes {
+    if work.len() < work_words || room.len() < room_bytes {
         return show::malformed(out, at);
     }
     compose_lent(
@@ -92,20 +86,16 @@ pub fn compose_case(numbers: &[u64], texts: &[u8], out: &mut [u8], at: usize) ->
     compose_with(numbers, texts, &mut work, &mut room, out, at)
 }
 
-// Which reader's rule a number names.
-fn reader(rule: u64) -> Reader {
-    match rule {
-        0 => Reader::Transition,
-        _ => Reader::Witness,
-    }
-}
-
 // A case of the reader of one literal: 0 for the transition reader's numbers or 1 for the witness reader's, and a place of the block.
 pub fn literal_case(numbers: &[u64], text: &[u8], out: &mut [u8], at: usize) -> usize {
     if numbers.len() != 4 {
         return show::malformed(out, at);
     }
-    let rule = reader(lists::word(numbers, 2));
+    let rule = if lists::word(numbers, 2) == 0 {
+        Reader::Transition
+    } else {
+        Reader::Witness
+    };
     let named = text_print::print_bytes(out, at, b"literal");
     let literal = text::take_literal(
         rule,

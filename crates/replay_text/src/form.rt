@@ -2,59 +2,65 @@
 // bytes the block has. Lists of words stand at the end of the line, behind their lengths.
 use text::{Reader, Taken};
 
-// How many numbers a line has, or that it has something else or too many of them.
-#[derive(Clone, Copy)]
-pub enum Count {
-    Of(usize),
-    Other,
+// Which call a case makes, in the order of their numbers from 1 on.
+#[derive(Clone, Copy, PartialEq, Eq)]
+pub enum Call {
+    ReadTransition,
+    Step,
+    RelationRow,
+    TransducerRow,
+    Terminal,
+    ReadWitness,
+    Compose,
+    TakeLiteral,
 }
 
-// Puts the numbers of a line in front.
-pub fn numbers(line: &[u8], to: &mut [u64]) -> Count {
-    let mut count = 0;
+// The call that a number names, if it names one.
+pub fn call_of(number: u64) -> Option<Call> {
+    match number {
+        1 => Some(Call::ReadTransition),
+        2 => Some(Call::Step),
+        3 => Some(Call::RelationRow),
+        4 => Some(Call::TransducerRow),
+        5 => Some(Call::Terminal),
+        6 => Some(Call::ReadWitness),
+        7 => Some(Call::Compose),
+        8 => Some(Call::TakeLiteral),
+        _ => None,
+    }
+}
+
+// Puts the numbers of a line in front, and says how many there are; none where it has something else or too many of them.
+pub fn numbers(line: &[u8], to: &mut [u64]) -> Option<usize> {
     let mut at = 0;
-    while count < to.len() {
-        let taken = text::next_number(Reader::Transition, line, at);
-        match taken {
+    for count in 0..to.len() {
+        match text::next_number(Reader::Transition, line, at) {
             Taken::Got { value, next } => {
                 to[count] = value;
-                count += 1;
                 at = next;
             }
-            Taken::Missing => {
-                return Count::Of(count);
-            }
-            Taken::Unreadable => {
-                return Count::Other;
-            }
+            Taken::Missing => return Some(count),
+            Taken::Unreadable => return None,
         }
     }
-    Count::Other
+    None
 }
 
 // Number k as a size.
 pub fn size(numbers: &[u64], k: usize) -> usize {
-    lists::index(lists::word(numbers, k))
+    lists::word(numbers, k) as usize
 }
 
 // The bytes from place a up to place e, as far as there are any.
 pub fn bytes(list: &[u8], a: usize, e: usize) -> &[u8] {
-    if list.len() < e {
-        return &list[..0];
-    }
-    if e < a {
-        return &list[..0];
-    }
-    &list[a..e]
+    list.get(a..e).unwrap_or(&[])
 }
 
 // Where list k begins: the lengths stand from place `lengths` on, and the first list at `start`.
 pub fn list_start(numbers: &[u64], lengths: usize, start: usize, k: usize) -> usize {
     let mut at = start;
-    let mut i = 0;
-    while i < k {
-        at = text_print::advance(at, size(numbers, text_print::advance(lengths, i)));
-        i += 1;
+    for i in 0..k {
+        at = at.saturating_add(size(numbers, lengths.saturating_add(i)));
     }
     at
 }
@@ -62,6 +68,6 @@ pub fn list_start(numbers: &[u64], lengths: usize, start: usize, k: usize) -> us
 // List k.
 pub fn list(numbers: &[u64], lengths: usize, start: usize, k: usize) -> &[u64] {
     let from = list_start(numbers, lengths, start, k);
-    let count = size(numbers, text_print::advance(lengths, k));
-    lists::cut(numbers, from, text_print::advance(from, count))
+    let count = size(numbers, lengths.saturating_add(k));
+    lists::cut(numbers, from, from.saturating_add(count))
 }

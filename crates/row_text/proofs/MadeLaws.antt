@@ -1,5 +1,6 @@
 -- What the answer of the obligation says of the printed text.
 use Prim.Native.Nat.{ℕ, ◌+◌, ◌*◌, ◌≤◌}
+use Rattle.std.specs.Prelude.{Result, Ok, Err}
 use mathlib.Core.Path.{◌≡◌, refl, sym, ap, ◌∙◌}
 use mathlib.Core.Bool.{Bool, true, false}
 use mathlib.Core.List.{List, [], ◌∷◌}
@@ -16,9 +17,9 @@ use Rattle.cnf.proofs.ReturnedLaws.{returned-back}
 use Rattle.obligation_spec.specs.Calls.{Asked, Lent, asked, predicate, within, relation_row, relation_on}
 use Rattle.obligation_spec.specs.Limits.{is_state, states_claimed}
 use Rattle.obligation_spec.specs.Lists.{relation_clauses}
-use Rattle.obligation.specs.declared.Made.{Made}
-use Rattle.obligation.specs.declared.Made.TheVariants.{Clauses, Refused}
-use Rattle.obligation.specs.Promise.{answer_of, sizes, Buffers, lent_of, Makes, MakesRelation}
+use Rattle.aiger.specs.declared.Refusal.{Refusal}
+use Rattle.aiger.specs.Refusals.{refusal_number, answered}
+use Rattle.obligation.specs.Promise.{sizes, Buffers, lent_of, Makes, MakesRelation}
 use Rattle.row_text.specs.RowProgram.{printed}
 use Rattle.row_text.specs.Inner.Steps.{numbers_in, InFront}
 use Rattle.row_text.specs.Inner.Made.{made_answer, Standing, Printable}
@@ -71,9 +72,9 @@ record Rows (answer : Answer (List Clause)) (t : ClauseCounts) (after : Buffers)
   back : returned t.clauses after.pairs after.literals ≡ cs
   front : InFront cs t.clauses after.pairs after.literals
 
-rows_made : (answer : Answer (List Clause)) (b : Buffers) (r : Made) (after : Buffers) → Makes answer b r after → (t : ClauseCounts) → r ≡ Clauses t → Rows answer t after
+rows_made : (answer : Answer (List Clause)) (b : Buffers) (r : Result ClauseCounts Refusal) (after : Buffers) → Makes answer b r after → (t : ClauseCounts) → r ≡ Ok t → Rows answer t after
 rows_made (got cs) b r after k t e =
-    let told : got t ≡ got (sizes cs) = ap answer_of (sym e) ∙ k.answers in
+    let told : got t ≡ got (sizes cs) = ap answered (sym e) ∙ k.answers in
     let same : t ≡ sizes cs = cc in
     let n : t.clauses ≡ length cs = ap (λ (s : ClauseCounts). s.clauses) same in
     record {
@@ -89,24 +90,24 @@ rows_made (got cs) b r after k t e =
       };
     }
 rows_made (refused n) b r after k t e =
-    let told : got t ≡ refused n = ap answer_of (sym e) ∙ k.answers in
+    let told : got t ≡ refused n = ap answered (sym e) ∙ k.answers in
     never told
 
-none_made : (answer : Answer (List Clause)) (b : Buffers) (r : Made) (after : Buffers) → Makes answer b r after → (n : ℕ) → r ≡ Refused n → refused n ≡ answer
+none_made : (answer : Answer (List Clause)) (b : Buffers) (r : Result ClauseCounts Refusal) (after : Buffers) → Makes answer b r after → (n : Refusal) → r ≡ Err n → refused (refusal_number n) ≡ answer
 none_made (got cs) b r after k n e =
-    let told : refused n ≡ got (sizes cs) = ap answer_of (sym e) ∙ k.answers in
+    let told : refused (refusal_number n) ≡ got (sizes cs) = ap answered (sym e) ∙ k.answers in
     never (sym told)
 none_made (refused m) b r after k n e =
-    let told : ◌≡◌ {A = Answer ClauseCounts} (refused n) (refused m) = ap answer_of (sym e) ∙ k.answers in
-    let same : n ≡ m = cc in
+    let told : ◌≡◌ {A = Answer ClauseCounts} (refused (refusal_number n)) (refused m) = ap answered (sym e) ∙ k.answers in
+    let same : refusal_number n ≡ m = cc in
     ap refused same
 
 -- the same of the call
-module _ (q : Asked) (source : ℕ) (targets : List ℕ) (b : Buffers) (r : Made) (after : Buffers) (k : MakesRelation q source targets b r after) where
-  rows : (t : ClauseCounts) → r ≡ Clauses t → Rows (relation_row q source targets (lent_of b)) t after
+module _ (q : Asked) (source : ℕ) (targets : List ℕ) (b : Buffers) (r : Result ClauseCounts Refusal) (after : Buffers) (k : MakesRelation q source targets b r after) where
+  rows : (t : ClauseCounts) → r ≡ Ok t → Rows (relation_row q source targets (lent_of b)) t after
   rows t e = rows_made (relation_row q source targets (lent_of b)) b r after k.makes t e
 
-  standing : (t : ClauseCounts) → r ≡ Clauses t → (room : ℕ) → 21 * (length b.pairs + length b.literals) + 29 ≤ room → Standing t.clauses after.pairs after.literals room
+  standing : (t : ClauseCounts) → r ≡ Ok t → (room : ℕ) → 21 * (length b.pairs + length b.literals) + 29 ≤ room → Standing t.clauses after.pairs after.literals room
   standing t e room h =
       let w : Rows (relation_row q source targets (lent_of b)) t after = rows t e in
       let f : Fits (lent_of b) w.cs = row_fits (lent_of b) w.cs q source targets w.is in
@@ -115,25 +116,25 @@ module _ (q : Asked) (source : ℕ) (targets : List ℕ) (b : Buffers) (r : Made
   pub made_printable : (room : ℕ) → 21 * (length b.pairs + length b.literals) + 29 ≤ room → Printable r after.pairs after.literals room
   made_printable room h = record { rows = λ t e. standing t e room h; fits = omega arith }
 
-  by_answer : (s : Made) → r ≡ s → made_answer s after.pairs after.literals ≡ relation_row q source targets (lent_of b)
-  by_answer (Clauses t) e = let w = rows t e in ap got w.back ∙ sym w.is
-  by_answer (Refused n) e = none_made (relation_row q source targets (lent_of b)) b r after k.makes n e
+  by_answer : (s : Result ClauseCounts Refusal) → r ≡ s → made_answer s after.pairs after.literals ≡ relation_row q source targets (lent_of b)
+  by_answer (Ok t) e = let w = rows t e in ap got w.back ∙ sym w.is
+  by_answer (Err n) e = none_made (relation_row q source targets (lent_of b)) b r after k.makes n e
 
   pub made_printed : (o o' : Bytes) (n : ℕ) → Wrote o 0 (printed (made_answer r after.pairs after.literals)) o' n → Wrote o 0 (printed (relation_row q source targets (lent_of b))) o' n
   made_printed o o' n w = rw (← by_answer r refl) w
 
 -- ---- printing an answer
 
-module _ (r : Made) (pairs words : List ℕ) (room : ℕ) (k : Printable r pairs words room) where
-  pub rows-front : (t : ClauseCounts) → r ≡ Clauses t → InFront (returned t.clauses pairs words) t.clauses pairs words
+module _ (r : Result ClauseCounts Refusal) (pairs words : List ℕ) (room : ℕ) (k : Printable r pairs words room) where
+  pub rows-front : (t : ClauseCounts) → r ≡ Ok t → InFront (returned t.clauses pairs words) t.clauses pairs words
   rows-front t e = (k.rows t e).front
 
-  pub rows-room : (t : ClauseCounts) → r ≡ Clauses t → 21 * numbers_in (returned t.clauses pairs words) + 26 ≤ room
+  pub rows-room : (t : ClauseCounts) → r ≡ Ok t → 21 * numbers_in (returned t.clauses pairs words) + 26 ≤ room
   rows-room t e = (k.rows t e).fits
 
-pub rows_text : (r : Made) (pairs words o o' : List ℕ) (n : ℕ) (t : ClauseCounts) → r ≡ Clauses t → Wrote o 0 (printed (got (returned t.clauses pairs words))) o' n
+pub rows_text : (r : Result ClauseCounts Refusal) (pairs words o o' : List ℕ) (n : ℕ) (t : ClauseCounts) → r ≡ Ok t → Wrote o 0 (printed (got (returned t.clauses pairs words))) o' n
     → Wrote o 0 (printed (made_answer r pairs words)) o' n
 rows_text r pairs words o o' n t e w = rw e w
 
-pub refused_text : (r : Made) (pairs words o o' : List ℕ) (n m : ℕ) → r ≡ Refused m → Wrote o 0 (printed (refused m)) o' n → Wrote o 0 (printed (made_answer r pairs words)) o' n
-refused_text r pairs words o o' n m e w = rw e w
+pub refused_text : (r : Result ClauseCounts Refusal) (pairs words o o' : List ℕ) (n : ℕ) (m : Refusal) → r ≡ Err m → (x : ℕ) → x ≡ refusal_number m → Wrote o 0 (printed (refused x)) o' n → Wrote o 0 (printed (made_answer r pairs words)) o' n
+refused_text r pairs words o o' n m e x q w = rw e (rw q at w)

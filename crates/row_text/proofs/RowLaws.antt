@@ -1,6 +1,7 @@
 -- From the input to the row: the first line, the model, and what is lent.
 use Rattle.std.specs.Prelude.{Option, Some, None}
 use Prim.Native.Nat.{ℕ, ◌+◌, ◌≤◌, ◌<◌}
+use Rattle.std.specs.Prelude.{Result, Ok, Err}
 use mathlib.Core.Path.{◌≡◌, refl, sym, ap, ◌∙◌}
 use mathlib.Core.List.{List, [], ◌∷◌}
 use native.Mathlib.Omega.{arith}
@@ -14,10 +15,11 @@ use Rattle.lists.proofs.PartLaws.{put_front, part-drop}
 use Rattle.lists.proofs.ZeroLaws.{zeros-length}
 use Rattle.scan.specs.Spans.{span, in_line}
 use Rattle.scan.proofs.SpanLaws.{span_le}
-use Rattle.model.specs.declared.Verdict.TheVariants.{Valid, Refused}
-use Rattle.model.specs.Circuit.{Circuit}
-use Rattle.model_read.specs.declared.ReadTransition.{ReadTransition}
-use Rattle.model_read.specs.Reading.{read_transition, Reads}
+use Rattle.aiger.specs.declared.Refusal.{Refusal}
+use Rattle.aiger.specs.Refusals.{refusal_number}
+use Rattle.model.specs.declared.AigerTransition.{AigerTransition}
+use Rattle.model.specs.Circuit.{Circuit, record_of}
+use Rattle.model_read.specs.Reading.{read_transition, read_of, Reads}
 use Rattle.obligation_spec.specs.Calls.{relation_row}
 use Rattle.row_text.specs.RowProgram.{first_line, after_line, pieces, numbers_of, row_answer, printed, row_text, bare, bare_of, row_in, RowWrites}
 use Rattle.row_text.specs.Inner.Steps.{answer_in}
@@ -34,7 +36,7 @@ module _ (o : Bytes) (ns : List ℕ) (t : Bytes) (gates : List ℕ) (work pairs 
       by_list [] h = w
       by_list (x ∷ xs) h = absurd (omega arith)
 
-  module _ (r : ReadTransition) (gates' work' : List ℕ) (k : Reads (read_transition t (length gates) work) gates work r gates' work') (h : 0 < length ns) where
+  module _ (r : Result AigerTransition Refusal) (gates' work' : List ℕ) (k : Reads (read_transition t (length gates) work) gates work r gates' work') (h : 0 < length ns) where
     row_from : (l : List ℕ) → 0 < length l
         → row_in l t gates (record { work = work; pairs = pairs; literals = literals })
         ≡ and_then (read_transition t (length gates) work) (λ c. relation_row (bare_of c gates) (get_or l 0 0) (part l 1 (length l)) (record { work = work; pairs = pairs; literals = literals }))
@@ -43,32 +45,34 @@ module _ (o : Bytes) (ns : List ℕ) (t : Bytes) (gates : List ℕ) (work pairs 
         ap (λ (ts : List ℕ). and_then (read_transition t (length gates) work) (λ c. relation_row (bare_of c gates) x ts (record { work = work; pairs = pairs; literals = literals })))
         (sym (part-drop (x ∷ xs) 1))
 
-    pub for_refused : (m : ℕ) → r.verdict ≡ Refused m → Wrote o 0 (printed (refused m)) o' n → PrintsIn ns t gates work pairs literals o n o'
-    for_refused m e w = record { wrote = rw (row_from ns h) (by_answer (read_transition t (length gates) work) k) }
+    pub for_refused : (m : Refusal) → r ≡ Err m → (x : ℕ) → x ≡ refusal_number m → Wrote o 0 (printed (refused x)) o' n → PrintsIn ns t gates work pairs literals o n o'
+    for_refused m e x i w = record { wrote = rw (row_from ns h) (by_answer (read_transition t (length gates) work) k) }
       where
         by_answer : (a : Answer Circuit) → Reads a gates work r gates' work'
             → Wrote o 0 (printed (and_then a (λ c. relation_row (bare_of c gates) (get_or ns 0 0) (part ns 1 (length ns)) (record { work = work; pairs = pairs; literals = literals })))) o' n
         by_answer (got c) q =
-            let never : Valid ≡ Refused m = ap (λ (x : ReadTransition). x.verdict) (sym q.returns) ∙ e in
+            let never : refused (refusal_number m) ≡ read_of (got c) = rw e at q.returns in
             let z : ◌≡◌ {A = ℕ} 0 1 = cc in
             absurd (omega arith)
         by_answer (refused j) q =
-            let told : Refused j ≡ Refused m = ap (λ (x : ReadTransition). x.verdict) (sym q.returns) ∙ e in
-            let same : j ≡ m = cc in
-            rw same w
+            let told : ◌≡◌ {A = Answer AigerTransition} (refused (refusal_number m)) (refused j) = rw e at q.returns in
+            let same : x ≡ j = cc in
+            rw same at w
 
-    pub for_valid : r.verdict ≡ Valid
-        → Wrote o 0 (printed (relation_row (bare r.model gates') (get_or ns 0 0) (part ns 1 (length ns)) (record { work = length work'; pairs = pairs; literals = literals }))) o' n
+    pub for_valid : (m : AigerTransition) → r ≡ Ok m
+        → Wrote o 0 (printed (relation_row (bare m gates') (get_or ns 0 0) (part ns 1 (length ns)) (record { work = length work'; pairs = pairs; literals = literals }))) o' n
         → PrintsIn ns t gates work pairs literals o n o'
-    for_valid e w = record { wrote = rw (row_from ns h) (by_answer (read_transition t (length gates) work) k) }
+    for_valid m e w = record { wrote = rw (row_from ns h) (by_answer (read_transition t (length gates) work) k) }
       where
         by_answer : (a : Answer Circuit) → Reads a gates work r gates' work'
             → Wrote o 0 (printed (and_then a (λ c. relation_row (bare_of c gates) (get_or ns 0 0) (part ns 1 (length ns)) (record { work = work; pairs = pairs; literals = literals })))) o' n
         by_answer (got c) q =
+            let told : got m ≡ read_of (got c) = rw e at q.returns in
+            let same : m ≡ record_of c = cc in
             let size : length work' ≡ work = ap length q.clears ∙ zeros-length work in
-            rw (q.returns, q.writes, size) at w
+            rw (same, q.writes, size) at w
         by_answer (refused j) q =
-            let never : Refused j ≡ Valid = ap (λ (x : ReadTransition). x.verdict) (sym q.returns) ∙ e in
+            let never : ◌≡◌ {A = Answer AigerTransition} (got m) (refused j) = rw e at q.returns in
             let z : ◌≡◌ {A = ℕ} 0 1 = cc in
             absurd (omega arith)
 

@@ -13,8 +13,9 @@ ghost use Rattle.row_text.specs.Inner.Steps.{in_piece, answer_in, spaced_numbers
 ghost use Rattle.obligation_spec.specs.Calls.{relation_row};
 ghost use Rattle.row_text.specs.Inner.Made.{made_answer, Printable, PrintsIn, PrintsFor};
 
-use model::{AigerTransition, Verdict};
-use obligation::Made;
+use aiger::Refusal;
+use cnf::ClauseCounts;
+use model::AigerTransition;
 
 // Where what stands between two spaces ends.
 fn piece_end(line: &[u8], at: usize) -> usize
@@ -133,13 +134,18 @@ fn write_refused(out: &mut [u8], n: u64) -> usize
 }
 
 // Prints an answer.
-fn print_made(made: Made, pairs: &[u64], literals: &[u32], out: &mut [u8]) -> usize
+fn print_made(
+    made: Result<ClauseCounts, Refusal>,
+    pairs: &[u64],
+    literals: &[u32],
+    out: &mut [u8],
+) -> usize
     requires { Printable made pairs.now literals.now (length out.old) }
     ensures { Wrote out.old 0 (printed (made_answer made pairs.now literals.now)) out.new result }
 {
     match made {
-        Made::Clauses(t) => write_rows(out, pairs, literals, t.clauses),
-        Made::Refused(n) => write_refused(out, n),
+        Ok(made) => write_rows(out, pairs, literals, made.clauses),
+        Err(refusal) => write_refused(out, u64::from(refusal)),
     }
 }
 
@@ -159,7 +165,7 @@ fn print_row(
 {
     let none = [0u32; 1];
     let made = obligation::relation_row_completeness_cnf(
-        model,
+        &model,
         gates,
         &gates[..0],
         source,
@@ -189,11 +195,9 @@ fn print_for(
     if numbers.len() == 0 {
         return write_refused(out, 14);
     }
-    let read = model_read::parse_ascii_aiger_transition(text, gates, work);
-    let verdict = read.verdict;
-    match verdict {
-        Verdict::Valid => print_row(
-            read.model,
+    match model_read::parse_ascii_aiger_transition(text, gates, work) {
+        Ok(model) => print_row(
+            model,
             gates,
             numbers[0],
             &numbers[1..],
@@ -202,7 +206,7 @@ fn print_for(
             literals,
             out,
         ),
-        Verdict::Refused(n) => write_refused(out, n),
+        Err(refusal) => write_refused(out, u64::from(refusal)),
     }
 }
 

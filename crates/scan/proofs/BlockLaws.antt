@@ -6,13 +6,13 @@ use mathlib.Core.List.{[], ◌∷◌, ◌++◌}
 use native.Mathlib.Omega.{arith}
 use borrow.Author.Tests.{le-leb, lt-leb, leb-true, leb-false}
 use lib.Dec.{leb}
+use lib.Seq.{drop-drop, drop-append_seam}
 use lib.ListN.{length, get_or, take, drop, drop_of_length-le}
 use Rattle.lists.specs.Parts.{Bytes, part}
 use Rattle.lists.specs.Tests.{all}
 use Rattle.lists.proofs.BoolLaws.{and_left, and_right}
 use Rattle.lists.proofs.PartLaws.{drop-take, part_length, part-rest}
 use Rattle.lists.proofs.RestLaws.{rest_more}
-use Rattle.lists.proofs.TestLaws.{all_append}
 use Rattle.scan.specs.Spans.{span}
 use Rattle.scan.proofs.SpanLaws.{span_le}
 
@@ -30,33 +30,19 @@ max-leb m x top = go (leb m top) (leb x top) refl refl
 pub record Highest (p : ℕ → Bool) (top : ℕ) (l : Bytes) (most i : ℕ) : Type 0 where
   pub is : all p l ≡ (leb most top && all p (drop i l))
 
-module _ (p : ℕ → Bool) (rank : ℕ → ℕ) (top : ℕ) (ranked : (b : ℕ) → p b ≡ leb (rank b) top) (l : Bytes) where
+module _ (p : ℕ → Bool) (top : ℕ) (l : Bytes) where
   pub highest-none : Highest p top l 0 0
   highest-none = record { is = rw (le-leb 0 top (omega arith)) }
 
   module _ (most i : ℕ) (k : Highest p top l most i) where
-    pub highest-more : (x next : ℕ) → i < length l → x ≡ rank (get_or l i 0) → next ≡ max most x → Highest p top l next (i + 1)
+    pub highest-more : (x next : ℕ) → i < length l → leb x top ≡ p (get_or l i 0) → next ≡ max most x → Highest p top l next (i + 1)
     highest-more x next h e f =
         record {
-          is =
-              k.is
-              ∙ rw (f, max-leb most x top, e, ← ranked (get_or l i 0), rest_more l i 0 h) (sym (and_assoc (leb most top) (p (get_or l i 0)) (all p (drop (i + 1) l))));
+          is = k.is ∙ rw (f, max-leb most x top, e, rest_more l i 0 h) (sym (and_assoc (leb most top) (p (get_or l i 0)) (all p (drop (i + 1) l))));
         }
 
     pub highest-end : length l ≤ i → leb most top ≡ all p l
     highest-end h = sym (k.is ∙ rw (drop_of_length-le l h) (and-true (leb most top)))
-
--- ---- one block after the other
-
-module _ (p : ℕ → Bool) (l : Bytes) (at e : ℕ) (h : at ≤ e) (q : Bool) (block : q ≡ all p (part l at e)) where
-  halves : all p (drop at l) ≡ (q && all p (drop e l))
-  halves = ap (all p) (part-rest l at e h) ∙ all_append p (part l at e) (drop e l) ∙ rw (← block)
-
-  pub block_more : (r : Bool) → r ≡ all p (drop at l) → q ≡ true → r ≡ all p (drop e l)
-  block_more r k t = k ∙ halves ∙ rw t
-
-  pub block-stop : (r : Bool) → r ≡ all p (drop at l) → q ≡ false → false ≡ r
-  block-stop r k t = sym (k ∙ halves ∙ rw t)
 
 -- ---- a span over a block
 
@@ -83,8 +69,20 @@ module _ (p : ℕ → Bool) where
   whole [] h = refl
   whole (x ∷ xs) h = rw (and_left (p x) (all p xs) h, whole xs (and_right (p x) (all p xs) h))
 
+-- a block whose bytes all pass, at the front, is part of the span
+pub span-passed : (p : ℕ → Bool) (rest block after : Bytes) → rest ≡ block ++ after → (q : Bool) → q ≡ all p block → q ≡ true → (n passed : ℕ)
+    → n ≡ passed + span p rest → n ≡ passed + length block + span p after
+span-passed p rest block after cut q e t n passed k =
+    let m : span p rest ≡ length block + span p after = ap (span p) cut ∙ passes p block after (whole p block (sym e ∙ t)) in
+    omega (arith, k, m)
+
+-- and what follows it is the rest
+pub passed-block : (s rest block after : Bytes) (passed : ℕ) → drop passed s ≡ rest → rest ≡ block ++ after → drop (passed + length block) s ≡ after
+passed-block s rest block after passed d cut =
+    sym (drop-drop (length block) passed s) ∙ ap (drop (length block)) (d ∙ cut) ∙ drop-append_seam block after
+
 module _ (p : ℕ → Bool) (s : Bytes) (at e : ℕ) where
-  -- a block whose bytes all pass is part of the span
+  -- a block of it whose bytes all pass
   pub span-block : at ≤ e → e ≤ length s → (q : Bool) → q ≡ all p (part s at e) → q ≡ true → (n : ℕ) → at + span p (drop at s) ≡ n → e + span p (drop e s) ≡ n
   span-block h g q block t n k =
       let m : span p (drop at s) ≡ length (part s at e) + span p (drop e s) = ap (span p) (part-rest s at e h) ∙ passes p (part s at e) (drop e s) (whole p (part s at e) (sym block ∙ t)) in
@@ -106,3 +104,13 @@ module _ (p : ℕ → Bool) (s : Bytes) (at e : ℕ) where
         let m : span p (drop at s) ≡ length (part s at e) + span p (drop e s) = ap (span p) (part-rest s at e h) ∙ passes p (part s at e) (drop e s) n in
         let z : i ≡ e = omega (arith, inside h, n, part_length s at e g) in
         rw z (omega (arith, m, part_length s at e g))
+
+-- a line that goes on past a near place e: blocks from e on, and what follows them
+pub span_past : (p : ℕ → Bool) (s : Bytes) (at e i r n : ℕ) → i ≡ at + span p (drop at (take e s)) → e ≤ length s → at ≤ e → e ≤ i
+    → r + span p (drop r (drop e s)) ≡ span p (drop e s) → n ≡ e + r + span p (drop (e + r) s) → n ≡ at + span p (drop at s)
+span_past p s at e i r n k g h l b f =
+    let d : drop r (drop e s) ≡ drop (e + r) s = drop-drop r e s in
+    let z : i ≡ e = omega (arith, k, ap (λ (x : Bytes). span p x) (drop-take at e s), span_le p (part s at e), part_length s at e g) in
+    let m : r + span p (drop (e + r) s) ≡ span p (drop e s) = ap (λ (x : Bytes). r + span p x) (sym d) ∙ b in
+    let w : e + span p (drop e s) ≡ at + span p (drop at s) = rw (← z) (span_far p s at e i k g h l) in
+    omega (arith, f, m, w)

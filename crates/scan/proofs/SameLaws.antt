@@ -1,46 +1,20 @@
--- Laws of `same_bytes` and `begins_with`: the loops that compare (n is what the invariant says of i), and what the answers mean.
-use Prim.Native.Nat.{ℕ, ◌+◌, ◌≤◌, ◌<◌}
+-- Laws of `same_bytes` and `begins_with`: std's word for the second, and what the answers mean.
+use Prim.Native.Nat.{ℕ}
 use mathlib.Core.Path.{◌≡◌, refl, ap}
 use mathlib.Core.List.{List, [], ◌∷◌, ◌++◌}
-use mathlib.Core.Bool.{Bool, true, false}
-use native.Mathlib.Numerals.{add-one}
-use borrow.Author.Tests.{eq-eqb, ne_eqb, eqb-true, leb-true, leb-false}
-use lib.ListN.{length, get_or, drop, drop_of_length-le}
-use lib.Seq.{drop-cons}
-use lib.Dec.{leb, eqb}
-use Rattle.lists.proofs.BoolLaws.{true-false, and_left, and_right}
+use mathlib.Core.Bool.{true}
+use borrow.Author.Tests.{eq-eqb, eqb-true}
+use lib.ListN.{length, drop}
+use lib.Dec.{eqb}
+use Rattle.std.specs.List.{starts_with}
+use Rattle.lists.proofs.BoolLaws.{true-false, and_left, and_right, eqb_swap}
 use Rattle.scan.specs.Same.{same_bytes, begins_with}
 
-module _ (a b : List ℕ) (i : ℕ) (n : Bool) (k : n ≡ same_bytes (drop i a) (drop i b)) where
-  pub same-short : i < length a → length b ≤ i → false ≡ n
-  same-short h g = rw (k, drop-cons a i 0 h, drop_of_length-le b g)
-
-  pub same_differ : i < length a → i < length b → (get_or a i 0 ≡ get_or b i 0 → ⊥) → false ≡ n
-  same_differ h g d = rw (k, drop-cons a i 0 h, drop-cons b i 0 g) (simp (ne_eqb (get_or a i 0) (get_or b i 0) d))
-
-  pub same-again : i < length a → i < length b → get_or a i 0 ≡ get_or b i 0 → n ≡ same_bytes (drop (i + 1) a) (drop (i + 1) b)
-  same-again h g e = rw (k, add-one, drop-cons a i 0 h, drop-cons b i 0 g) (simp (eq-eqb (get_or a i 0) (get_or b i 0) e))
-
-  all : length a ≤ i → (t : Bool) → leb (length b) i ≡ t → t ≡ n
-  all h true e = rw (k, drop_of_length-le a h, drop_of_length-le b (leb-true (length b) i e))
-  all h false e = rw (k, drop_of_length-le a h, drop-cons b i 0 (leb-false (length b) i e))
-
-  pub same_end : length a ≤ i → leb (length b) i ≡ n
-  same_end h = all h (leb (length b) i) refl
-
--- `begins_with` in the same way
-module _ (s w : List ℕ) (i : ℕ) (n : Bool) (k : n ≡ begins_with (drop i s) (drop i w)) where
-  pub begins-short : i < length w → length s ≤ i → false ≡ n
-  begins-short h g = rw (k, drop-cons w i 0 h, drop_of_length-le s g)
-
-  pub begins_differ : i < length w → i < length s → (get_or s i 0 ≡ get_or w i 0 → ⊥) → false ≡ n
-  begins_differ h g d = rw (k, drop-cons w i 0 h, drop-cons s i 0 g) (simp (ne_eqb (get_or s i 0) (get_or w i 0) d))
-
-  pub begins-again : i < length w → i < length s → get_or s i 0 ≡ get_or w i 0 → n ≡ begins_with (drop (i + 1) s) (drop (i + 1) w)
-  begins-again h g e = rw (k, add-one, drop-cons w i 0 h, drop-cons s i 0 g) (simp (eq-eqb (get_or s i 0) (get_or w i 0) e))
-
-  pub begins-end : length w ≤ i → true ≡ n
-  begins-end h = rw (k, drop_of_length-le w h)
+-- std's `starts_with`, which takes the word's bytes first
+pub begins-starts : (s w : List ℕ) → starts_with eqb s w ≡ begins_with s w
+begins-starts s [] = refl
+begins-starts [] (y ∷ ys) = refl
+begins-starts (x ∷ xs) (y ∷ ys) = rw (eqb_swap y x, begins-starts xs ys)
 
 -- ---- what the answers mean
 

@@ -2,14 +2,14 @@
 use Prim.Native.Nat.{ℕ, suc, ◌+◌, ◌≤◌, ◌<◌}
 use mathlib.Core.Path.{◌≡◌, refl, sym, ◌∙◌}
 use mathlib.Core.List.{List, [], ◌∷◌}
-use mathlib.Core.Bool.{Bool, true, false, cond, and-false}
+use mathlib.Core.Bool.{Bool, true, false, cond}
 use native.Mathlib.Numerals.{add-one}
 use native.Mathlib.Omega.{arith}
-use borrow.Author.Tests.{eq-eqb, ne_eqb, le-leb, lt-leb}
+use borrow.Author.Tests.{eq-eqb, ne_eqb}
 use lib.ListN.{take, length, get_or, drop, drop_of_length-le, length-drop}
 use lib.Seq.{drop-cons, get_or-drop}
 use Rattle.lists.specs.Tests.{all}
-use Rattle.scan.specs.Spans.{span, in_line, between}
+use Rattle.scan.specs.Spans.{span, in_line}
 
 le_at : (q : Bool) (m n : ℕ) → m ≤ n → cond q (suc m) 0 ≤ suc n
 le_at true m n h = omega arith
@@ -46,17 +46,6 @@ line-goes b h = simp (ne_eqb b 10 h)
 
 pub line-stops : (b : ℕ) → b ≡ 10 → in_line b ≡ false
 line-stops b h = simp (eq-eqb b 10 h)
-
--- and of `between`
-module _ (low high b : ℕ) where
-  pub between_in : low ≤ b → b ≤ high → between low high b ≡ true
-  between_in h k = simp (le-leb low b h, le-leb b high k)
-
-  pub between-low : b < low → between low high b ≡ false
-  between-low h = simp (lt-leb low b h)
-
-  pub between_high : high < b → between low high b ≡ false
-  between_high h = simp (lt-leb b high h, and-false)
 
 -- the byte at which a span ends does not satisfy p
 stop-at : (p : ℕ → Bool) (b : ℕ) (bs : List ℕ) → (span p bs < length bs → p (get_or bs (span p bs) 0) ≡ false)

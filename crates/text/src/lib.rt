@@ -266,7 +266,7 @@ pub fn next_number(reader: Reader, l: &[u8], at: usize) -> Taken
 }
 
 // The number of a line that has one and nothing else.
-fn line_literal(reader: Reader, l: &[u8]) -> Option<u64>
+pub fn line_literal(reader: Reader, l: &[u8]) -> Option<u64>
     ensures { result ≡ literal_of reader l.now }
 {
     let Taken::Got { value, next } = next_number(reader, l, 0) else {

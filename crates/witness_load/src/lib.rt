@@ -15,6 +15,7 @@ ghost use Rattle.witness_load.specs.Inner.Loaded.{operand_words, Loads};
 ghost use Rattle.witness_load.specs.Inner.Loading.{stored_words, literal_word, LoadsSection, rest_room, LoadsRest, body_room, LoadsBody, leaf_words, with_words, NamesLine, LoadsNames, Loadable, LoadsText};
 
 use aiger::Refusal;
+use circuit_lines::LiteralLine;
 use text::{Cursor, Reader};
 use witness_text::{AagCounts, Kind, SymbolLine, TakenLatch, WitnessHeader};
 
@@ -84,7 +85,10 @@ fn load_literals(s: &[u8], cursor: Cursor, n: usize, out: &mut [u64], at: usize)
     ensures { LoadsSection (literal_line Witness) literal_word s.now cursor n out.old at out.new result }
 {
     let end = at + n;
-    circuit_lines::take_literals(Reader::Witness, s, cursor, &mut out[at..end])
+    let kind = LiteralLine {
+        reader: Reader::Witness,
+    };
+    circuit_lines::take_lines(kind, s, cursor, &mut out[at..end])
 }
 
 // Outputs, bads, constraints and gates from a cursor on, stored from a place on, and the cursor after them.

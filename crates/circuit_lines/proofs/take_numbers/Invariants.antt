@@ -1,5 +1,3 @@
-use Prim.Native.Nat.{◌-◌}
-use lib.ListN.{length}
 use Rattle.circuit_lines.proofs.NumbersLaws.{Numbering}
 use Rattle.circuit_lines.proofs.take_numbers.Given as goal
 

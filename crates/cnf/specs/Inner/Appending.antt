@@ -1,11 +1,9 @@
 -- For the contracts of the functions that append clauses in two lent buffers.
-use Rattle.std.specs.Prelude.{ℕ, ◌+◌, ◌*◌, ◌≤◌, ◌<◌, ◌^◌, Bool, false, true, ◌⊎◌, List, [], ◌∷◌, ◌++◌, map, ◌≡◌, length, take}
+use Rattle.std.specs.Prelude.{ℕ, ◌+◌, ◌*◌, ◌≤◌, ◌<◌, ◌^◌, Bool, false, true, ◌⊎◌, List, [], ◌∷◌, ◌++◌, map, ◌≡◌, length, take, Option, Some, None}
 use Rattle.lists.specs.Parts.{front, put}
 use Rattle.lists.specs.Sets.{member, set_of}
 use Rattle.lists.specs.Tests.{Each}
 use Rattle.lists.specs.Words.{words_of}
-use Rattle.cnf.specs.declared.Simple.{Simple}
-use Rattle.cnf.specs.declared.Simple.TheVariants.{Dropped, Kept}
 use Rattle.cnf.specs.declared.ClauseCounts.{ClauseCounts}
 use Rattle.cnf.specs.Clauses.{Clause, literals_of, pairs_from}
 use Rattle.cnf.specs.Simplified.{cnf_word, without_false, both_signs, simplified}
@@ -56,9 +54,9 @@ pub record KeptAs (words : List ℕ) (k : ℕ) (list : List ℕ) : Type 0 where
   pub clause : take k list ≡ set_of words
 
 -- What became of a clause of these words: it is dropped for a variable in both signs, or kept. (A word's other sign is the `opposite` word, as with literals.)
-pub record Simplifies (words : List ℕ) (r : Simple) (list : List ℕ) : Type 0 where
-  pub when_dropped : r ≡ Dropped → both_signs words ≡ true
-  pub when_kept : (k : ℕ) → r ≡ Kept k → KeptAs words k list
+pub record Simplifies (words : List ℕ) (r : Option ℕ) (list : List ℕ) : Type 0 where
+  pub when_dropped : r ≡ None → both_signs words ≡ true
+  pub when_kept : (k : ℕ) → r ≡ Some k → KeptAs words k list
 
 -- the clause was appended, whatever literals it is the clause of
 abbrev pub Pushes : Clause → ClauseCounts → List ℕ → List ℕ → ClauseCounts → List ℕ → List ℕ → Type 0

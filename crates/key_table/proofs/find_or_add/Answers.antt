@@ -18,8 +18,8 @@ bounds-table-at c = within (goal.at.bounds-table-at c).After-walk-at
 pub add-requires : goal.add-requires
 add-requires c = (omega (arith, c.requires.room), within (goal.at.add-requires c).After-walk-at, c.requires.base.word, omega (arith, c.requires.room))
 
-pub returns-then-x-eq0 : goal.returns-then-x-eq0
-returns-then-x-eq0 c = finds_new _ _ _ _ _ _ _ c.requires.base.some c.requires.room c.walk-at.ensures c.index-x.ensures c.if-x-eq0.true c.add.ensures
+pub returns-in_default : goal.returns-in_default
+returns-in_default c = finds_new _ _ _ _ _ _ c.requires.base.some c.requires.room c.walk-at.ensures (omega (arith, c.in_default.ensures)) c.add.ensures
 
 pub returns : goal.returns
-returns c = finds-known _ _ _ _ _ _ c.requires.base.some c.walk-at.ensures c.index-x.ensures c.if-x-eq0.false
+returns c = finds-known _ _ _ _ _ _ c.requires.base.some c.walk-at.ensures (omega (arith, c.in-Some.ensures))

@@ -1,51 +1,47 @@
-use Prim.Native.Nat.{◌<◌}
+use Prim.Native.Nat.{◌+◌, ◌<◌}
+use mathlib.Core.Path.{◌≡◌}
 use native.Mathlib.Omega.{arith}
-use lib.ListN.{length}
-use Rattle.key_table.proofs.HeldLaws.{Ahead, comes-none, comes-within, comes-ahead, comes-more, walked_none, walked-found}
+use lib.ListN.{length, get_or}
+use Rattle.key_table.proofs.HeldLaws.{Ahead, comes-within, comes-ahead, comes-more}
 use Rattle.key_table.proofs.walk.Goals as goal
-use Rattle.key_table.proofs.walk.Goals.{At-loop-heads, Else-x-eq0}
+use Rattle.key_table.proofs.walk.Goals.{At-loop-number, In-Some}
 
-within : (c : At-loop-heads) → c.loop-heads.at < length c.args.table.now
-within c = comes-within c.args.heads c.args.key c.args.table.now c.requires c.loop-heads.at c.loop-heads.code c.loop-heads.invariant
+within : (c : At-loop-number) → c.loop-number.at < length c.args.table.now
+within c = comes-within c.args.heads c.args.key c.args.table.now c.requires c.loop-number.at c.loop-number.code c.loop-number.invariant
 
-ahead : (c : Else-x-eq0) → Ahead c.args.heads (length c.args.table.now) c.loop-heads.at c.index-x.result
-ahead c = comes-ahead c.args.heads c.args.key c.args.table.now c.requires c.loop-heads.at c.loop-heads.code c.loop-heads.invariant c.index-x.result c.index-x.ensures c.if-x-eq0.false
+word : (c : In-Some) → get_or c.args.table.now c.loop-number.at 0 ≡ c.in-Some.number + 1
+word c = omega (arith, c.in-Some.ensures)
 
-pub loop-heads-init : goal.loop-heads-init
-loop-heads-init c = search comes-none
+ahead : (c : In-Some) → Ahead c.args.heads (length c.args.table.now) c.loop-number.at c.in-Some.number
+ahead c = comes-ahead c.args.heads c.args.key c.args.table.now c.requires c.loop-number.at c.loop-number.code c.loop-number.invariant c.in-Some.number (word c)
 
 pub offset_bounds-table-at : goal.offset_bounds-table-at
-offset_bounds-table-at c = omega (arith, within (goal.at.offset_bounds-table-at c).At-loop-heads)
+offset_bounds-table-at c = omega (arith, within (goal.at.offset_bounds-table-at c).At-loop-number)
 
 pub bounds-table-at : goal.bounds-table-at
-bounds-table-at c = within (goal.at.bounds-table-at c).At-loop-heads
-
-pub returns-then-x-eq0 : goal.returns-then-x-eq0
-returns-then-x-eq0 c = walked_none _ _ _ _ _ c.loop-heads.invariant _ c.index-x.ensures c.if-x-eq0.true
+bounds-table-at c = within (goal.at.bounds-table-at c).At-loop-number
 
 pub overflow_mul-node : goal.overflow_mul-node
-overflow_mul-node c = omega (arith, ahead (goal.at.overflow_mul-node c).Else-x-eq0)
+overflow_mul-node c = omega (arith, ahead c)
 
 pub overflow_add-node : goal.overflow_add-node
-overflow_add-node c = omega (arith, ahead (goal.at.overflow_add-node c).Else-x-eq0)
+overflow_add-node c = omega (arith, ahead (goal.at.overflow_add-node c).In-Some)
 
 pub offset_bounds-table-node : goal.offset_bounds-table-node
-offset_bounds-table-node c = omega (arith, ahead (goal.at.offset_bounds-table-node c).Else-x-eq0)
+offset_bounds-table-node c = omega (arith, ahead (goal.at.offset_bounds-table-node c).In-Some)
 
 pub bounds-table-node : goal.bounds-table-node
-bounds-table-node c = omega (arith, ahead (goal.at.bounds-table-node c).Else-x-eq0)
-
-pub returns-then-table-node : goal.returns-then-table-node
-returns-then-table-node c = walked-found _ _ _ _ _ c.loop-heads.invariant _ c.index-x.ensures c.if-table-node.true
+bounds-table-node c = omega (arith, ahead (goal.at.bounds-table-node c).In-Some)
 
 pub overflow_add-at : goal.overflow_add-at
-overflow_add-at c = omega (arith, ahead (goal.at.overflow_add-at c).Else-x-eq0)
+overflow_add-at c = omega (arith, ahead (goal.at.overflow_add-at c).In-Some)
 
-pub overflow_add-at-in-loop-heads : goal.overflow_add-at-in-loop-heads
-overflow_add-at-in-loop-heads c = omega (arith, ahead (goal.at.overflow_add-at-in-loop-heads c).Else-x-eq0)
+pub overflow_add-at-in-loop-number : goal.overflow_add-at-in-loop-number
+overflow_add-at-in-loop-number c = omega (arith, ahead (goal.at.overflow_add-at-in-loop-number c).In-Some)
 
-pub loop-heads-smaller : goal.loop-heads-smaller
-loop-heads-smaller c = omega (arith, within (goal.at.loop-heads-smaller c).At-loop-heads, ahead (goal.at.loop-heads-smaller c).Else-x-eq0)
+pub loop-number-smaller : goal.loop-number-smaller
+loop-number-smaller c =
+    omega (arith, within (goal.at.loop-number-smaller c).At-loop-number, ahead (goal.at.loop-number-smaller c).In-Some)
 
-pub loop-heads-preserved : goal.loop-heads-preserved
-loop-heads-preserved c = comes-more _ _ _ c.requires _ _ c.loop-heads.invariant _ _ c.index-x.ensures c.if-x-eq0.false c.if-table-node.false c.index.ensures
+pub loop-number-preserved : goal.loop-number-preserved
+loop-number-preserved c = comes-more _ _ _ c.requires _ _ c.loop-number.invariant c.in-Some.number (omega (arith, c.in-Some.ensures)) c.if-table-node.false

@@ -1,12 +1,8 @@
-use borrow.Author.Tests.{lt-ltb, le-ltb}
-use Rattle.lists.proofs.TestLaws.{all-stop, all_more, all_end}
+use Rattle.std.proofs.Common.{rules, tests}
+use Rattle.std.proofs.lemmas.Iterator.{YieldsList-from_slice}
+use lib.Dec.{ltb}
+use Rattle.lists.proofs.ChainLaws.{all-ran}
 use Rattle.lists.proofs.below.Goals as goal
 
-pub returns-then-n-words : goal.returns-then-n-words
-returns-then-n-words c = search (all-stop, le-ltb)
-
-pub loop-i-preserved : goal.loop-i-preserved
-loop-i-preserved c = search (all_more, lt-ltb)
-
 pub returns : goal.returns
-returns c = search all_end
+returns c = all-ran (λ x. ltb x c.args.n) _ _ c.all.result c.all.ensures.ran (YieldsList-from_slice c.args.words.now cc) (λ x b q k. search (rules, tests))

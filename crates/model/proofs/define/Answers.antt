@@ -1,15 +1,17 @@
+use Prim.Native.Nat.{◌/◌}
+use mathlib.Core.Path.{refl}
 use native.Mathlib.Omega.{arith}
-use Rattle.model.proofs.DefineLaws.{defining-zero, defining-odd, defining_high, defining_said}
+use Rattle.model.proofs.DefineLaws.{undefining, defining_said}
 use Rattle.model.proofs.define.Goals as goal
+use Rattle.model.proofs.define.Goals.{then-literal-eq0-via-then-literal-eq0, then-literal-eq0-via-else-literal-eq0+then-literal-ne0, then-literal-eq0-via-else-literal-eq0+else-literal-ne0+then-most-variable}
 
 pub returns-then-literal-eq0 : goal.returns-then-literal-eq0
-returns-then-literal-eq0 c = defining-zero _ _ _ c.if-literal-eq0.true
-
-pub returns-then-literal-ne0 : goal.returns-then-literal-ne0
-returns-then-literal-ne0 c = defining-odd _ _ _ c.if-literal-ne0.true
-
-pub returns-then-most-variable : goal.returns-then-most-variable
-returns-then-most-variable c = defining_high _ _ _ _ c.index-variable.ensures c.if-most-variable.true
+returns-then-literal-eq0 c =
+    undefining _ _ _ (λ d. elim c.then-literal-eq0.branch [
+      then-literal-eq0-via-then-literal-eq0 w ↦ omega (arith, d.some)
+      | then-literal-eq0-via-else-literal-eq0+then-literal-ne0 w ↦ omega (arith, d.even)
+      | then-literal-eq0-via-else-literal-eq0+else-literal-ne0+then-most-variable w ↦ omega (arith, d.low)
+    ])
 
 pub returns : goal.returns
-returns c = defining_said _ _ _ c.index-variable.result c.index-variable.ensures c.if-literal-eq0.false (omega arith) (omega arith) c.add.result c.add.new.words c.add.ensures.0 c.add.ensures.1
+returns c = defining_said _ _ _ (c.args.literal / 2) refl (omega arith) (omega arith) (omega arith) c.add.result c.add.new.words c.add.ensures.0 c.add.ensures.1

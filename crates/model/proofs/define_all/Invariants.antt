@@ -1,12 +1,7 @@
-use Prim.Native.Nat.{◌-◌}
 use mathlib.Core.Bool.{true}
-use mathlib.Core.Path.{◌≡◌}
-use lib.ListN.{length, take}
+use lib.ListN.{take}
 use Rattle.model.specs.Inner.Marking.{AddsLeaves}
 use Rattle.model.proofs.define_all.Given as goal
 
-abbrev pub invariant-loop-i : goal.invariant-loop-i
-invariant-loop-i l = (length l.work ≡ length l.initial.work) × AddsLeaves l.most l.initial.work (take l.i l.literals) l.work true
-
-abbrev pub decreases-loop-i : goal.decreases-loop-i
-decreases-loop-i l = length l.literals - l.i
+abbrev pub invariant-loop-literal : goal.invariant-loop-literal
+invariant-loop-literal l = AddsLeaves l.most l.initial.marks (take l.literal-index l.literals) l.marks true

@@ -1,6 +1,5 @@
 -- For the contracts of the functions that check definitions one by one: the marks in the work slice, a bit for each variable that was defined so far.
-use Rattle.std.specs.Prelude.{ℕ, ◌+◌, ◌*◌, ◌≤◌, ◌<◌, Bool, true, ◌&&◌, List, [], ◌∷◌, ◌++◌, map, ◌≡◌, length, take, leb, ltb}
-use Rattle.lists.specs.Answer.{Answer, got, refused, unless}
+use Rattle.std.specs.Prelude.{ℕ, ◌+◌, ◌*◌, ◌≤◌, ◌<◌, Bool, true, ◌&&◌, List, [], ◌∷◌, ◌++◌, map, ◌≡◌, length, take, leb}
 use Rattle.lists.specs.Parts.{zeros}
 use Rattle.lists.specs.Sets.{holds, Marked}
 use Rattle.lists.specs.Tests.{all}
@@ -10,8 +9,6 @@ use Rattle.aiger.specs.Defined.{literal, definitions, defined}
 use Rattle.model.specs.declared.AigerLatch.{AigerLatch}
 use Rattle.model.specs.declared.Counts.{Counts}
 use Rattle.model.specs.declared.AigerTransition.{AigerTransition}
-use Rattle.model.specs.declared.Verdict.{Verdict}
-use Rattle.model.specs.declared.Verdict.TheVariants.{Valid, Refused}
 use Rattle.model.specs.Circuit.{current_of, next_of}
 use Rattle.model.specs.Limits.{counted}
 use Rattle.model.specs.Checked.{counts_of}
@@ -47,18 +44,18 @@ leaves_from n inputs latches = take n.inputs inputs ++ map current_of (take n.la
 abbrev pub literals_from : Counts → List AigerLatch → List ℕ → Bool
 literals_from n latches outputs = all (literal n.max_variable) (map next_of (take n.latches latches)) && all (literal n.max_variable) (take n.outputs outputs)
 
--- R9.7, R9.11: the tests of a record that come before its definitions, with `gates` gates and w work words beside it
-unfoldable pub limits : AigerTransition → ℕ → ℕ → Answer (Unit {0})
-limits m gates w =
-    unless 7 (ltb m.max_variable w)
-    (unless 11 (counted (counts_of m))
-    (unless 11 (leb m.input_count (length m.inputs))
-    (unless 11 (leb m.output_count (length m.outputs))
-    (unless 11 (leb m.and_count gates)
-    (unless 11 (literals_from (counts_of m) m.latches m.outputs)
-    (got tt))))))
+-- the same of a record
+abbrev pub leaves_of_record : AigerTransition → List ℕ
+leaves_of_record m = leaves_from (counts_of m) m.inputs m.latches
 
--- what a verdict says of them
-abbrev pub passed : Verdict → Answer (Unit {0})
-passed Valid = got tt
-passed (Refused n) = refused n
+abbrev pub literals_of_record : AigerTransition → Bool
+literals_of_record m = literals_from (counts_of m) m.latches m.outputs
+
+-- R9.11: the tests of a record that come before its definitions, with so many gates beside it
+unfoldable pub limited : AigerTransition → ℕ → Bool
+limited m gates =
+    counted (counts_of m)
+    && (leb m.input_count (length m.inputs)
+    && (leb m.output_count (length m.outputs)
+    && (leb m.and_count gates
+    && literals_of_record m)))

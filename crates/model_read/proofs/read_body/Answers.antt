@@ -1,8 +1,8 @@
 use Rattle.model_read.proofs.ReadLaws.{body-counts, body-words, body-work, body-readable, body-model}
 use Rattle.model_read.proofs.read_body.Goals as goal
 
-pub returns-then-not-counts_hold : goal.returns-then-not-counts_hold
-returns-then-not-counts_hold c = search body-counts
+pub returns-then-not-hold : goal.returns-then-not-hold
+returns-then-not-hold c = search body-counts
 
 pub returns-then-gates-counts : goal.returns-then-gates-counts
 returns-then-gates-counts c = search body-words

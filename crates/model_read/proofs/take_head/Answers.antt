@@ -1,18 +1,12 @@
 use native.Mathlib.Omega.{arith}
-use Rattle.model_read.proofs.StartLaws.{inputs_fit, outputs_fit, head_without_inputs, head_without_latches, head_without_outputs, head-taken}
+use Rattle.model_read.proofs.StartLaws.{head_without_inputs, head_without_latches, head_without_outputs, head-taken}
 use Rattle.model_read.proofs.take_head.Goals as goal
-
-pub take_array-requires : goal.take_array-requires
-take_array-requires c = (omega arith, search inputs_fit)
 
 pub returns-in_err-inputs : goal.returns-in_err-inputs
 returns-in_err-inputs c = rw c.from_residual.ensures (search (head_without_inputs, c.in_err-inputs.was))
 
 pub returns-in_err-latches : goal.returns-in_err-latches
 returns-in_err-latches c = rw c.from_residual-in_err-latches.ensures (search (head_without_latches, c.in_ok-inputs.was, c.in_err-latches.was))
-
-pub take_array-requires-2 : goal.take_array-requires-2
-take_array-requires-2 c = (omega arith, search outputs_fit)
 
 pub returns-in_err-outputs : goal.returns-in_err-outputs
 returns-in_err-outputs c =

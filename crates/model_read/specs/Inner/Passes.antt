@@ -12,8 +12,6 @@ use Rattle.aiger.specs.Defined.{defined}
 use Rattle.aiger.specs.Sections.{section}
 use Rattle.model.specs.declared.AigerTransition.{AigerTransition}
 use Rattle.model.specs.declared.Counts.{Counts}
-use Rattle.model.specs.declared.Verdict.{Verdict}
-use Rattle.model.specs.declared.Verdict.TheVariants.{Valid, Refused}
 use Rattle.model.specs.Circuit.{Circuit, record_of}
 use Rattle.model.specs.Limits.{counted, well_defined}
 use Rattle.model.specs.Inner.Marking.{Marking}
@@ -92,10 +90,10 @@ Writes s c n o o' = (gates : List Gate) (rest : List Bytes) → section (gate_li
 abbrev pub gates_of : Circuit → ℕ → List Bytes → Answer Circuit
 gates_of c n ls = and_then (section (gate_line Transition) n ls) (λ gates. unless 11 (well_defined (with_gates c gates.items)) (got (with_gates c gates.items)))
 
--- the verdict that an answer gives
-abbrev pub verdict_of : Answer Circuit → Verdict
-verdict_of (got c) = Valid
-verdict_of (refused n) = Refused n
+-- whether an answer gives a model
+abbrev pub verdict_of : Answer Circuit → Answer (Unit {0})
+verdict_of (got c) = got tt
+verdict_of (refused n) = refused n
 
 -- the limits that hold where the sections are read, with no bit set in the work words
 pub record Readable (n : Counts) (gates work : List ℕ) : Type 0 where

@@ -1,15 +1,10 @@
-use Rattle.model_step.proofs.StepLaws.{running_none, running-inside, running_more, running-done}
+use native.Mathlib.Omega.{arith}
 use borrow.Author.Rules.{rules}
+use Rattle.model_step.proofs.StepLaws.{running-inside, running_more}
 use Rattle.model_step.proofs.run_gates.Goals as goal
 
-pub loop-i-init : goal.loop-i-init
-loop-i-init c = search running_none
-
 pub run_gate-requires : goal.run_gate-requires
-run_gate-requires c = search running-inside
+run_gate-requires g c = running-inside _ _ _ c.loop-i.i c.loop-i.invariant c.args.count c.requires.0 (omega arith) _ c.gate.ensures c.requires.1
 
 pub loop-i-preserved : goal.loop-i-preserved
-loop-i-preserved c = search running_more
-
-pub returns : goal.returns
-returns c = running-done _ _ _ _ _ _ c.loop-i.invariant (search rules)
+loop-i-preserved g c = running_more _ _ _ c.loop-i.i c.loop-i.invariant c.args.count c.requires.0 (omega arith) _ c.gate.ensures _ c.run_gate.auto.values c.run_gate.ensures

@@ -1,9 +1,5 @@
-use Prim.Native.Nat.{◌-◌}
 use Rattle.model_step.proofs.StepLaws.{Running}
 use Rattle.model_step.proofs.run_gates.Given as goal
 
 abbrev pub invariant-loop-i : goal.invariant-loop-i
-invariant-loop-i l = Running l.initial.vals l.gates l.count l.vals l.i l.at
-
-abbrev pub decreases-loop-i : goal.decreases-loop-i
-decreases-loop-i l = l.count - l.i
+invariant-loop-i g l = Running l.initial.values (g.G.GateList.words l.gates) l.values l.i

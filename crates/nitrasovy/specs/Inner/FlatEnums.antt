@@ -1,17 +1,10 @@
 -- For the contracts of inner functions: the code's enums as flat structs.
-use Rattle.std.specs.Prelude.{ℕ}
 use Rattle.lists.specs.Answer.{Answer, got, refused}
-use Rattle.model.specs.declared.Verdict.{Verdict}
-use Rattle.model.specs.declared.Verdict.TheVariants as verdict
 use Rattle.cnf.specs.declared.ClauseCounts.{ClauseCounts}
 use Rattle.witness_text.specs.declared.AagCounts.{AagCounts}
 use Rattle.nitrasovy.specs.declared.obligations.NitMade.{NitMade}
 use Rattle.nitrasovy.specs.declared.witnesses.NitWitness.{NitWitness}
 use Rattle.nitrasovy.specs.declared.compositions.NitComposed.{NitComposed}
-
-abbrev pub reason_of : Verdict → ℕ
-reason_of verdict.Valid = 0
-reason_of (verdict.Refused n) = n
 
 abbrev pub flat_sizes : Answer ClauseCounts → NitMade
 flat_sizes (got t) = record { reason = 0; clauses = t.clauses; literals = t.literals }

@@ -1,20 +1,21 @@
 -- For the contracts of the functions that make the clauses once the arguments are accepted.
-use Rattle.std.specs.Prelude.{ℕ, ◌+◌, ◌*◌, ◌/◌, ◌≤◌, ◌<◌, ◌^◌, Bool, true, cond, List, [], ◌∷◌, ◌++◌, map, ◌≡◌, length, take}
+use Rattle.std.specs.Prelude.{ℕ, ◌+◌, ◌*◌, ◌/◌, ◌≤◌, ◌<◌, ◌^◌, Bool, true, cond, List, Result, [], ◌∷◌, ◌++◌, map, ◌≡◌, length, take}
 use Rattle.lists.specs.Answer.{Answer, got, and_then}
 use Rattle.lists.specs.Bits.{bits}
 use Rattle.lists.specs.Tests.{Each}
 use Rattle.lists.specs.Words.{triples_of, words_of}
+use Rattle.aiger.specs.declared.Refusal.{Refusal}
 use Rattle.aiger.specs.Gates.{gate_from}
+use Rattle.aiger.specs.Refusals.{answered}
 use Rattle.model.specs.Checked.{checked}
 use Rattle.cnf.specs.declared.ClauseCounts.{ClauseCounts}
 use Rattle.cnf.specs.Clauses.{Clause, clauses_in}
 use Rattle.obligation_spec.specs.Lists.{source_lists, predicate_literal, gate_lists}
 use Rattle.obligation_spec.specs.Limits.{bounded}
-use Rattle.obligation_spec.specs.Calls.{Asked, circuit, Lent, within, relation_on, transducer_on, terminal_on}
+use Rattle.obligation_spec.specs.Calls.{Asked, circuit, Lent, within}
 use Rattle.obligation_gates.specs.Inner.Encoding.{Low, LowGate, Bounded}
 use Rattle.obligation_claims.specs.Inner.Claims.{LowKeys, state_claims, outcome_claims}
-use Rattle.obligation.specs.declared.Made.{Made}
-use Rattle.obligation.specs.Promise.{answer_of, sizes, pairs_after, literals_after}
+use Rattle.obligation.specs.Promise.{sizes, pairs_after, literals_after}
 
 -- what the clauses are made of: latches at a source's bits (none for a terminal list), inputs with a predicate, gates, and the claims
 pub record Parts : Type 0 where
@@ -104,22 +105,12 @@ pub record Asks (q : Asked) : Type 0 where
 abbrev pub ClaimsOf : Bool → Type 0
 ClaimsOf b = b ≡ true
 
--- what is left of each call
-abbrev pub relation_after : Asked → ℕ → List ℕ → Lent → Answer (List Clause)
-relation_after q source targets lent = relation_on (circuit q) q source targets lent
-
-abbrev pub transducer_after : Asked → ℕ → List ℕ → List ℕ → Lent → Answer (List Clause)
-transducer_after q source observed outcomes lent = transducer_on (circuit q) q source observed outcomes lent
-
-abbrev pub terminal_after : Asked → ℕ → List ℕ → Lent → Answer (List Clause)
-terminal_after q bad states lent = terminal_on (circuit q) q bad states lent
-
 -- the answer and the two result buffers after it
-pub record Continues (answer : Answer (List Clause)) (pairs literals : List ℕ) (r : Made) (pairs' literals' : List ℕ) : Type 0 where
-  pub answers : answer_of r ≡ and_then answer (λ cs. got (sizes cs))
+pub record Continues (answer : Answer (List Clause)) (pairs literals : List ℕ) (r : Result ClauseCounts Refusal) (pairs' literals' : List ℕ) : Type 0 where
+  pub answers : answered r ≡ and_then answer (λ cs. got (sizes cs))
   pub pairs_are : pairs' ≡ pairs_after answer pairs
   pub literals_are : literals' ≡ literals_after answer literals
 
 -- the same for clauses, where R9.20 is all that is left
-abbrev pub MakesAll : List Clause → List ℕ → List ℕ → Made → List ℕ → List ℕ → Type 0
+abbrev pub MakesAll : List Clause → List ℕ → List ℕ → Result ClauseCounts Refusal → List ℕ → List ℕ → Type 0
 MakesAll cs pairs literals r pairs' literals' = Continues (within (room_of pairs literals) cs) pairs literals r pairs' literals'

@@ -8,6 +8,3 @@ use Rattle.obligation_check.proofs.outcomes_fit.Given as goal
 
 abbrev pub invariant-loop-i : goal.invariant-loop-i
 invariant-loop-i l = all (outcome_fits l.latches l.n) (outcomes_of l.words) ≡ all (outcome_fits l.latches l.n) (drop l.i (outcomes_of l.words))
-
-abbrev pub decreases-loop-i : goal.decreases-loop-i
-decreases-loop-i l = l.count - l.i

@@ -1,12 +1,13 @@
 use native.Mathlib.Omega.{arith}
+use borrow.Author.Rules.{rules}
 use Rattle.obligation_check.proofs.OutcomeLaws.{outcomes_fall, outcomes_more, outcomes_end}
 use Rattle.obligation_check.proofs.outcomes_rise.Goals as goal
 
-pub loop-i-preserved : goal.loop-i-preserved
-loop-i-preserved c = (search outcomes_more, omega arith)
+pub returns-then-not-comes_before : goal.returns-then-not-comes_before
+returns-then-not-comes_before c = outcomes_fall _ c.loop-i.i _ c.loop-i.invariant (omega arith) (omega arith) _ _ c.outcome_at.ensures c.outcome_at-in-loop-i.ensures _ c.comes_before.ensures (search rules)
 
-pub returns-else-comes_before : goal.returns-else-comes_before
-returns-else-comes_before c = search outcomes_fall
+pub loop-i-preserved : goal.loop-i-preserved
+loop-i-preserved c = outcomes_more _ c.loop-i.i _ c.loop-i.invariant (omega arith) (omega arith) _ _ c.outcome_at.ensures c.outcome_at-in-loop-i.ensures _ c.comes_before.ensures (search rules)
 
 pub returns : goal.returns
-returns c = search outcomes_end
+returns c = outcomes_end _ c.loop-i.i _ c.loop-i.invariant (omega arith) (omega arith)

@@ -6,7 +6,4 @@ use Rattle.obligation_spec.specs.Limits.{rising_outcomes}
 use Rattle.obligation_check.proofs.outcomes_rise.Given as goal
 
 abbrev pub invariant-loop-i : goal.invariant-loop-i
-invariant-loop-i l = (rising_outcomes (outcomes_of l.words) ≡ rising_outcomes (drop (l.i - 1) (outcomes_of l.words))) × (0 < l.i)
-
-abbrev pub decreases-loop-i : goal.decreases-loop-i
-decreases-loop-i l = l.count - l.i
+invariant-loop-i l = rising_outcomes (outcomes_of l.words) ≡ rising_outcomes (drop (l.i - 1) (outcomes_of l.words))

@@ -6,6 +6,3 @@ use Rattle.obligation_check.proofs.predicate_holds.Given as goal
 
 abbrev pub invariant-loop-i : goal.invariant-loop-i
 invariant-loop-i l = predicate_holds l.n 0 l.predicate_literals l.predicate_pairs ≡ predicate_holds l.n l.end l.predicate_literals (drop (2 * l.i) l.predicate_pairs)
-
-abbrev pub decreases-loop-i : goal.decreases-loop-i
-decreases-loop-i l = l.count - l.i

@@ -4,5 +4,5 @@ use Rattle.obligation_check.proofs.states_claimed.Goals as goal
 pub returns-then-rises : goal.returns-then-rises
 returns-then-rises c = search states_rise
 
-pub returns : goal.returns
-returns c = search states_fall
+pub returns-else-rises : goal.returns-else-rises
+returns-else-rises c = search states_fall

@@ -1,9 +1,9 @@
 -- For the contracts of the functions that check an obligation's boundary and claims: the limits of `obligation_spec/specs/Limits.antt` from the model's counts.
-use Rattle.std.specs.Prelude.{ℕ, ◌+◌, ◌*◌, ◌/◌, ◌^◌, Bool, ◌&&◌, List, ◌≡◌, ltb, length}
+use Rattle.std.specs.Prelude.{ℕ, ◌+◌, ◌*◌, ◌/◌, ◌^◌, Bool, ◌&&◌, List, Result, ◌≡◌, ltb, length}
 use Rattle.lists.specs.Parts.{zeros}
 use Rattle.lists.specs.Tests.{all}
 use Rattle.lists.specs.Words.{in_order}
-use Rattle.model.specs.declared.Verdict.{Verdict}
+use Rattle.aiger.specs.declared.Refusal.{Refusal}
 use Rattle.model.specs.Circuit.{Circuit}
 use Rattle.model.specs.Checked.{judged}
 use Rattle.model_step.specs.declared.Outcome.{Outcome}
@@ -45,7 +45,7 @@ abbrev pub ClaimsOutcomes : ℕ → ℕ → List ℕ → List ℕ → Bool → T
 ClaimsOutcomes latches outputs observed words r =
     (c : Circuit) → length c.latches ≡ latches → length c.outputs ≡ outputs → r ≡ outcomes_claimed c observed (outcomes_of words)
 
--- the verdict on what is asked with w work words, and these after it
-pub record Checks (q : Asked) (w : ℕ) (r : Verdict) (work' : List ℕ) : Type 0 where
+-- what the check says of what is asked with w work words, and these after it
+pub record Checks (q : Asked) (w : ℕ) (r : Result (Unit {0}) Refusal) (work' : List ℕ) : Type 0 where
   pub judges : (lent : Lent) → lent.work ≡ w → judged r (circuit q) ≡ asked q lent
   pub clears : work' ≡ zeros w

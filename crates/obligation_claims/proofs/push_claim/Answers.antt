@@ -20,7 +20,7 @@ pub push_simplified-requires : goal.push_simplified-requires
 push_simplified-requires c =
     let f : Filled (claim_list c.args.keys.now c.args.claim.now) c.fill_claim.new.list c.in-Words.n = c.fill_claim.ensures.when_words c.in-Words.n c.in-Words.is in
     let w = claim_words c.args.keys.now c.args.claim.now _ _ f in
-    (omega (arith, w, c.requires.1.list_fits c.if-keys-le3.false, c.fill_claim.auto.list), omega (arith, w, c.requires.1.work_fits c.if-keys-le3.false), omega (arith, w, c.requires.1.short), c.requires.0, words-narrow c.args.keys.now c.args.claim.now _ _ f c.requires.1.low)
+    (omega (arith, w, c.requires.1.list_fits c.if-keys-le3.false, c.fill_claim.auto.list), omega (arith, w, c.requires.1.short), c.requires.0, words-narrow c.args.keys.now c.args.claim.now _ _ f c.requires.1.low)
 
 pub returns : goal.returns
 returns c = c.push_simplified.ensures (claim_list c.args.keys.now c.args.claim.now) (c.fill_claim.ensures.when_words c.in-Words.n c.in-Words.is)

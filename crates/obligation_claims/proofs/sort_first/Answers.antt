@@ -1,16 +1,8 @@
-use native.Mathlib.Omega.{arith}
-use lib.ListN.{length-take}
 use Rattle.obligation_claims.proofs.KeyLaws.{sorted_front, few_in_order}
 use Rattle.obligation_claims.proofs.sort_first.Goals as goal
 
 pub returns-then-n-lt2 : goal.returns-then-n-lt2
 returns-then-n-lt2 c = few_in_order _ _ c.if-n-lt2.true
-
-pub slice_bounds-sort-end-2 : goal.slice_bounds-sort-end-2
-slice_bounds-sort-end-2 c = simp length-take (omega arith)
-
-pub sort-requires : goal.sort-requires
-sort-requires c = simp length-take (omega arith)
 
 pub returns : goal.returns
 returns c = sorted_front c.args.keys.now c.sort.new.s c.args.n c.requires.1 c.sort.ensures

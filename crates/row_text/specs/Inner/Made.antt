@@ -1,19 +1,19 @@
 -- For the contracts of inner functions: the row for numbers and a text, with buffers of any length.
-use Rattle.std.specs.Prelude.{ℕ, ◌+◌, ◌*◌, ◌≤◌, ◌≡◌, List}
+use Rattle.std.specs.Prelude.{ℕ, ◌+◌, ◌*◌, ◌≤◌, ◌≡◌, List, Result, Ok, Err}
 use Rattle.lists.specs.Answer.{Answer, got, refused}
 use Rattle.lists.specs.Parts.{Bytes}
 use Rattle.text_decimal.specs.Inner.Writing.{Wrote}
 use Rattle.cnf.specs.declared.ClauseCounts.{ClauseCounts}
 use Rattle.cnf.specs.Clauses.{Clause, returned}
-use Rattle.obligation.specs.declared.Made.{Made}
-use Rattle.obligation.specs.declared.Made.TheVariants.{Clauses, Refused}
+use Rattle.aiger.specs.declared.Refusal.{Refusal}
+use Rattle.aiger.specs.Refusals.{refusal_number}
 use Rattle.row_text.specs.RowProgram.{row_for, printed, row_in}
 use Rattle.row_text.specs.Inner.Steps.{numbers_in, InFront}
 
 -- what the call's answer and the buffers say together
-abbrev pub made_answer : Made → List ℕ → List ℕ → Answer (List Clause)
-made_answer (Clauses t) pairs words = got (returned t.clauses pairs words)
-made_answer (Refused n) pairs words = refused n
+abbrev pub made_answer : Result ClauseCounts Refusal → List ℕ → List ℕ → Answer (List Clause)
+made_answer (Ok t) pairs words = got (returned t.clauses pairs words)
+made_answer (Err r) pairs words = refused (refusal_number r)
 
 -- so many clauses stand in front of the buffers, and there is room to print them
 pub record Standing (count : ℕ) (pairs words : List ℕ) (room : ℕ) : Type 0 where
@@ -21,8 +21,8 @@ pub record Standing (count : ℕ) (pairs words : List ℕ) (room : ℕ) : Type 0
   pub fits : 21 * numbers_in (returned count pairs words) + 26 ≤ room
 
 -- the answer can be printed
-pub record Printable (r : Made) (pairs words : List ℕ) (room : ℕ) : Type 0 where
-  pub rows : (t : ClauseCounts) → r ≡ Clauses t → Standing t.clauses pairs words room
+pub record Printable (r : Result ClauseCounts Refusal) (pairs words : List ℕ) (room : ℕ) : Type 0 where
+  pub rows : (t : ClauseCounts) → r ≡ Ok t → Standing t.clauses pairs words room
   pub fits : 29 ≤ room
 
 -- the buffer o becomes o', r bytes of it the printed row with what is lent

@@ -1,14 +1,6 @@
-use Rattle.scan.proofs.SameLaws.{begins-short, begins_differ, begins-again, begins-end}
+use mathlib.Core.Path.{◌∙◌}
+use Rattle.scan.proofs.SameLaws.{begins-starts}
 use Rattle.scan.proofs.begins_with.Goals as goal
 
-pub returns-then-s-i : goal.returns-then-s-i
-returns-then-s-i c = search begins-short
-
-pub returns-then-s-i-2 : goal.returns-then-s-i-2
-returns-then-s-i-2 c = search begins_differ
-
-pub loop-i-preserved : goal.loop-i-preserved
-loop-i-preserved c = search begins-again
-
 pub returns : goal.returns
-returns c = search begins-end
+returns c = c.starts_with.ensures.value ∙ begins-starts c.args.s.now c.args.word.now

@@ -1,8 +1,6 @@
-use Rattle.scan.proofs.AllowedLaws.{ends-empty, ends_last}
+use mathlib.Core.Path.{◌∙◌}
+use Rattle.scan.proofs.AllowedLaws.{ends-std}
 use Rattle.scan.proofs.ends_in_10.Goals as goal
 
-pub returns-then-n-eq0 : goal.returns-then-n-eq0
-returns-then-n-eq0 c = search ends-empty
-
 pub returns : goal.returns
-returns c = search ends_last
+returns c = c.ends_with.ensures.value ∙ ends-std c.args.s.now

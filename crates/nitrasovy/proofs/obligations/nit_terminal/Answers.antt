@@ -1,5 +1,14 @@
-use Rattle.nitrasovy.proofs.MadeLaws.{words_terminal}
+use mathlib.Core.Path.{subst}
+use Rattle.obligation_spec.specs.Calls.{Asked}
+use Rattle.obligation_check.specs.Questions.{asked_in}
+use Rattle.obligation.specs.Promise.{buffers_of}
+use Rattle.nitrasovy.specs.FlatObligations.{TerminalFlat}
+use Rattle.nitrasovy.proofs.MadeLaws.{terminal_flat}
 use Rattle.nitrasovy.proofs.obligations.nit_terminal.Goals as goal
 
 pub returns : goal.returns
-returns c = search words_terminal
+returns c =
+    let b = buffers_of c.args.pairs.now c.args.literals.now c.args.work.now in
+    let after = buffers_of c.make.new.pairs c.make.new.literals c.make.new.work in
+    subst (λ (q : Asked). TerminalFlat q c.args.bad_output c.args.states.now b c.flat_made.result after) c.question-question.ensures
+    (terminal_flat (asked_in c.question-question.result) b c.make.result after c.flat_made.result c.flat_made.ensures c.args.bad_output c.args.states.now c.make.ensures)

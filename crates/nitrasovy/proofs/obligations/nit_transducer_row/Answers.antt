@@ -1,5 +1,14 @@
-use Rattle.nitrasovy.proofs.MadeLaws.{words_transducer}
+use mathlib.Core.Path.{subst}
+use Rattle.obligation_spec.specs.Calls.{Asked}
+use Rattle.obligation_check.specs.Questions.{asked_in}
+use Rattle.obligation.specs.Promise.{buffers_of}
+use Rattle.nitrasovy.specs.FlatObligations.{TransducerFlat}
+use Rattle.nitrasovy.proofs.MadeLaws.{transducer_flat}
 use Rattle.nitrasovy.proofs.obligations.nit_transducer_row.Goals as goal
 
 pub returns : goal.returns
-returns c = search words_transducer
+returns c =
+    let b = buffers_of c.args.pairs.now c.args.literals.now c.args.work.now in
+    let after = buffers_of c.make.new.pairs c.make.new.literals c.make.new.work in
+    subst (λ (q : Asked). TransducerFlat q c.args.source c.args.observed.now c.args.outcomes.now b c.flat_made.result after) c.question-question.ensures
+    (transducer_flat (asked_in c.question-question.result) b c.make.result after c.flat_made.result c.flat_made.ensures c.args.source c.args.observed.now c.args.outcomes.now c.make.ensures)

@@ -1,15 +1,24 @@
+use mathlib.Core.Bool.{true, false}
 use native.Mathlib.Omega.{arith}
-use Rattle.obligation.proofs.MakingLaws.{states_space, outcomes_space, claims-wide, claims-narrow}
+use Rattle.obligation.specs.Inner.Appended.{claimed_of, ClaimsReady}
+use Rattle.obligation.proofs.MakingLaws.{states_space, outcomes_space}
 use Rattle.obligation.proofs.making.append_claims.Goals as goal
+use Rattle.obligation.proofs.making.append_claims.Goals.{In-States, In-Outcomes}
 
-pub append_outcomes-requires : goal.append_outcomes-requires
-append_outcomes-requires c = (outcomes_space _ _ _ c.requires.1 _ c.requires.0, omega (arith, c.requires.0.few_keys), c.requires.0.low_keys)
+states : (c : In-States) → ClaimsReady (claimed_of c.args.plan.now.keys.now c.in-States.words.now false)
+states c = rw c.in-States.is at c.requires.0
 
-pub returns-then-wide : goal.returns-then-wide
-returns-then-wide c = claims-wide c.args.keys.now c.args.words.now _ _ _ _ _ _ _ c.if-wide.true c.append_outcomes.ensures
+outcomes : (c : In-Outcomes) → ClaimsReady (claimed_of c.args.plan.now.keys.now c.in-Outcomes.words.now true)
+outcomes c = rw c.in-Outcomes.is at c.requires.0
 
 pub append_states-requires : goal.append_states-requires
-append_states-requires c = (states_space _ _ _ c.requires.1 _ c.requires.0, omega (arith, c.requires.0.few_keys), c.requires.0.low_keys)
+append_states-requires c = let d = states (goal.at.append_states-requires c).In-States in (states_space _ _ _ c.requires.1 false d, omega (arith, d.few_keys), d.low_keys)
 
-pub returns : goal.returns
-returns c = claims-narrow c.args.keys.now c.args.words.now _ _ _ _ _ _ _ c.if-wide.false c.append_states.ensures
+pub append_outcomes-requires : goal.append_outcomes-requires
+append_outcomes-requires c = let d = outcomes (goal.at.append_outcomes-requires c).In-Outcomes in (outcomes_space _ _ _ c.requires.1 true d, omega (arith, d.few_keys), d.low_keys)
+
+pub returns-in-States : goal.returns-in-States
+returns-in-States c = rw c.in-States.is c.append_states.ensures
+
+pub returns-in-Outcomes : goal.returns-in-Outcomes
+returns-in-Outcomes c = rw c.in-Outcomes.is c.append_outcomes.ensures

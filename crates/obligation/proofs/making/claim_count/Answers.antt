@@ -1,8 +1,7 @@
-use Rattle.obligation.proofs.MakingLaws.{count-wide, count-narrow}
 use Rattle.obligation.proofs.making.claim_count.Goals as goal
 
-pub returns-then-wide : goal.returns-then-wide
-returns-then-wide c = search count-wide
+pub returns-in-States : goal.returns-in-States
+returns-in-States c = rw c.in-States.is
 
-pub returns : goal.returns
-returns c = search count-narrow
+pub returns-in-Outcomes : goal.returns-in-Outcomes
+returns-in-Outcomes c = rw c.in-Outcomes.is

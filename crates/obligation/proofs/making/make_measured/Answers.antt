@@ -11,8 +11,8 @@ returns-then-pairs-size c = no_pairs _ _ _ _ _ _ _ _ (appends-start _ _ _ _ _ _ 
 pub returns-then-literals-size : goal.returns-then-literals-size
 returns-then-literals-size c = no_words _ _ _ _ _ _ _ _ (appends-start _ _ _ _ _ _ c.append_all-size.ensures) c.if-pairs-size.false c.if-literals-size.true
 
-pub append_all-made-requires : goal.append_all-made-requires
-append_all-made-requires c = c.requires
+pub append_all-requires : goal.append_all-requires
+append_all-requires c = c.requires
 
 pub returns : goal.returns
-returns c = made_all _ _ _ _ _ _ _ _ (appends-start _ _ _ _ _ _ c.append_all-size.ensures) c.if-pairs-size.false c.if-literals-size.false _ _ _ (appends-start _ _ _ _ _ _ c.append_all-made.ensures)
+returns c = made_all _ _ _ _ _ _ _ _ (appends-start _ _ _ _ _ _ c.append_all-size.ensures) c.if-pairs-size.false c.if-literals-size.false _ _ _ (appends-start _ _ _ _ _ _ c.append_all.ensures)

@@ -1,2 +1,0 @@
--- For the contracts of inner functions; no promise of an export names these.
-pub mod Passing
