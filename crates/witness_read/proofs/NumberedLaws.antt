@@ -1,5 +1,4 @@
--- Laws for the functions that check one section: what is tested of a latch and a gate, and how a literal is taken.
-use Rattle.std.specs.Prelude.{Option, Some, None}
+-- Laws for the functions that check one section: what is tested of a latch and a gate.
 use Prim.Native.Nat.{ℕ, ◌+◌, ◌*◌, ◌/◌}
 use mathlib.Core.Bool.{Bool, true, false, ◌&&◌, and-true}
 use mathlib.Core.List.{List, [], ◌∷◌}
@@ -7,17 +6,9 @@ use mathlib.Core.Path.{◌≡◌, refl, sym, ap, ◌∙◌}
 use native.Mathlib.Omega.{arith}
 use lib.Dec.{eqb, ltb, leb}
 use borrow.Author.Tests.{eqb-true}
-use Rattle.lists.specs.Parts.{Bytes}
 use Rattle.lists.specs.Tests.{all, all_from, every}
-use Rattle.text.specs.declared.Cursor.{Cursor}
-use Rattle.text.specs.declared.Literal.{Literal}
-use Rattle.text.specs.declared.Reader.TheVariants.{Witness}
-use Rattle.text.specs.Literals.{literal_at}
 use Rattle.aiger.specs.declared.Gate.{Gate}
 use Rattle.aiger.specs.Defined.{literal, ordered}
-use Rattle.circuit_lines.specs.SectionLines.{literal_line}
-use Rattle.circuit_lines.specs.Inner.Takes.{TakesOne}
-use Rattle.circuit_lines.proofs.LiteralLaws.{literal_one, literal_bad}
 use Rattle.witness_text.specs.declared.Latch.{Latch}
 use Rattle.witness_read.specs.Order.{latch_numbered, gate_numbered}
 
@@ -51,12 +42,3 @@ gate-is k g = go (eqb g.output (2 * k)) refl
 pub all-from-all : {A : Type 0} (p : A → Bool) (k : ℕ) (xs : List A) → all_from (λ j. p) k xs ≡ all p xs
 all-from-all p k [] = refl
 all-from-all p k (x ∷ xs) = ap (λ (b : Bool). p x && b) (all-from-all p _ xs)
-
--- ---- a literal of a line
-
-module _ (s : Bytes) (c : Cursor) (t : Literal) (q : t ≡ literal_at Witness s c) where
-  pub literal-none : t.value ≡ None → TakesOne (literal_line Witness) s c None
-  literal-none u = literal_bad Witness s c t q u
-
-  pub literal-some : (v : ℕ) → t.value ≡ Some v → TakesOne (literal_line Witness) s c (Some (record { value = v; next = t.next }))
-  literal-some v u = literal_one Witness s c t q v u

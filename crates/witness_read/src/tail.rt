@@ -1,5 +1,5 @@
 // The lines after the gates: symbols (R9.9) and comments (R9.10).
-ghost use Rattle.std.specs.Prelude.{true, ◌≡◌, ◌+◌, ◌≤◌, ◌<◌};
+ghost use Rattle.std.specs.Prelude.{true, ◌≡◌, ◌+◌, ◌*◌, ◌≤◌, ◌<◌};
 ghost use Rattle.text.specs.Texts.{limited};
 ghost use Rattle.circuit_lines.specs.Inner.Takes.{lines_from};
 ghost use Rattle.witness_text.specs.Header.{counted};
@@ -11,6 +11,13 @@ use super::NextSymbol;
 use aiger::Refusal;
 use text::Cursor;
 use witness_text::{AagCounts, Kind};
+
+// The next input and the next latch that may be named, while they are named in their order.
+#[derive(Clone, Copy)]
+struct Order {
+    inputs: usize,
+    latches: usize,
+}
 
 // Whether an input or a latch is named for the first time, which is marked; outputs, bads and constraints may be named again.
 fn name_first(counts: AagCounts, kind: Kind, index: usize, marks: &mut [u64]) -> bool
@@ -73,28 +80,16 @@ fn check_symbols(
     }
 }
 
-// The symbols where there are at most 4,096 inputs and latches: clearing more marks would cost more than a short text.
-fn check_few(s: &[u8], cursor: Cursor, counts: AagCounts) -> Result<Cursor, Refusal>
-    requires { counts.inputs + counts.latches ≤ 4096 }
+// The symbols with N words of marks, which stand in this frame alone: clearing many marks would cost more than a short text.
+fn check_with<const N: usize>(
+    s: &[u8],
+    cursor: Cursor,
+    counts: AagCounts,
+) -> Result<Cursor, Refusal>
+    requires { (counts.inputs + counts.latches ≤ 2000000) × (counts.inputs + counts.latches ≤ 64 * N) }
     ensures { ChecksSymbols s.now cursor counts result }
 {
-    let mut marks: [u64; 64] = [0; 64];
-    check_symbols(s, cursor, counts, &mut marks)
-}
-
-fn check_more(s: &[u8], cursor: Cursor, counts: AagCounts) -> Result<Cursor, Refusal>
-    requires { counts.inputs + counts.latches ≤ 65536 }
-    ensures { ChecksSymbols s.now cursor counts result }
-{
-    let mut marks: [u64; 1024] = [0; 1024];
-    check_symbols(s, cursor, counts, &mut marks)
-}
-
-fn check_many(s: &[u8], cursor: Cursor, counts: AagCounts) -> Result<Cursor, Refusal>
-    requires { counts.inputs + counts.latches ≤ 2000000 }
-    ensures { ChecksSymbols s.now cursor counts result }
-{
-    let mut marks: [u64; 31250] = [0; 31250];
+    let mut marks: [u64; N] = [0; N];
     check_symbols(s, cursor, counts, &mut marks)
 }
 
@@ -105,12 +100,12 @@ fn check_marked(s: &[u8], cursor: Cursor, counts: AagCounts) -> Result<Cursor, R
 {
     let leaves = counts.inputs + counts.latches;
     if leaves <= 4096 {
-        return check_few(s, cursor, counts);
+        return check_with::<64>(s, cursor, counts);
     }
     if leaves <= 65536 {
-        return check_more(s, cursor, counts);
+        return check_with::<1024>(s, cursor, counts);
     }
-    check_many(s, cursor, counts)
+    check_with::<31250>(s, cursor, counts)
 }
 
 // The symbols from a cursor on. Inputs and latches that are named in their order need no marks; where that order is first broken, the symbols
@@ -120,8 +115,10 @@ pub fn check_tail(s: &[u8], cursor: Cursor, counts: AagCounts) -> Result<Cursor,
     ensures { ChecksSymbols s.now cursor counts result }
 {
     let mut p = cursor;
-    let mut inputs: usize = 0;
-    let mut latches: usize = 0;
+    let mut order = Order {
+        inputs: 0,
+        latches: 0,
+    };
     loop {
         let NextSymbol { symbol, next } = next_symbol(s, p, counts)?;
         let Some(symbol) = symbol else {
@@ -129,16 +126,16 @@ pub fn check_tail(s: &[u8], cursor: Cursor, counts: AagCounts) -> Result<Cursor,
         };
         match symbol.kind {
             Kind::Input => {
-                if symbol.index < inputs {
+                if symbol.index < order.inputs {
                     return check_marked(s, cursor, counts);
                 }
-                inputs = symbol.index + 1;
+                order.inputs = symbol.index + 1;
             }
             Kind::Latch => {
-                if symbol.index < latches {
+                if symbol.index < order.latches {
                     return check_marked(s, cursor, counts);
                 }
-                latches = symbol.index + 1;
+                order.latches = symbol.index + 1;
             }
             Kind::Output | Kind::Bad | Kind::Constraint => {}
         }

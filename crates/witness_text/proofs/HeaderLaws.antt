@@ -11,7 +11,6 @@ use borrow.Author.Tests.{le-leb, lt-leb}
 use Rattle.lists.specs.Answer.{got, refused, unless}
 use Rattle.lists.specs.Parts.{Bytes, zeros, front}
 use Rattle.lists.proofs.ZeroLaws.{front-zeros}
-use Rattle.text.specs.declared.Cursor.{Cursor}
 use Rattle.text.specs.declared.Reader.TheVariants.{Witness}
 use Rattle.text.specs.Lines.{lines_of}
 use Rattle.text.specs.declared.Parsed.{Parsed}

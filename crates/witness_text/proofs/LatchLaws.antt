@@ -6,17 +6,11 @@ use mathlib.Core.Path.{◌≡◌, refl, ap, sym, ◌∙◌}
 use native.Mathlib.Omega.{arith}
 use lib.ListN.{length, get_or}
 use Rattle.lists.specs.Answer.{got, refused}
-use Rattle.lists.specs.Parts.{Bytes, part, zeros, front}
-use Rattle.text.specs.declared.Cursor.{Cursor}
-use Rattle.text.specs.declared.Line.{Line}
+use Rattle.lists.specs.Parts.{Bytes, zeros, front}
 use Rattle.text.specs.declared.Reader.TheVariants.{Witness}
-use Rattle.text.specs.Lines.{line_at}
 use Rattle.text.proofs.LiteralLaws.{numbers_from}
-use Rattle.circuit_lines.specs.Inner.OneLine.{answer_or, at_most, Stored, Stores}
-use Rattle.circuit_lines.proofs.PlaceLaws.{one_none, one_bad, one_got}
-use Rattle.witness_text.specs.declared.Latch.{Latch}
+use Rattle.circuit_lines.specs.Inner.OneLine.{at_most, Stored, Stores}
 use Rattle.witness_text.specs.LatchLines.{latch_from, latch_numbers, latch_line}
-use Rattle.witness_text.specs.Inner.Takes.{TakesLatch}
 
 -- ---- latch_line
 
@@ -58,16 +52,3 @@ module _ (l : Bytes) (ns : List ℕ) (r : Option ℕ) (q : Stores (zeros 3) ns (
         ap (λ (o : List ℕ). got (latch_from (get_or o 0 0) (get_or o 1 0) (get_or o 2 0))) stored.stand
         ∙ latch_of stored.numbers (omega (arith, stored.count)) (omega (arith, stored.count, stored.fits))
         ∙ ap latch_numbers (sym stored.are)
-
--- ---- take_latch
-
-module _ (s : Bytes) (c : Cursor) (r : Option Line) (q : r ≡ line_at s c.at) where
-  pub latch_missing : r ≡ None → TakesLatch s c None
-  latch_missing k = one_none latch_line s c r q k
-
-  module _ (l : Line) (k : r ≡ Some l) (x : Option Latch) (p : answer_or 8 x ≡ latch_line (part s l.start l.end)) where
-    pub latch_bad : x ≡ None → TakesLatch s c None
-    latch_bad u = one_bad latch_line s c r q l k (sym p ∙ ap (answer_or 8) u)
-
-    pub latch_got : (g : Latch) → x ≡ Some g → TakesLatch s c (Some (record { value = g; next = l.next }))
-    latch_got g u = one_got latch_line s c r q l k g (sym p ∙ ap (answer_or 8) u)

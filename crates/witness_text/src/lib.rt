@@ -7,9 +7,10 @@ ghost use Rattle.text.specs.Texts.{limited};
 ghost use Rattle.witness_text.specs.Header.{counts_from, counted, without_liveness};
 ghost use Rattle.witness_text.specs.LatchLines.{latch_line};
 ghost use Rattle.witness_text.specs.Symbols.{ends_symbols, count_of, kind_of, before_space, symbol_of};
-ghost use Rattle.witness_text.specs.Inner.Takes.{TakesCounts, symbol_answer, TakesLatch};
+ghost use Rattle.witness_text.specs.Inner.Takes.{TakesCounts, symbol_answer};
 
-use text::{Cursor, Parsed, Reader};
+use circuit_lines::{LineKind, TakeLine};
+use text::{Parsed, Reader};
 
 // The counts of a header: M I L O A B C J F.
 #[derive(Clone, Copy)]
@@ -120,17 +121,21 @@ fn latch_line(l: &[u8]) -> Option<Latch>
     })
 }
 
-// The latch of the line at a cursor.
-pub fn take_latch(s: &[u8], cursor: Cursor) -> Option<Parsed<Latch>>
-    ensures { TakesLatch s.now cursor result }
-{
-    let line = text::next_line(s, cursor)?;
-    let latch = latch_line(&s[line.start..line.end])?;
-    Some(Parsed {
-        value: latch,
-        next: line.next,
-    })
+// Lines with a latch.
+#[derive(Clone, Copy)]
+pub struct LatchLine {}
+
+impl LineKind for LatchLine {
+    type Item = Latch;
+
+    ghost item = { λ kind. latch_line };
+
+    fn read(self, line: &[u8]) -> Option<Latch> {
+        latch_line(line)
+    }
 }
+
+impl TakeLine for LatchLine {}
 
 // Whether a line is `c` and nothing else, after which come comments.
 pub fn ends_symbols(l: &[u8]) -> bool

@@ -5,12 +5,10 @@ use Rattle.lists.specs.Parts.{Bytes}
 use Rattle.text.specs.declared.Cursor.{Cursor}
 use Rattle.text.specs.declared.Parsed.{Parsed}
 use Rattle.text.specs.Lines.{lines_of}
-use Rattle.circuit_lines.specs.Inner.Takes.{lines_from, TakesOne}
+use Rattle.circuit_lines.specs.Inner.Takes.{lines_from}
 use Rattle.witness_text.specs.declared.AagCounts.{AagCounts}
-use Rattle.witness_text.specs.declared.Latch.{Latch}
 use Rattle.witness_text.specs.declared.SymbolLine.{SymbolLine}
 use Rattle.witness_text.specs.Header.{header_of}
-use Rattle.witness_text.specs.LatchLines.{latch_line}
 use Rattle.witness_text.specs.Symbols.{Symbol}
 
 -- the first line has the counts n, and the others begin at the cursor c
@@ -26,7 +24,3 @@ TakesCounts s None = header_of (lines_of s) ≡ refused 4
 abbrev pub symbol_answer : Bytes → Option SymbolLine → Answer Symbol
 symbol_answer l (Some x) = got (record { kind = x.kind; index = x.index; name = drop x.name l })
 symbol_answer l None = refused 9
-
--- one latch
-abbrev pub TakesLatch : Bytes → Cursor → Option (Parsed Latch) → Type 0
-TakesLatch = TakesOne latch_line
