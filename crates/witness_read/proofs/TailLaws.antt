@@ -5,7 +5,7 @@ use Rattle.std.proofs.lemmas.Option.{none-some}
 use borrow.Author.Tests.{not-true, not-false}
 use mathlib.Core.Bool.{Bool, true, false}
 use mathlib.Core.List.{List, [], ◌∷◌, ◌++◌, append_assoc, append-nil}
-use mathlib.Core.Path.{◌≡◌, refl, sym, ap, ◌∙◌, subst}
+use mathlib.Core.Path.{◌≡◌, refl, sym, ap, ◌∙◌}
 use lib.Dec.{eqb, ltb}
 use lib.ListN.{length, take, drop}
 use Rattle.lists.specs.Answer.{Answer, got, refused, and_then}
@@ -30,7 +30,6 @@ use Rattle.witness_text.proofs.SymbolLaws.{symbol-below}
 use Rattle.witness_read.specs.Names.{Tail, with_symbol, tail_of, named_once, symbols_of}
 use Rattle.witness_read.specs.Inner.Passes.{TakenSymbol, BadSymbol, EndsSymbols, Follows, ChecksSymbols, Unmarked, MarksName}
 use Rattle.witness_read.proofs.SymbolSetLaws.{Named, named_none, named_once_lem, named_more, named_again, twice_append}
-use Rattle.witness_read.specs.declared.NextSymbol.{NextSymbol}
 
 -- ---- what an answer of `symbol_of` says
 

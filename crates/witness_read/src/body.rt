@@ -143,7 +143,16 @@ fn check_leaves(s: &[u8], cursor: Cursor, counts: AagCounts) -> Option<Checked>
     let test = Latches {
         most: counts.max_variable as u64,
     };
-    let inputs = check_section(LiteralLine { reader: Reader::Witness }, Inputs {}, s, cursor, counts.inputs, 1)?;
+    let inputs = check_section(
+        LiteralLine {
+            reader: Reader::Witness,
+        },
+        Inputs {},
+        s,
+        cursor,
+        counts.inputs,
+        1,
+    )?;
     let latches = check_section(
         LatchLine {},
         test,
@@ -163,7 +172,9 @@ fn check_properties(s: &[u8], cursor: Cursor, counts: AagCounts) -> Option<Check
     requires { counted limited counts ≡ true }
     ensures { ChecksProperties s.now cursor counts result }
 {
-    let kind = LiteralLine { reader: Reader::Witness };
+    let kind = LiteralLine {
+        reader: Reader::Witness,
+    };
     let test = Literals {
         most: counts.max_variable as u64,
     };

@@ -86,7 +86,8 @@ fn check_with<const N: usize>(
     cursor: Cursor,
     counts: AagCounts,
 ) -> Result<Cursor, Refusal>
-    requires { (counts.inputs + counts.latches ≤ 2000000) × (counts.inputs + counts.latches ≤ 64 * N) }
+    requires few { N ≤ 31250 }
+    requires room { (counts.inputs + counts.latches ≤ 2000000) × (counts.inputs + counts.latches ≤ 64 * N) }
     ensures { ChecksSymbols s.now cursor counts result }
 {
     let mut marks: [u64; N] = [0; N];

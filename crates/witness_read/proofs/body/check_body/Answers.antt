@@ -1,6 +1,6 @@
 use Rattle.std.proofs.Common.{arith}
 use Rattle.witness_text.proofs.CountLaws.{counts_fit, counts-gates}
-use Rattle.witness_read.proofs.BodyLaws.{leaves_bad, properties_bad, gates_bad, body-done}
+use Rattle.witness_read.proofs.BodyLaws.{body-done}
 use Rattle.witness_read.proofs.body.check_body.Goals as goal
 
 pub overflow_add-counts : goal.overflow_add-counts

@@ -1,6 +1,6 @@
 use Rattle.std.proofs.Common.{arith, refl}
 use Rattle.witness_text.proofs.CountLaws.{counts-inputs, counts-leaves, counts-most}
-use Rattle.witness_read.proofs.BodyLaws.{inputs_bad, latches_bad, leaves-done}
+use Rattle.witness_read.proofs.BodyLaws.{leaves-done}
 use Rattle.witness_read.proofs.body.check_leaves.Goals as goal
 
 pub check_section-requires-clause-fits : goal.check_section-requires-clause-fits

@@ -1,6 +1,6 @@
 use Rattle.std.proofs.Common.{refl}
 use Rattle.witness_text.proofs.CountLaws.{counts-most}
-use Rattle.witness_read.proofs.BodyLaws.{outputs_bad, bads_bad, constraints_bad, properties-done}
+use Rattle.witness_read.proofs.BodyLaws.{properties-done}
 use Rattle.witness_read.proofs.body.check_properties.Goals as goal
 
 pub check_section-requires-clause-may : goal.check_section-requires-clause-may
