@@ -11,8 +11,7 @@ use lib.Seq.{take_all, take-suc-set}
 use borrow.Author.Tests.{eq-eqb, ne_eqb}
 use Rattle.lists.specs.Bits.{bit}
 use Rattle.lists.specs.Sets.{member, holds}
-use Rattle.lists.proofs.BitLaws.{odd-bit, bit_lt}
-use Rattle.lists.proofs.BitSetLaws.{holds_outside}
+use Rattle.lists.proofs.BitLaws.{odd-bit}
 use Rattle.lists.proofs.MapLaws.{map_at}
 use Rattle.lists.proofs.OnceLaws.{member_append}
 use Rattle.lists.proofs.RestLaws.{take_next}
@@ -21,29 +20,20 @@ use Rattle.cnf.specs.Simplified.{cnf_word, without_false}
 use Rattle.cnf.specs.Inner.Appending.{Filled, Narrow}
 use Rattle.cnf.proofs.SignLaws.{opposite-is, without_append}
 use Rattle.obligation_spec.specs.Lists.{valued}
-use Rattle.obligation_claims.specs.declared.Fill.TheVariants.{True, Words}
+use Rattle.std.specs.Prelude.{Some, None}
 use Rattle.obligation_claims.specs.Inner.Claims.{claim_list, LowKeys}
 use Rattle.obligation_claims.specs.Inner.Filling.{Fills}
 
 -- ---- claim_literal
 
 module _ (ws : List ℕ) (k : ℕ) where
-  pub bit_outside : length ws ≤ k / 64 → 0 ≡ bit (holds ws k)
-  bit_outside h = ap bit (holds_outside ws k h)
-
   pub bit-inside : get_or ws (k / 64) 0 / 2 ^ (k % 64) % 2 ≡ bit (holds ws k)
   unfolding holds
   bit-inside = sym (odd-bit (get_or ws (k / 64) 0 / 2 ^ (k % 64)))
 
-pub bit-low : (ws : List ℕ) (k b : ℕ) → b ≡ bit (holds ws k) → b < 2
-bit-low ws k b e = rw e (bit_lt (holds ws k))
-
 turned : (l : ℕ) (b : Bool) → l - l % 2 + (l + bit b) % 2 ≡ valued l (not b)
 turned l true = sym (opposite-is l ∙ omega arith)
 turned l false = omega arith
-
-pub literal_turned : (key j : ℕ) (claim : List ℕ) (b : ℕ) → j ≡ key % 256 → b ≡ bit (holds claim j) → key / 256 - key / 256 % 2 + (key / 256 + b) % 2 ≡ valued (key / 256) (not (holds claim (key % 256)))
-literal_turned key j claim b f e = rw (e, f) (turned (key / 256) (holds claim (key % 256)))
 
 -- the literal of a low key has 32 bits
 pub literal-narrow : (key : ℕ) (b : Bool) → key < 2 ^ 39 → valued (key / 256) b < 2 ^ 32
@@ -72,11 +62,8 @@ pub record Filling (ls list₀ list : List ℕ) (i n : ℕ) : Type 0 where
   pub behind : n ≤ i
   pub same : length list ≡ length list₀
 
-pub filling-none : (ls list : List ℕ) → Filling ls list list 0 0
-filling-none ls list = record { filled = record { untrue = refl; count = refl; words = refl }; passed = omega arith; behind = omega arith; same = refl }
-
 module _ (ls list₀ list : List ℕ) (i n : ℕ) (k : Filling ls list₀ list i n) where
-  pub filling-done : length ls ≤ i → Fills ls (Words n) list
+  pub filling-done : length ls ≤ i → Fills ls (Some n) list
   filling-done h =
       record {
         when_true = λ e. absurd (let z : ◌≡◌ {A = ℕ} 0 1 = cc in omega arith);
@@ -90,7 +77,7 @@ module _ (ls list₀ list : List ℕ) (i n : ℕ) (k : Filling ls list₀ list i
     next_without : without_false (take (i + 1) ls) ≡ without_false (take i ls) ++ without_false (get_or ls i 0 ∷ [])
     next_without = rw (take_next ls i 0 h) (without_append (take i ls) (get_or ls i 0 ∷ []))
 
-    pub filling-true : (v : ℕ) → v ≡ get_or ls i 0 → v ≡ 1 → Fills ls True list
+    pub filling-true : (v : ℕ) → v ≡ get_or ls i 0 → v ≡ 1 → Fills ls None list
     filling-true v q e =
         record {
           when_true = λ z. member-at 1 ls i h (sym e ∙ q);
@@ -136,9 +123,6 @@ module _ (ls list₀ list : List ℕ) (i n : ℕ) (k : Filling ls list₀ list i
 
 -- as the code reads a claim's literals
 module _ (keys claim list₀ list : List ℕ) (i n : ℕ) (k : Filling (claim_list keys claim) list₀ list i n) where
-  pub claiming_done : length keys ≤ i → Fills (claim_list keys claim) (Words n) list
-  claiming_done h = filling-done (claim_list keys claim) list₀ list i n k (rw (claim_length keys claim) h)
-
   module _ (h : i < length keys) (v : ℕ) (e : v ≡ valued (get_or keys i 0 / 256) (not (holds claim (get_or keys i 0 % 256)))) where
     inside : i < length (claim_list keys claim)
     inside = rw (claim_length keys claim) h
@@ -146,7 +130,7 @@ module _ (keys claim list₀ list : List ℕ) (i n : ℕ) (k : Filling (claim_li
     is : v ≡ get_or (claim_list keys claim) i 0
     is = e ∙ sym (map_at (λ x. valued (x / 256) (not (holds claim (x % 256)))) keys i 0 0 h)
 
-    pub claiming_true : v ≡ 1 → Fills (claim_list keys claim) True list
+    pub claiming_true : v ≡ 1 → Fills (claim_list keys claim) None list
     claiming_true f = filling-true (claim_list keys claim) list₀ list i n k inside v is f
 
     pub claiming_false : v < 2 → (v ≡ 1 → ⊥) → Filling (claim_list keys claim) list₀ list (i + 1) n

@@ -2,11 +2,12 @@
 use Prim.Native.Nat.{ℕ, zero, suc, ◌+◌, ◌-◌, ◌*◌, ◌/◌, ◌%◌, ◌≤◌, ◌<◌, ◌^◌}
 use mathlib.Core.Path.{◌≡◌, refl, sym, ◌∙◌}
 use mathlib.Core.Bool.{not}
+use mathlib.Core.Logic.{inl, inr}
 use mathlib.Core.List.{List, [], ◌∷◌}
 use native.Mathlib.Nat.{zero-add}
 use native.Mathlib.Omega.{arith}
 use lib.ListN.{length, get_or, take, drop, set, length-map}
-use Rattle.lists.specs.Parts.{put}
+use Rattle.lists.specs.Parts.{put, part}
 use Rattle.lists.specs.Sets.{holds}
 use Rattle.lists.specs.Tests.{Each}
 use Rattle.lists.proofs.MapLaws.{map_at}
@@ -16,16 +17,15 @@ use Rattle.lists.proofs.TestLaws.{each_append}
 use Rattle.lists.proofs.WordLaws.{triples_at, triples_count}
 use Rattle.cnf.specs.declared.ClauseCounts.{ClauseCounts}
 use Rattle.cnf.specs.Simplified.{simplified}
-use Rattle.cnf.specs.Inner.Appending.{Appends, Space, Filled, Narrow, NarrowWords}
-use Rattle.cnf.proofs.AppendLaws.{appends-none, appends-same, appends-dropped, appends-next, appends-end, space-next}
+use Rattle.cnf.specs.Inner.Appending.{Appends, Filled, Narrow, NarrowWords}
+use Rattle.cnf.proofs.AppendLaws.{appends-same, appends-dropped, appends-next}
 use Rattle.cnf.proofs.ShortLaws.{simplified-filled, simplified_one_true}
 use Rattle.cnf.proofs.SignLaws.{length_without}
 use Rattle.cnf.proofs.SimplifyLaws.{filled-narrow}
 use Rattle.obligation_spec.specs.Lists.{valued}
-use Rattle.obligation_claims.specs.declared.Fill.{Fill}
-use Rattle.obligation_claims.specs.declared.Fill.TheVariants.{True}
+use Rattle.std.specs.Prelude.{Option, None}
 use Rattle.obligation_claims.specs.Inner.Claims.{claim_list, state_claims, outcome_claims, LowKeys}
-use Rattle.obligation_claims.specs.Inner.Filling.{Fills, Fits}
+use Rattle.obligation_claims.specs.Inner.Filling.{Fills, Claims}
 use Rattle.obligation_claims.proofs.FillLaws.{claim_length, claim_narrow}
 
 -- ---- push_few: at most three literals, filled up with false constants
@@ -75,8 +75,8 @@ module _ (keys claim : List ℕ) where
 
 -- ---- push_claim
 
-module _ (ls : List ℕ) (r : Fill) (list : List ℕ) (f : Fills ls r list) where
-  pub claim_dropped : r ≡ True → (at : ClauseCounts) (pairs words : List ℕ) → Appends (ls ∷ []) at pairs words at pairs words
+module _ (ls : List ℕ) (r : Option ℕ) (list : List ℕ) (f : Fills ls r list) where
+  pub claim_dropped : r ≡ None → (at : ClauseCounts) (pairs words : List ℕ) → Appends (ls ∷ []) at pairs words at pairs words
   claim_dropped e at pairs words = appends-dropped ls at pairs words (simplified_one_true ls (f.when_true e))
 
 module _ (keys claim list : List ℕ) (n : ℕ) (f : Filled (claim_list keys claim) list n) where
@@ -88,71 +88,55 @@ module _ (keys claim list : List ℕ) (n : ℕ) (f : Filled (claim_list keys cla
 
 -- ---- all claims
 
--- the clauses of the first i lists were appended, and the lists in which clauses are made still fit
-pub record Pushing (lists : List (List ℕ)) (keys : List ℕ) (at : ClauseCounts) (list₀ work₀ pairs₀ words₀ : List ℕ) (at' : ClauseCounts) (list work pairs words : List ℕ) (i : ℕ) : Type 0 where
+-- the clauses of the first i claims were appended, and the list in which clauses are made is as long as it was
+pub record Pushing (lists : List (List ℕ)) (at : ClauseCounts) (list₀ pairs₀ words₀ : List ℕ) (at' : ClauseCounts) (list pairs words : List ℕ) (i : ℕ) : Type 0 where
   pub appends : Appends (take i lists) at pairs₀ words₀ at' pairs words
   pub passed : i ≤ length lists
   pub same_list : length list ≡ length list₀
-  pub same_work : length work ≡ length work₀
   pub same_pairs : length pairs ≡ length pairs₀
   pub same_words : length words ≡ length words₀
 
--- few keys need no list
-pub fits-few : (keys : List ℕ) (n m : ℕ) → length keys ≤ 3 → LowKeys keys → Fits keys n m
-fits-few keys n m h e = record { low = e; short = omega arith; list_fits = λ k. absurd (omega arith); work_fits = λ k. absurd (omega arith) }
-
-pub fits-same : (keys : List ℕ) (n m n' m' : ℕ) → Fits keys n m → n' ≡ n → m' ≡ m → Fits keys n' m'
-fits-same keys n m n' m' f e g = rw (e, g) f
-
-module _ (lists : List (List ℕ)) (keys : List ℕ) (at : ClauseCounts) (list₀ work₀ pairs₀ words₀ : List ℕ) where
-  pub pushing-none : Pushing lists keys at list₀ work₀ pairs₀ words₀ at list₀ work₀ pairs₀ words₀ 0
-  pushing-none = record { appends = appends-none at pairs₀ words₀; passed = omega arith; same_list = refl; same_work = refl; same_pairs = refl; same_words = refl }
-
-  module _ (at' : ClauseCounts) (list work pairs words : List ℕ) (i : ℕ) (k : Pushing lists keys at list₀ work₀ pairs₀ words₀ at' list work pairs words i) where
-    pub pushing-fits : Fits keys (length list₀) (length work₀) → Fits keys (length list) (length work)
-    pushing-fits f = fits-same keys (length list₀) (length work₀) (length list) (length work) f k.same_list k.same_work
-
-    module _ (n : ℕ) (all : length lists ≡ n) where
-      pub pushing-more : i < n → (claim : List ℕ) → get_or lists i [] ≡ claim_list keys claim
-          → (at'' : ClauseCounts) (list' work' pairs' words' : List ℕ) → Appends (claim_list keys claim ∷ []) at' pairs words at'' pairs' words'
-          → length list' ≡ length list → length work' ≡ length work → length pairs' ≡ length pairs → length words' ≡ length words
-          → Pushing lists keys at list₀ work₀ pairs₀ words₀ at'' list' work' pairs' words' (i + 1)
-      pushing-more h claim e at'' list' work' pairs' words' g a b c d =
-          record {
-            appends = appends-next lists i at at' at'' pairs₀ words₀ pairs words pairs' words' [] (omega arith) k.appends (rw e g);
-            passed = omega arith;
-            same_list = a ∙ k.same_list;
-            same_work = b ∙ k.same_work;
-            same_pairs = c ∙ k.same_pairs;
-            same_words = d ∙ k.same_words;
-          }
-
-      pub pushing-done : n ≤ i → Appends lists at pairs₀ words₀ at' pairs words
-      pushing-done h = appends-end lists i at at' at' pairs₀ words₀ pairs words pairs words (omega arith) k.appends
-
-      pub pushing-space : i < n → Space at n → Space at' 1
-      pushing-space h s = space-next lists i at pairs₀ words₀ at' pairs words (omega arith) k.appends (rw all s)
+module _ (at : ClauseCounts) (list₀ pairs₀ words₀ keys claims : List ℕ) (size : ℕ) (c : Claims keys claims size) (at' : ClauseCounts) (list pairs words : List ℕ) (i : ℕ) (k : Pushing c.lists at list₀ pairs₀ words₀ at' list pairs words i) where
+  pub pushing-more : i < length claims / size → (at'' : ClauseCounts) (list' pairs' words' : List ℕ)
+      → Appends (claim_list keys (part claims (size * i) (size * i + size)) ∷ []) at' pairs words at'' pairs' words'
+      → length list' ≡ length list → length pairs' ≡ length pairs → length words' ≡ length words → Pushing c.lists at list₀ pairs₀ words₀ at'' list' pairs' words' (i + 1)
+  pushing-more h at'' list' pairs' words' g a b d =
+      record {
+        appends = appends-next c.lists i at at' at'' pairs₀ words₀ pairs words pairs' words' [] (omega (arith, c.count)) k.appends (rw (c.each i h) g);
+        passed = omega (arith, c.count);
+        same_list = a ∙ k.same_list;
+        same_pairs = b ∙ k.same_pairs;
+        same_words = d ∙ k.same_words;
+      }
 
 -- the words of one claim, as the code cuts them
-pub one_word : (states : List ℕ) (i : ℕ) → i < length states → take (i + 1 - i) (drop i states) ≡ get_or states i 0 ∷ []
-one_word states i h = let e : i + 1 - i ≡ 1 = omega arith in rw (e, rest_more states i 0 h) refl
+pub one_word : (states : List ℕ) (i : ℕ) → i < length states → part states (1 * i) (1 * i + 1) ≡ get_or states i 0 ∷ []
+one_word states i h =
+    let a : 1 * i ≡ i = omega arith in
+    let e : i + 1 - i ≡ 1 = omega arith in
+    rw (a, e, rest_more states i 0 h) refl
 
-pub three_words : (words : List ℕ) (at : ℕ) → at + 2 < length words → take (at + 3 - at) (drop at words) ≡ get_or words at 0 ∷ get_or words (at + 1) 0 ∷ get_or words (at + 2) 0 ∷ []
+pub three_words : (words : List ℕ) (at : ℕ) → at + 2 < length words → part words at (at + 3) ≡ get_or words at 0 ∷ get_or words (at + 1) 0 ∷ get_or words (at + 2) 0 ∷ []
 three_words words at h =
     let e : at + 3 - at ≡ 3 = omega arith in
     let n : at + 1 + 1 ≡ at + 2 = omega arith in
     rw (e, rest_more words at 0 (omega arith), rest_more words (at + 1) 0 (omega arith), n, rest_more words (at + 2) 0 h) refl
 
 module _ (keys : List ℕ) where
-  pub states_count : (states : List ℕ) → length (state_claims keys states) ≡ length states
-  states_count states = length-map states (λ s. claim_list keys (s ∷ []))
+  abbrev pub states-are : (states : List ℕ) → Claims keys states 1
+  states-are states =
+      record {
+        sizes = inl refl;
+        lists = state_claims keys states;
+        count = length-map states (λ s. claim_list keys (s ∷ [])) ∙ omega arith;
+        each = λ i h. map_at (λ s. claim_list keys (s ∷ [])) states i 0 [] (omega arith) ∙ rw (one_word states i (omega arith)) refl;
+      }
 
-  pub states_at : (states : List ℕ) (i : ℕ) → i < length states → get_or (state_claims keys states) i [] ≡ claim_list keys (take (i + 1 - i) (drop i states))
-  states_at states i h = map_at (λ s. claim_list keys (s ∷ [])) states i 0 [] h ∙ rw (one_word states i h) refl
-
-  pub outcomes_count : (words : List ℕ) → length (outcome_claims keys words) ≡ length words / 3
-  outcomes_count words = triples_count (λ t h l. claim_list keys (t ∷ h ∷ l ∷ [])) words
-
-  pub outcomes_at : (words : List ℕ) (i : ℕ) → i < length words / 3 → get_or (outcome_claims keys words) i [] ≡ claim_list keys (take (3 * i + 3 - 3 * i) (drop (3 * i) words))
-  outcomes_at words i h =
-      triples_at (λ t h l. claim_list keys (t ∷ h ∷ l ∷ [])) words i 0 [] (omega arith) ∙ rw (three_words words (3 * i) (omega arith)) refl
+  abbrev pub outcomes-are : (words : List ℕ) → Claims keys words 3
+  outcomes-are words =
+      record {
+        sizes = inr refl;
+        lists = outcome_claims keys words;
+        count = triples_count (λ t h l. claim_list keys (t ∷ h ∷ l ∷ [])) words;
+        each = λ i h. triples_at (λ t h l. claim_list keys (t ∷ h ∷ l ∷ [])) words i 0 [] (omega arith) ∙ rw (three_words words (3 * i) (omega arith)) refl;
+      }

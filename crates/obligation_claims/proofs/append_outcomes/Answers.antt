@@ -1,5 +1,8 @@
-use Rattle.obligation_claims.proofs.PushLaws.{fits-few}
+use Rattle.obligation_claims.proofs.PushLaws.{outcomes-are}
 use Rattle.obligation_claims.proofs.append_outcomes.Goals as goal
 
-pub push_outcomes-requires : goal.push_outcomes-requires
-push_outcomes-requires c = (c.requires.0, fits-few c.args.keys.now _ _ c.if-keys-le3.true c.requires.2)
+pub append_claims-requires : goal.append_claims-requires
+append_claims-requires c = (outcomes-are c.args.keys.now c.args.words.now, c.requires.0, c.requires.1, c.requires.2)
+
+pub returns : goal.returns
+returns c = c.append_claims.ensures (outcomes-are c.args.keys.now c.args.words.now)

@@ -1,12 +1,5 @@
-use Rattle.obligation_claims.proofs.FillLaws.{key-low}
-use Rattle.obligation_claims.proofs.PushLaws.{few-none, few-more, few-done, few-narrow, few-appends}
+use Rattle.obligation_claims.proofs.PushLaws.{few-more, few-done, few-narrow, few-appends}
 use Rattle.obligation_claims.proofs.push_few.Goals as goal
-
-pub loop-i-init : goal.loop-i-init
-loop-i-init c = few-none c.args.keys.now c.args.claim.now c.requires.1
-
-pub claim_literal-requires : goal.claim_literal-requires
-claim_literal-requires c = key-low c.args.keys.now c.requires.2 c.loop-i.i c.loop-i-test.true
 
 pub loop-i-preserved : goal.loop-i-preserved
 loop-i-preserved c = few-more c.args.keys.now c.args.claim.now _ _ c.loop-i.invariant c.loop-i-test.true _ c.claim_literal.ensures
