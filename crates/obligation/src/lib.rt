@@ -3,7 +3,7 @@
 
 ghost use Rattle.std.specs.Prelude.{◌≡◌};
 ghost use Rattle.obligation_spec.specs.Calls.{circuit, asked_of};
-ghost use Rattle.obligation_check.specs.Questions.{asked_in};
+ghost use Rattle.obligation_check.specs.Inner.Questions.{asked_in};
 ghost use Rattle.obligation.specs.Promise.{buffers_of, Promised, MakesRelation};
 ghost use Rattle.obligation.specs.Inner.Appended.{Asks, ClaimsOf, MakesAll};
 ghost use Rattle.obligation.specs.Inner.ByClaim.{claim_test, claim_clauses};
