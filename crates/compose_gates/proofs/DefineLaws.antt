@@ -8,11 +8,12 @@ use borrow.Author.Tests.{ltb-true, ltb-false}
 use lib.Dec.{ltb}
 use lib.ListN.{length, get_or, take, drop, drop_of_length-le, take-append-drop}
 use lib.Seq.{get_or-drop}
+use Rattle.std.specs.Prelude.{Some, None}
 use Rattle.lists.specs.Parts.{part, put}
 use Rattle.lists.specs.Tests.{all, Each}
 use Rattle.lists.specs.Words.{pairs_of}
 use Rattle.lists.proofs.BoolLaws.{true-false}
-use Rattle.lists.proofs.PartLaws.{part_length, part_at, put-none, put-before, put-inside, put-put}
+use Rattle.lists.proofs.PartLaws.{part_length, part_at, put-before, put-inside, put-put}
 use Rattle.lists.proofs.RestLaws.{rest_more, take_next}
 use Rattle.lists.proofs.TestLaws.{each_append, each_at, each-so}
 use Rattle.lists.proofs.WordLaws.{pairs-count, pairs-at}
@@ -20,7 +21,6 @@ use Rattle.aiger.specs.Gates.{variable}
 use Rattle.witness_read.specs.Sections.{NamedLatch}
 use Rattle.compose_spec.specs.Sharing.{translate}
 use Rattle.compose_spec.specs.Composing.{Defined, definition_of, same_defined, agree}
-use Rattle.compose_gates.specs.declared.DefinedLatches.TheVariants as answer
 use Rattle.compose_gates.specs.Inner.Linked.{Translatable, literal_at}
 use Rattle.compose_gates.specs.Inner.Latches.{InTurn, met_in, Slot, SlotIs, same_pair, Storable, DefinesLatch, latch_from, defined_at, definitions_from, latch_variables, Definable, defined_answer, Defines}
 use Rattle.compose_gates.proofs.LatchLaws.{defined-length, defined-at, definition_new, same_self, definitions-length, definitions-next, next-at, reset-at}
@@ -39,10 +39,10 @@ pub record Defining (words count vars own definitions first : ℕ) (work₀ work
   pub total : met_in first seen (drop j (latch_variables own count work₀)) ≡ met_in first 0 (latch_variables own count work₀)
   pub stored : work ≡ put work₀ definitions (definitions_from first seen (defined_at words count vars own work₀))
 
-answer_agreed : (n : ℕ) (ds : List Defined) → agree ds ≡ true → defined_answer n ds ≡ answer.Agreed n
+answer_agreed : (n : ℕ) (ds : List Defined) → agree ds ≡ true → defined_answer n ds ≡ Some n
 answer_agreed n ds e = rw e
 
-answer_differs : (n : ℕ) (ds : List Defined) → agree ds ≡ false → defined_answer n ds ≡ answer.Differs
+answer_differs : (n : ℕ) (ds : List Defined) → agree ds ≡ false → defined_answer n ds ≡ None
 answer_differs n ds e = rw e
 
 module _ (words count vars own definitions first : ℕ) (work₀ : List ℕ) (pre : Definable words count vars own definitions first work₀) where
@@ -54,18 +54,6 @@ module _ (words count vars own definitions first : ℕ) (work₀ : List ℕ) (pr
 
   abbrev latches : List NamedLatch
   latches = pairs_of latch_from (part work₀ words (words + 2 * count))
-
-  pub defining-none : Defining words count vars own definitions first work₀ work₀ 0 0
-  defining-none =
-      record {
-        passed = omega arith;
-        few = omega arith;
-        low = tt;
-        agrees = refl;
-        turns = pre.turns;
-        total = refl;
-        stored = sym (put-none work₀ definitions);
-      }
 
   words-length : length (part work₀ words (words + 2 * count)) ≡ 2 * count
   words-length = omega (arith, part_length work₀ words (words + 2 * count) (omega (arith, pre.before, pre.room)))
@@ -80,12 +68,12 @@ module _ (words count vars own definitions first : ℕ) (work₀ : List ℕ) (pr
   vs_length = omega (arith, part_length work₀ own (own + count) (omega (arith, pre.among, pre.behind, pre.room)))
 
   module _ (work : List ℕ) (seen j : ℕ) (s : Defining words count vars own definitions first work₀ work seen j) where
-    pub defining-done : count ≤ j → Defines words count vars own definitions first work₀ work (answer.Agreed seen)
+    pub defining-done : count ≤ j → Defines words count vars own definitions first work₀ work (Some seen)
     defining-done h =
         let all-agree : agree ds ≡ true = s.agrees ∙ rw (drop_of_length-le ds {i = j} (omega (arith, ds_length))) refl in
         let met : seen ≡ met_in first 0 vs = rw (drop_of_length-le vs {i = j} (omega (arith, vs_length))) at s.total in
         record {
-          returns = ap answer.Agreed met ∙ sym (answer_agreed (met_in first 0 vs) ds all-agree);
+          returns = ap Some met ∙ sym (answer_agreed (met_in first 0 vs) ds all-agree);
           stored = λ e. s.stored ∙ ap (λ (n : ℕ). put work₀ definitions (definitions_from first n ds)) met;
         }
 
@@ -239,7 +227,7 @@ module _ (words count vars own definitions first : ℕ) (work₀ : List ℕ) (pr
             told : good ≡ as_first ds d
             told = judged (ltb slot seen) refl f
 
-            pub turn_differs : good ≡ false → Defines words count vars own definitions first work₀ work₁ answer.Differs
+            pub turn_differs : good ≡ false → Defines words count vars own definitions first work₀ work₁ None
             turn_differs e =
                 let no : agree ds ≡ false = agrees-more ∙ rw (sym told ∙ e) in
                 record { returns = sym (answer_differs (met_in first 0 vs) ds no); stored = λ a. true-false a no }

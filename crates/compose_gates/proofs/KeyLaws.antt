@@ -1,12 +1,12 @@
 -- Laws of translated literals and of keys: a key stands for one pair of operands, so keys are numbered as the gates are.
-use Prim.Native.Nat.{ℕ, ◌+◌, ◌*◌, ◌%◌, ◌≤◌, ◌<◌}
+use Prim.Native.Nat.{ℕ, ◌<◌}
 use mathlib.Core.Bool.{Bool, true, false, cond}
 use mathlib.Core.List.{List, [], ◌∷◌, ◌++◌, map, map-append}
-use mathlib.Core.Path.{◌≡◌, refl, sym, ◌∙◌}
+use mathlib.Core.Path.{◌≡◌, refl, sym}
 use native.Mathlib.Omega.{arith}
-use borrow.Author.Tests.{eqb-true, eqb-false, eq-eqb, le-leb, lt-leb}
+use borrow.Author.Tests.{eqb-true, eqb-false, eq-eqb}
 use lib.Dec.{eqb, leb}
-use lib.ListN.{get_or, drop}
+use lib.ListN.{drop}
 use lib.Seq.{get_or-drop}
 use Rattle.lists.specs.Firsts.{place, joined}
 use Rattle.lists.specs.Tests.{any, Each}
@@ -15,31 +15,13 @@ use Rattle.lists.proofs.TestLaws.{each_append}
 use Rattle.aiger.specs.Gates.{variable}
 use Rattle.compose_spec.specs.Sharing.{translate, Operands, same_operands, unordered}
 use Rattle.compose_spec.specs.Inner.Keys.{key_of}
-use Rattle.compose_gates.specs.Inner.Linked.{Translatable, key_at}
+use Rattle.compose_gates.specs.Inner.Linked.{Translatable}
 
 -- ---- translate
 
 module _ (vars : ℕ) (work : List ℕ) (l : ℕ) (t : Translatable vars work l) where
-  pub word_small : (x : ℕ) → x ≡ variable l → get_or work (vars + x) 0 < 1073741824
-  word_small x e = rw e t.small
-
   pub literal-small : (r : ℕ) → r ≡ translate (drop vars work) l → r < 2147483648
   literal-small r e = omega (arith, t.small, get_or-drop vars work (variable l) 0, e)
-
-pub literal_read : (vars : ℕ) (work : List ℕ) (l x : ℕ) → x ≡ variable l → 2 * get_or work (vars + x) 0 + l % 2 ≡ translate (drop vars work) l
-literal_read vars work l x e = rw (e, get_or-drop vars work (variable l) 0)
-
--- ---- key_of and gate_key
-
-pub key-first : (x y : ℕ) → x ≤ y → x + 4294967296 * y ≡ key_of (unordered x y)
-key-first x y h = rw (le-leb x y h)
-
-pub key-second : (x y : ℕ) → y < x → y + 4294967296 * x ≡ key_of (unordered x y)
-key-second x y h = rw (lt-leb x y h)
-
-pub key_read : (at vars : ℕ) (work : List ℕ) (x y r : ℕ) → x ≡ translate (drop vars work) (get_or work at 0) → y ≡ translate (drop vars work) (get_or work (at + 1) 0)
-    → r ≡ key_of (unordered x y) → r ≡ key_at at vars work
-key_read at vars work x y r e f g = g ∙ rw (e, f)
 
 -- operands that are as small as the composed literals
 pub record Small (g : Operands) : Type 0 where

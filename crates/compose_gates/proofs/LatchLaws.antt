@@ -6,7 +6,6 @@ use mathlib.Core.Path.{◌≡◌, refl, sym, ap, ◌∙◌}
 use native.Mathlib.Nat.{add-zero}
 use native.Mathlib.Omega.{arith}
 use borrow.Author.Tests.{eq-eqb, ne_eqb}
-use lib.Dec.{eqb}
 use lib.ListN.{length, get_or, set}
 use Rattle.lists.specs.Tests.{Each}
 use Rattle.lists.proofs.PartLaws.{put_two}
@@ -14,21 +13,11 @@ use Rattle.witness_read.specs.Sections.{NamedLatch}
 use Rattle.compose_spec.specs.Sharing.{translate}
 use Rattle.compose_spec.specs.Composing.{Defined, defined_from, definition_of, same_defined}
 use Rattle.compose_gates.specs.Inner.Linked.{literal_at}
-use Rattle.compose_gates.specs.Inner.Latches.{same_pair, DefinesLatch, definitions_from}
+use Rattle.compose_gates.specs.Inner.Latches.{DefinesLatch, definitions_from}
 
--- ---- same_pair and define_latch
-
-module _ (at x y : ℕ) (work : List ℕ) where
-  pub pair_told : get_or work at 0 ≡ x → eqb (get_or work (at + 1) 0) y ≡ same_pair at x y work
-  pair_told e = rw (eq-eqb (get_or work at 0) x e)
-
-  pub pair_differs : (get_or work at 0 ≡ x → ⊥) → false ≡ same_pair at x y work
-  pair_differs e = rw (ne_eqb (get_or work at 0) x e)
+-- ---- define_latch
 
 module _ (at vars place : ℕ) (work : List ℕ) (known : Bool) (x y : ℕ) (e : x ≡ literal_at at vars work) (f : y ≡ literal_at (at + 1) vars work) where
-  pub latch_known : known ≡ true → (r : Bool) → r ≡ same_pair place x y work → DefinesLatch at vars place work work known r
-  latch_known k r g = rw k (g ∙ rw (e, f), refl)
-
   pub latch_new : known ≡ false → place + 1 < length work → DefinesLatch at vars place work (set (set work place x) (place + 1) y) known true
   latch_new k h = rw k (refl, sym (put_two work place x y h) ∙ rw (e, f))
 

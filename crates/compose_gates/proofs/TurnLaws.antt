@@ -8,6 +8,7 @@ use native.Mathlib.Omega.{arith}
 use lib.Dec.{eqb}
 use lib.ListN.{length, get_or, take, drop, set, length-map, length-set}
 use lib.Seq.{take-take, get_or-drop, get_or-set_same}
+use Rattle.std.specs.Prelude.{None}
 use Rattle.lists.specs.Firsts.{place, joined}
 use Rattle.lists.specs.Parts.{part}
 use Rattle.lists.specs.Tests.{Each}
@@ -16,15 +17,14 @@ use Rattle.lists.proofs.BoolLaws.{true-false}
 use Rattle.lists.proofs.KeptLaws.{take-kept, at-kept, part-kept}
 use Rattle.lists.proofs.PartLaws.{part_length, part_at, part-next}
 use Rattle.lists.proofs.TestLaws.{each_append, each_at}
-use Rattle.lists.proofs.WordLaws.{pairs-more, pairs_end}
+use Rattle.lists.proofs.WordLaws.{pairs-more}
 use Rattle.aiger.specs.Gates.{variable, gate_from}
 use Rattle.key_table.specs.Inner.Table.{Held}
 use Rattle.key_table.proofs.HeldLaws.{held_none, holding}
 use Rattle.compose_spec.specs.Sharing.{translate, Operands, same_operands, translated, Shared, share_gates}
 use Rattle.compose_spec.specs.Inner.Keys.{key_of}
 use Rattle.compose_spec.specs.Composing.{gates_fit}
-use Rattle.compose_gates.specs.declared.SharedGates.TheVariants as answer
-use Rattle.compose_gates.specs.Inner.Linked.{Translatable, TwoLiterals, key_at, table_end, table_in, Findable, FindsIn, Sharable, shared_in, shared_answer, Linked, Shares}
+use Rattle.compose_gates.specs.Inner.Linked.{Translatable, TwoLiterals, key_at, table_end, table_in, Findable, FindsIn, Sharable, shared_in, shared_answer, Shares}
 use Rattle.compose_gates.proofs.FirstLaws.{joined_length}
 use Rattle.compose_gates.proofs.KeyLaws.{Small, unordered-small, literal-small, place-keys, joined-keys, joined_small}
 use Rattle.compose_gates.proofs.KeptLaws.{set-take, set-drop}
@@ -45,10 +45,7 @@ pub record Sharing (operands count vars known table leaves : ℕ) (work₀ work 
   pub before : take (vars + known) work ≡ take (vars + known) work₀
   pub behind : drop (table_end table count) work ≡ drop (table_end table count) work₀
 
-answer-all : (leaves : ℕ) (t : Shared) → gates_fit leaves t.gates ≡ true → shared_answer leaves t ≡ answer.All (length t.gates)
-answer-all leaves t f = rw f
-
-answer-none : (leaves : ℕ) (t : Shared) → gates_fit leaves t.gates ≡ false → shared_answer leaves t ≡ answer.TooMany
+answer-none : (leaves : ℕ) (t : Shared) → gates_fit leaves t.gates ≡ false → shared_answer leaves t ≡ None
 answer-none leaves t f = rw f
 
 module _ (operands count vars known table leaves : ℕ) (work₀ : List ℕ) (pre : Sharable operands count vars known table leaves work₀) where
@@ -77,19 +74,6 @@ module _ (operands count vars known table leaves : ℕ) (work₀ : List ℕ) (pr
       }
 
   module _ (work : List ℕ) (shared i : ℕ) (same : length work ≡ length work₀) (s : Sharing operands count vars known table leaves work₀ work shared i) where
-    pub sharing-done : count ≤ i → Shares operands count vars known table leaves work₀ work (answer.All shared)
-    sharing-done h =
-        let size : length (part work₀ operands (operands + 2 * count)) ≡ 2 * count = omega (arith, part_length work₀ operands (operands + 2 * count) (omega (arith, pre))) in
-        let none = pairs_end (gate_from 0) (part work₀ operands (operands + 2 * count)) (2 * i) (omega (arith, size)) in
-        let end : s.state ≡ shared_in operands count vars known leaves work₀ = rw none at s.rest in
-        let all : i ≡ count = omega (arith, s.passed) in
-        record {
-          returns = ap answer.All s.counted ∙ sym (answer-all leaves s.state s.fit) ∙ ap (shared_answer leaves) end;
-          words = λ f.
-              subst (λ (t : Shared). Linked count vars known table work₀ t work) end
-              (record { variables = ap (λ (n : ℕ). part work vars (vars + known + n)) (sym all) ∙ s.variables; keys = s.held; before = s.before; behind = s.behind });
-        }
-
     module _ (more : i < count) where
       abbrev l : ℕ
       l = get_or work₀ (operands + 2 * i) 0
@@ -188,7 +172,7 @@ module _ (operands count vars known table leaves : ℕ) (work₀ : List ℕ) (pr
             next-count : shared₁ ≡ length next.gates
             next-count = omega (arith, m, number_is, joined_length same_operands operands_now s.state.gates, s.counted)
 
-            pub turn_many : 2000000 < leaves + shared₁ → Shares operands count vars known table leaves work₀ work₁ answer.TooMany
+            pub turn_many : 2000000 < leaves + shared₁ → Shares operands count vars known table leaves work₀ work₁ None
             turn_many h =
                 let grown = gates_grow (suc leaves) (pairs_of (gate_from 0) (drop (2 * (i + 1)) (part work₀ operands (operands + 2 * count)))) next in
                 let all : length next.gates ≤ length (shared_in operands count vars known leaves work₀).gates = rw next-rest at grown in

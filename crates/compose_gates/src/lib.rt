@@ -1,34 +1,18 @@
 // The gates and latches of all witnesses, which stand side by side in lent words, become those of the composition.
 #![tactic(auto)]
 
-ghost use Rattle.std.specs.Prelude.{◌≡◌, ◌+◌, ◌<◌, max, length, drop};
+ghost use Rattle.std.specs.Prelude.{◌≡◌, ◌+◌, ◌<◌, length, drop};
 ghost use Rattle.compose_spec.specs.Sharing.{translate, unordered};
 ghost use Rattle.compose_spec.specs.Inner.Keys.{key_of};
 ghost use Rattle.compose_gates.specs.Inner.Linked.{Translatable, TwoLiterals, key_at, Findable, FindsIn, Sharable, Shares};
 ghost use Rattle.compose_gates.specs.Inner.Latches.{Slot, SlotIs, same_pair, Storable, DefinesLatch, Definable, Defines};
-
-use lists::index;
-
-// How many gates the composition has, or R9.17.
-#[derive(Clone, Copy)]
-pub enum SharedGates {
-    All(usize),
-    TooMany,
-}
-
-// How many latches the composition has, or R9.18.
-#[derive(Clone, Copy)]
-pub enum DefinedLatches {
-    Agreed(usize),
-    Differs,
-}
 
 // The composed literal of a joint one. The composed variables of the joint ones stand from the place `vars` on.
 pub fn translate(work: &[u64], vars: usize, literal: u64) -> u64
     requires { Translatable vars work.now literal }
     ensures { result ≡ translate (drop vars work.now) literal }
 {
-    2 * work[vars + index(literal / 2)] + literal % 2
+    2 * work[vars + (literal / 2) as usize] + literal % 2
 }
 
 // The key of a gate with two operands, whichever is first.
@@ -37,9 +21,10 @@ fn key_of(x: u64, y: u64) -> u64
     ensures { result ≡ key_of (unordered x y) }
 {
     if x <= y {
-        return x + 4294967296 * y;
+        x + 4294967296 * y
+    } else {
+        y + 4294967296 * x
     }
-    y + 4294967296 * x
 }
 
 // The key of the composed gate for the gate whose operands stand at a place.
@@ -61,16 +46,9 @@ fn number_of(work: &mut [u64], table: usize, count: usize, shared: usize, key: u
     key_table::find_or_add(&mut work[table..end], count + 1, shared, key)
 }
 
-fn greater(a: usize, b: usize) -> usize
-    ensures { result ≡ max a b }
-{
-    if a < b {
-        return b;
-    }
-    a
-}
-
-// Equal unordered operand pairs share a gate. The composed variables of the gates are stored behind those of the `known` joint variables.
+// How many gates the composition has, or none (R9.17): equal unordered operand pairs share a gate. The composed variables of the gates are stored behind
+// those of the `known` joint variables.
+// Kept (travel): this call and `define_latches` name different places of the one lent slice, and each is called once: a struct would be made for one call.
 pub fn share_gates(
     work: &mut [u64],
     operands: usize,
@@ -79,23 +57,21 @@ pub fn share_gates(
     known: usize,
     table: usize,
     leaves: usize,
-) -> SharedGates
+) -> Option<usize>
     requires { Sharable operands count vars known table leaves work.old }
     ensures { Shares operands count vars known table leaves work.old work.new result }
 {
     let mut shared = 0;
-    let mut i = 0;
-    while i < count {
+    for i in 0..count {
         let key = gate_key(work, operands + 2 * i, vars);
         let k = number_of(work, table, count, shared, key);
-        shared = greater(shared, k + 1);
+        shared = shared.max(k + 1);
         if leaves + shared > 2000000 {
-            return SharedGates::TooMany;
+            return None;
         }
         work[vars + known + i] = (leaves + 1 + k) as u64;
-        i += 1;
     }
-    SharedGates::All(shared)
+    Some(shared)
 }
 
 // The number of the composed latch whose variable is at a place: the first one has the variable `first`, and `seen` of them were met.
@@ -103,17 +79,14 @@ fn slot_of(work: &[u64], at: usize, first: usize, seen: usize) -> usize
     requires { Slot at first seen work.now }
     ensures { SlotIs at first seen work.now result }
 {
-    index(work[at]) - first
+    work[at] as usize - first
 }
 
 fn same_pair(work: &[u64], at: usize, x: u64, y: u64) -> bool
     requires { at + 1 < length work.now }
     ensures { result ≡ same_pair at x y work.now }
 {
-    if work[at] == x {
-        return work[at + 1] == y;
-    }
-    false
+    work[at] == x && work[at + 1] == y
 }
 
 // Whether the latch whose words stand at `at` is as its first definition, which stands at `place`; where there is none yet, it is stored there.
@@ -131,7 +104,7 @@ fn define_latch(work: &mut [u64], at: usize, vars: usize, place: usize, known: b
     true
 }
 
-// Whether all definitions of each latch agree. The first definition of each composed latch is stored from the place `definitions` on.
+// How many latches the composition has where all definitions of each agree, or none (R9.18). The first definition of each composed latch is stored from the place `definitions` on.
 pub fn define_latches(
     work: &mut [u64],
     words: usize,
@@ -140,21 +113,18 @@ pub fn define_latches(
     own: usize,
     definitions: usize,
     first: usize,
-) -> DefinedLatches
+) -> Option<usize>
     requires { Definable words count vars own definitions first work.old }
     ensures { Defines words count vars own definitions first work.old work.new result }
 {
     let mut seen = 0;
-    let mut j = 0;
-    while j < count {
+    for j in 0..count {
         let slot = slot_of(work, own + j, first, seen);
         let place = definitions + 2 * slot;
-        if define_latch(work, words + 2 * j, vars, place, slot < seen) {
-            seen = greater(seen, slot + 1);
-            j += 1;
-        } else {
-            return DefinedLatches::Differs;
+        if !define_latch(work, words + 2 * j, vars, place, slot < seen) {
+            return None;
         }
+        seen = seen.max(slot + 1);
     }
-    DefinedLatches::Agreed(seen)
+    Some(seen)
 }

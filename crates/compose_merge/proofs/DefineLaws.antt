@@ -1,4 +1,5 @@
 -- Laws of the fifth pass: the latches are defined, or 18 applies.
+use Rattle.std.specs.Prelude.{Option, Some, None}
 use Rattle.std.specs.Prelude.{Ok, Err}
 use Prim.Native.Nat.{ℕ, suc, ◌+◌, ◌-◌, ◌*◌, ◌≤◌, ◌<◌}
 use mathlib.Core.Bool.{Bool, true, false, cond}
@@ -26,8 +27,6 @@ use Rattle.compose_joint.specs.Inner.Joint.{total_of, latch_count, joint, list_o
 use Rattle.compose_joint.specs.Inner.Numbers.{joint_shared}
 use Rattle.compose_joint.proofs.AmountLaws.{joint-latches-length, latch_entries_length}
 use Rattle.compose_joint.proofs.VarsLaws.{joint-defined, defined_pairs}
-use Rattle.compose_gates.specs.declared.DefinedLatches.{DefinedLatches}
-use Rattle.compose_gates.specs.declared.DefinedLatches.TheVariants as answer
 use Rattle.compose_gates.specs.Inner.Latches.{InTurn, met_in, latch_from, defined_at, definitions_from, latch_variables, Definable, Defines}
 use Rattle.compose_gates.proofs.CallLaws.{entries_in_turn, entries_met, composed-words}
 use Rattle.compose_numbers.proofs.CallLaws.{each_word}
@@ -60,12 +59,12 @@ pairs-defined vars x (y ∷ own) (u ∷ v ∷ words) n e =
     ap (λ (j : ℕ). get_or vars j 0) s ∙ e (suc k) (omega arith)))
 
 -- what the answer says of the test
-differs_false : (b : Bool) (n : ℕ) → answer.Differs ≡ cond b (answer.Agreed n) answer.Differs → b ≡ false
+differs_false : (b : Bool) (n : ℕ) → None ≡ cond b (Some n) None → b ≡ false
 differs_false true n e = absurd (let z : ◌≡◌ {A = ℕ} 0 1 = cc in omega arith)
 differs_false false n e = refl
 
 -- and where there is a count
-agreed_true : (b : Bool) (n q : ℕ) → answer.Agreed q ≡ cond b (answer.Agreed n) answer.Differs → b ≡ true
+agreed_true : (b : Bool) (n q : ℕ) → Some q ≡ cond b (Some n) None → b ≡ true
 agreed_true true n q e = refl
 agreed_true false n q e = absurd (let z : ◌≡◌ {A = ℕ} 0 1 = cc in omega arith)
 
@@ -197,9 +196,9 @@ module _ (t : Totals) (at : Layout) (first next g : ℕ) (work : List ℕ) where
   pub definitions-can : OfSome (GatesShared t at first next g work) → Can
   definitions-can s = can s.m s.ws s.holds
 
-  module _ {work' : List ℕ} {r : DefinedLatches} (post : Defines at.latches t.latches at.vars own at.definitions first work work' r) where
+  module _ {work' : List ℕ} {r : Option ℕ} (post : Defines at.latches t.latches at.vars own at.definitions first work work' r) where
     -- 18
-    pub definitions_differ : r ≡ answer.Differs → (work'' : List ℕ) → Goes (GatesShared t at first next g work) at work work'' (Err refusal.LatchConflict)
+    pub definitions_differ : r ≡ None → (work'' : List ℕ) → Goes (GatesShared t at first next g work) at work work'' (Err refusal.LatchConflict)
     definitions_differ e work'' =
         record {
           goes = λ m ws k rest.
@@ -207,7 +206,7 @@ module _ (t : Totals) (at : Layout) (first next g : ℕ) (work : List ℕ) where
               rw (k.fits, f) refl;
         }
 
-    module _ (same : length work' ≡ length work) {q : ℕ} (e : r ≡ answer.Agreed q) where
+    module _ (same : length work' ≡ length work) {q : ℕ} (e : r ≡ Some q) where
       -- 18 does not apply
       agreed : agree ds ≡ true
       agreed = agreed_true (agree ds) (met_in first 0 (latch_variables own t.latches work)) q (sym e ∙ post.returns)

@@ -1,4 +1,5 @@
 -- Laws of the fourth pass: the gates are shared, or 17 applies.
+use Rattle.std.specs.Prelude.{Option, Some, None}
 use Rattle.std.specs.Prelude.{Ok, Err}
 use Prim.Native.Nat.{ℕ, suc, ◌+◌, ◌-◌, ◌*◌, ◌≤◌, ◌<◌}
 use mathlib.Core.Bool.{Bool, true, false, cond}
@@ -23,8 +24,6 @@ use Rattle.compose_joint.specs.Inner.Numbers.{leaf_vars, joint_shared}
 use Rattle.compose_joint.proofs.AmountLaws.{joint-operands-length, leaf_vars-length, leaf_vars-most, leaf_count-most}
 use Rattle.compose_joint.proofs.GateLaws.{joint-gates, joint-earlier, joint-vars-length}
 use Rattle.key_table.specs.Inner.Table.{Held}
-use Rattle.compose_gates.specs.declared.SharedGates.{SharedGates}
-use Rattle.compose_gates.specs.declared.SharedGates.TheVariants as answer
 use Rattle.compose_gates.specs.Inner.Linked.{table_end, Sharable, shared_in, Linked, Shares}
 use Rattle.compose_gather.specs.declared.Totals.{Totals}
 use Rattle.compose_layout.specs.declared.Layout.{Layout}
@@ -40,12 +39,12 @@ use Rattle.compose_merge.proofs.BaseLaws.{base_kept, Step}
 use Rattle.compose_merge.proofs.LeafLaws.{inputs_long, latches_long}
 
 -- what the answer says of the test
-many_false : (b : Bool) (n : ℕ) → answer.TooMany ≡ cond b (answer.All n) answer.TooMany → b ≡ false
+many_false : (b : Bool) (n : ℕ) → None ≡ cond b (Some n) None → b ≡ false
 many_false true n e = absurd (let z : ◌≡◌ {A = ℕ} 0 1 = cc in omega arith)
 many_false false n e = refl
 
 -- and how many gates there are
-all_true : (b : Bool) (n g : ℕ) → answer.All g ≡ cond b (answer.All n) answer.TooMany → (b ≡ true) × (g ≡ n)
+all_true : (b : Bool) (n g : ℕ) → Some g ≡ cond b (Some n) None → (b ≡ true) × (g ≡ n)
 all_true true n g e = let h : g ≡ n = cc in (refl, h)
 all_true false n g e = absurd (let z : ◌≡◌ {A = ℕ} 0 1 = cc in omega arith)
 
@@ -131,9 +130,9 @@ module _ (t : Totals) (at : Layout) (first next : ℕ) (work : List ℕ) where
   pub gates-can : OfSome (LeavesNumbered t at first next work) → Can
   gates-can s = can s.m s.ws s.holds
 
-  module _ {work' : List ℕ} {r : SharedGates} (post : Shares at.operands t.gates at.vars known at.gates (next - 1) work work' r) where
+  module _ {work' : List ℕ} {r : Option ℕ} (post : Shares at.operands t.gates at.vars known at.gates (next - 1) work work' r) where
     -- 17
-    pub gates_many : r ≡ answer.TooMany → (work'' : List ℕ) → Goes (LeavesNumbered t at first next work) at work work'' (Err refusal.GateLimit)
+    pub gates_many : r ≡ None → (work'' : List ℕ) → Goes (LeavesNumbered t at first next work) at work work'' (Err refusal.GateLimit)
     gates_many e work'' =
         record {
           goes = λ m ws k rest.
@@ -142,7 +141,7 @@ module _ (t : Totals) (at : Layout) (first next : ℕ) (work : List ℕ) where
               rw f refl;
         }
 
-    module _ (same : length work' ≡ length work) {g : ℕ} (e : r ≡ answer.All g) where
+    module _ (same : length work' ≡ length work) {g : ℕ} (e : r ≡ Some g) where
       -- 17 does not apply, and so many gates there are
       answered : (gates_fit (next - 1) (shared_in at.operands t.gates at.vars known (next - 1) work).gates ≡ true)
           × (g ≡ length (shared_in at.operands t.gates at.vars known (next - 1) work).gates)

@@ -6,7 +6,6 @@ ghost use Rattle.compose_merge.specs.Inner.Merged.{Mergeable, Goes};
 ghost use Rattle.compose_merge.specs.Inner.Stages.{Clearable, Clears, GatesShared};
 
 use aiger::Refusal;
-use compose_gates::{DefinedLatches, SharedGates};
 use compose_gather::Totals;
 use compose_layout::Layout;
 use witness_text::AagCounts;
@@ -45,7 +44,7 @@ fn define_and_collect(
     ensures { Goes (GatesShared totals at first next gates work.old) at work.old work.new result }
 {
     let own = at.vars + 1 + totals.inputs;
-    let DefinedLatches::Agreed(_) = compose_gates::define_latches(
+    let Some(_) = compose_gates::define_latches(
         work,
         at.latches,
         totals.latches,
@@ -116,7 +115,7 @@ pub fn merge(
         first_latch,
     );
     let known = 1 + totals.inputs + totals.latches;
-    let SharedGates::All(gates) = compose_gates::share_gates(
+    let Some(gates) = compose_gates::share_gates(
         work,
         at.operands,
         totals.gates,

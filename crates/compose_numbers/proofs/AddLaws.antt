@@ -1,13 +1,12 @@
 -- One literal added to a set of bits, and the loop over all: its invariant, and one turn.
-use Prim.Native.Nat.{ℕ, ◌+◌, ◌-◌, ◌*◌, ◌≤◌, ◌<◌}
+use Prim.Native.Nat.{ℕ, ◌+◌, ◌*◌, ◌≤◌, ◌<◌}
 use mathlib.Core.Bool.{Bool, true, false, not}
 use mathlib.Core.List.{List, [], ◌∷◌, ◌++◌}
 use mathlib.Core.Path.{◌≡◌, refl, sym, ap, ◌∙◌}
 use native.Mathlib.Nat.{add-zero}
 use native.Mathlib.Omega.{arith}
-use borrow.Rule.Slice.PartMut.{put_mid}
 use lib.ListN.{length, get_or, take, drop, length-map}
-use lib.Seq.{get_or-drop, take_all}
+use lib.Seq.{get_or-drop}
 use Rattle.lists.specs.Bits.{bit}
 use Rattle.lists.specs.Parts.{part, put}
 use Rattle.lists.specs.Sets.{holds, with_bit, set_of}
@@ -21,32 +20,7 @@ use Rattle.text_print.specs.Inner.Elements.{elements}
 use Rattle.text_print.proofs.ElementLaws.{elements-zeros, elements-more, elements_new, elements_old}
 use Rattle.compose_spec.specs.Sharing.{translate}
 use Rattle.compose_gates.specs.Inner.Linked.{literal_at}
-use Rattle.compose_numbers.specs.Inner.Marked.{literals_at, CanAddOne, AddedOne, CanAdd, Added}
-use Rattle.compose_numbers.proofs.StoreLaws.{given_back}
-
--- ---- one literal
-
-module _ (at vars bits end found : ℕ) (work : List ℕ) (pre : CanAddOne at vars bits end found work) where
-  -- `add` puts the composed literal into the part, and says whether it is new
-  module _ (literal l : ℕ) (a : literal ≡ literal_at at vars work) (b : l ≡ literal) (fresh : Bool) (t : List ℕ) (f : (fresh ≡ not (holds (part work bits end) l)) × (t ≡ with_bit (part work bits end) l)) where
-    added_is : l ≡ literal_at at vars work
-    added_is = b ∙ a
-
-    literal-words : put_mid bits (end - bits) work t ≡ put work bits (with_bit (part work bits end) (literal_at at vars work))
-    literal-words =
-        given_back work bits end pre.ordered pre.room t (ap length f.1 ∙ with_length (part work bits end) l)
-        ∙ ap (put work bits) (f.1 ∙ ap (with_bit (part work bits end)) added_is)
-
-    fresh_is : fresh ≡ not (holds (part work bits end) (literal_at at vars work))
-    fresh_is = f.0 ∙ ap (λ (k : ℕ). not (holds (part work bits end) k)) added_is
-
-    pub literal_new : fresh ≡ true → AddedOne at vars bits end found work (put_mid bits (end - bits) work t) (found + 1)
-    literal_new y = record { returns = ap (λ (b : Bool). found + bit b) (sym y ∙ fresh_is); words = literal-words }
-
-    pub literal_old : fresh ≡ false → AddedOne at vars bits end found work (put_mid bits (end - bits) work t) found
-    literal_old n = record { returns = sym (add-zero found) ∙ ap (λ (b : Bool). found + bit b) (sym n ∙ fresh_is); words = literal-words }
-
--- ---- all literals
+use Rattle.compose_numbers.specs.Inner.Marked.{literals_at, CanAddOne, AddedOne, CanAdd}
 
 -- i literals are added, `found` of them for the first time
 pub record Adding (from count vars bits words : ℕ) (work₀ work : List ℕ) (found i : ℕ) : Type 0 where
@@ -73,11 +47,6 @@ module _ (from count vars bits words : ℕ) (work₀ : List ℕ) (pre : CanAdd f
   ls_length = length-map (part work₀ from (from + count)) (translate (drop vars work₀)) ∙ part-size
 
   module _ (work : List ℕ) (found i : ℕ) (s : Adding from count vars bits words work₀ work found i) where
-    pub adding-done : count ≤ i → Added from count vars bits words work₀ work found
-    adding-done h =
-        let all : elements (part work bits (bits + words)) ≡ set_of ls = s.is ∙ ap set_of (take_all i ls (omega (arith, ls_length))) in
-        record { is = all; returns = s.counted ∙ ap length all; before = s.before; behind = s.behind }
-
     module _ (same : length work ≡ length work₀) (more : i < count) where
       abbrev l₀ : ℕ
       l₀ = get_or work₀ (from + i) 0

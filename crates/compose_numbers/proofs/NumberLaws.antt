@@ -1,47 +1,18 @@
 -- One leaf numbered, and the loop over all: its invariant, and one turn.
-use Prim.Native.Nat.{ℕ, suc, ◌+◌, ◌%◌, ◌≤◌, ◌<◌}
+use Prim.Native.Nat.{ℕ, suc, ◌+◌, ◌≤◌, ◌<◌}
 use mathlib.Core.Bool.{Bool, true, false, cond}
-use mathlib.Core.List.{List, [], ◌∷◌, ◌++◌, append_assoc, append-nil}
+use mathlib.Core.List.{List, [], ◌∷◌, ◌++◌, append_assoc}
 use mathlib.Core.Path.{◌≡◌, refl, sym, ap, ◌∙◌}
-use native.Mathlib.Numerals.{add-one}
 use native.Mathlib.Omega.{arith}
-use borrow.Author.Tests.{eq-eqb, ne_eqb}
 use lib.Dec.{eqb}
-use lib.ListN.{length, get_or, drop, set, length-set, length-append, drop_of_length-le}
+use lib.ListN.{length, get_or, drop, set, length-set, length-append}
 use Rattle.lists.specs.Bits.{odd}
 use Rattle.lists.specs.Parts.{part, put}
 use Rattle.lists.proofs.PartLaws.{part_length, part_at, put-none, put_one, put-length, put-before, put-inside, put-put}
 use Rattle.lists.proofs.RestLaws.{rest_more}
 use Rattle.compose_joint.specs.Inner.Numbers.{Numbers, with_number, slot, number_all}
-use Rattle.compose_numbers.specs.Inner.Marked.{Listed, ListedAt, CanNumberOne, Turn, turn, NumberedOne, CanNumber, numbers_in, Numbered}
+use Rattle.compose_numbers.specs.Inner.Marked.{CanNumberOne, Turn, turn, NumberedOne, CanNumber, numbers_in}
 use Rattle.compose_numbers.proofs.StoreLaws.{set-inside, set_before, put_own}
-
--- ---- one leaf
-
-module _ (from assigned before to next : ℕ) (work : List ℕ) (pre : CanNumberOne from assigned before to next work) where
-  abbrev x : ℕ
-  x = get_or work from 0
-
-  pub one_new : x % 2 ≡ 1 → NumberedOne from assigned before to next work (set work to next) (next + 1)
-  one_new h = rw (eq-eqb (x % 2) 1 h, add-one next)
-
-  module _ (h : x % 2 ≡ 1 → ⊥) where
-    e : odd x ≡ false
-    e = ne_eqb (x % 2) 1 h
-
-    pub one_listed : Listed assigned before x work
-    one_listed = record { above = (pre.known e).0; within = omega (arith, pre.known e, pre.second) }
-
-    module _ (place : ℕ) (l : ListedAt assigned before x work place) where
-      pub one_first : get_or work place 0 ≡ 0 → NumberedOne from assigned before to next work (set (set work place next) to next) (next + 1)
-      one_first z =
-          let t : eqb (get_or work (assigned + slot before x) 0) 0 ≡ true = eq-eqb (get_or work (assigned + slot before x) 0) 0 (ap (λ (i : ℕ). get_or work i 0) (sym l.is) ∙ z) in
-          rw (e, t, add-one next, l.is)
-
-      pub one_again : (get_or work place 0 ≡ 0 → ⊥) → NumberedOne from assigned before to next work (set work to (get_or work place 0)) next
-      one_again n =
-          let t : eqb (get_or work (assigned + slot before x) 0) 0 ≡ false = ne_eqb (get_or work (assigned + slot before x) 0) 0 (λ z. n (ap (λ (i : ℕ). get_or work i 0) l.is ∙ z)) in
-          rw (e, t, l.is)
 
 -- ---- all leaves
 
@@ -85,18 +56,6 @@ module _ (origins count assigned size before vars next₀ : ℕ) (work₀ : List
   xs_length = omega (arith, part_length work₀ origins (origins + count) (omega (arith, pre.first, pre.second, pre.third)))
 
   module _ (work : List ℕ) (next i : ℕ) (s : Numbering origins count assigned size before vars next₀ work₀ work next i) where
-    pub numbering-done : count ≤ i → Numbered origins count assigned size before vars next₀ work₀ work next
-    numbering-done h =
-        let end : with_all s.numbers (number_all before next [] s.known) ≡ numbers_in origins count assigned size before next₀ work₀ =
-        rw (drop_of_length-le xs {i = i} (omega (arith, xs_length))) at s.rest in
-        record {
-          returns = ap (λ (n : Numbers). n.next) end;
-          words =
-              s.is
-              ∙ ap (λ (t : List ℕ). put (put work₀ assigned t) vars s.numbers) (ap (λ (n : Numbers). n.assigned) end)
-              ∙ ap (put (put work₀ assigned (numbers_in origins count assigned size before next₀ work₀).assigned) vars) (sym (append-nil s.numbers) ∙ ap (λ (n : Numbers). n.numbers) end);
-        }
-
     module _ (same : length work ≡ length work₀) (more : i < count) where
       abbrev x₀ : ℕ
       x₀ = get_or work₀ (origins + i) 0

@@ -6,9 +6,8 @@ use native.Mathlib.Omega.{arith}
 use borrow.Rule.Slice.PartMut.{put_mid}
 use lib.ListN.{length, take, drop, set, length-set, take-append-drop, drop_of_length-le}
 use lib.Seq.{length-take-le, set-append_left, take-set-lt, drop-set-lt}
-use Rattle.lists.specs.Parts.{part, put, front, zeros}
+use Rattle.lists.specs.Parts.{part, put, front}
 use Rattle.lists.proofs.PartLaws.{set_append_right, part_length, part-rest, put_back}
-use Rattle.lists.proofs.ZeroLaws.{zeros-length}
 
 module _ (o : List ℕ) (at : ℕ) (c : List ℕ) (h : at ≤ length o) where
   -- a word of the part
@@ -36,9 +35,3 @@ module _ (o : List ℕ) (at e : ℕ) (h : at ≤ e) (k : e ≤ length o) where
   given_back c same =
       let whole : c ≡ front (part o at e) c = sym (rw (drop_of_length-le (part o at e) {i = length c} (omega (arith, same))) (append-nil c)) in
       ap (put_mid at (e - at) o) whole ∙ put_back o at c (omega arith) e (omega (arith, same, part_length o at e k)) k
-
-  -- given back all 0
-  pub cleared : (c : List ℕ) → c ≡ zeros (length (part o at e)) → put_mid at (e - at) o c ≡ put o at (zeros (e - at))
-  cleared c is =
-      given_back c (ap length is ∙ zeros-length (length (part o at e)))
-      ∙ ap (put o at) (is ∙ ap zeros (part_length o at e k))

@@ -5,14 +5,12 @@ ghost use Rattle.std.specs.Prelude.{◌≡◌, ◌-◌, ◌≤◌, length};
 ghost use Rattle.lists.specs.Parts.{put, zeros};
 ghost use Rattle.compose_numbers.specs.Inner.Marked.{Listed, ListedAt, CanNumberOne, NumberedOne, CanNumber, Numbered, CanAddOne, AddedOne, CanAdd, Added};
 
-use lists::index;
-
 // The place of the assigned number for an origin word.
 fn known_place(work: &[u64], assigned: usize, before: usize, x: u64) -> usize
     requires { Listed assigned before x work.now }
     ensures { ListedAt assigned before x work.now result }
 {
-    assigned + (index(x / 2) - before - 1)
+    assigned + ((x / 2) as usize - before - 1)
 }
 
 // Stores the number of the leaf whose origin word is at a place, and gives the next number.
@@ -58,10 +56,8 @@ pub fn number_leaves(
     ensures { Numbered origins count assigned size before vars next work.old work.new result }
 {
     let mut after = next;
-    let mut i = 0;
-    while i < count {
+    for i in 0..count {
         after = number_leaf(work, origins + i, assigned, before, vars + i, after);
-        i += 1;
     }
     after
 }
@@ -79,10 +75,7 @@ fn add_literal(
     ensures { AddedOne at vars bits end found work.old work.new result }
 {
     let literal = compose_gates::translate(work, vars, work[at]);
-    if lists::add(&mut work[bits..end], index(literal)) {
-        return found + 1;
-    }
-    found
+    found + usize::from(lists::add(&mut work[bits..end], literal as usize))
 }
 
 // Collects composed literals in the set of bits at place `bits`, which is empty at first, and counts them.
@@ -99,10 +92,8 @@ pub fn add_literals(
 {
     let end = bits + words;
     let mut found = 0;
-    let mut i = 0;
-    while i < count {
+    for i in 0..count {
         found = add_literal(work, from + i, vars, bits, end, found);
-        i += 1;
     }
     found
 }
@@ -112,5 +103,5 @@ pub fn regions_clear(work: &mut [u64], from: usize, to: usize)
     requires { (from ≤ to) × (to ≤ length work.old) }
     ensures { work.new ≡ put work.old from (zeros (to - from)) }
 {
-    lists::clear(&mut work[from..to]);
+    work[from..to].fill(0);
 }

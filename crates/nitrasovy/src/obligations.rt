@@ -3,7 +3,7 @@ ghost use Rattle.std.specs.Prelude.{◌≡◌};
 ghost use Rattle.aiger.specs.Refusals.{answered};
 ghost use Rattle.model.specs.RecordWords.{record_in};
 ghost use Rattle.obligation_spec.specs.Calls.{asked_of};
-ghost use Rattle.obligation_check.specs.Questions.{asked_in};
+ghost use Rattle.obligation_check.specs.Inner.Questions.{asked_in};
 ghost use Rattle.obligation.specs.Promise.{buffers_of};
 ghost use Rattle.nitrasovy.specs.Inner.FlatEnums.{flat_sizes};
 ghost use Rattle.nitrasovy.specs.FlatObligations.{RelationFlat, TransducerFlat, TerminalFlat};
@@ -62,13 +62,13 @@ fn question<'a>(
 
 // A row with claimed targets.
 #[unsafe(no_mangle)]
-pub extern "C" fn nit_relation_row<'a>(
-    model: &'a [u64],
-    gates: &'a [u64],
-    relevant: &'a [u64],
+pub extern "C" fn nit_relation_row(
+    model: &[u64],
+    gates: &[u64],
+    relevant: &[u64],
     source: u64,
-    predicate_pairs: &'a [u64],
-    predicate_literals: &'a [u32],
+    predicate_pairs: &[u64],
+    predicate_literals: &[u32],
     targets: &[u64],
     work: &mut [u64],
     pairs: &mut [u64],
@@ -88,13 +88,13 @@ pub extern "C" fn nit_relation_row<'a>(
 
 // A row with claimed outcomes.
 #[unsafe(no_mangle)]
-pub extern "C" fn nit_transducer_row<'a>(
-    model: &'a [u64],
-    gates: &'a [u64],
-    relevant: &'a [u64],
+pub extern "C" fn nit_transducer_row(
+    model: &[u64],
+    gates: &[u64],
+    relevant: &[u64],
     source: u64,
-    predicate_pairs: &'a [u64],
-    predicate_literals: &'a [u32],
+    predicate_pairs: &[u64],
+    predicate_literals: &[u32],
     observed: &[u64],
     outcomes: &[u64],
     work: &mut [u64],
@@ -119,12 +119,12 @@ pub extern "C" fn nit_transducer_row<'a>(
 
 // A terminal list.
 #[unsafe(no_mangle)]
-pub extern "C" fn nit_terminal<'a>(
-    model: &'a [u64],
-    gates: &'a [u64],
-    relevant: &'a [u64],
-    predicate_pairs: &'a [u64],
-    predicate_literals: &'a [u32],
+pub extern "C" fn nit_terminal(
+    model: &[u64],
+    gates: &[u64],
+    relevant: &[u64],
+    predicate_pairs: &[u64],
+    predicate_literals: &[u32],
     bad_output: u64,
     states: &[u64],
     work: &mut [u64],

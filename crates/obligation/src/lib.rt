@@ -3,7 +3,7 @@
 
 ghost use Rattle.std.specs.Prelude.{◌≡◌};
 ghost use Rattle.obligation_spec.specs.Calls.{circuit, asked_of};
-ghost use Rattle.obligation_check.specs.Questions.{asked_in};
+ghost use Rattle.obligation_check.specs.Inner.Questions.{asked_in};
 ghost use Rattle.obligation.specs.Promise.{buffers_of, Promised, MakesRelation};
 ghost use Rattle.obligation.specs.Inner.Appended.{Asks, ClaimsOf, MakesAll};
 ghost use Rattle.obligation.specs.Inner.ByClaim.{claim_test, claim_clauses};
@@ -120,13 +120,13 @@ pub fn make(
 }
 
 // The clauses of a row: every input that meets the predicate leads from the source to a claimed target.
-pub fn relation_row_completeness_cnf<'a>(
-    model: &'a AigerTransition,
-    gates: &'a [u64],
-    relevant: &'a [u64],
+pub fn relation_row_completeness_cnf(
+    model: &AigerTransition,
+    gates: &[u64],
+    relevant: &[u64],
     source: u64,
-    predicate_pairs: &'a [u64],
-    predicate_literals: &'a [u32],
+    predicate_pairs: &[u64],
+    predicate_literals: &[u32],
     targets: &[u64],
     work: &mut [u64],
     pairs: &mut [u64],

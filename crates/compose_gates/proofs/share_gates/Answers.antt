@@ -1,7 +1,7 @@
 use mathlib.Core.Path.{refl}
 use lib.ListN.{length-set}
 use borrow.Author.Rules.{rules}
-use Rattle.compose_gates.proofs.TurnLaws.{sharing-none, sharing-done, turn_keyable, turn-findable, turn_many, turn_more}
+use Rattle.compose_gates.proofs.TurnLaws.{sharing-none, turn_keyable, turn-findable, turn_many, turn_more}
 use Rattle.compose_gates.proofs.share_gates.Goals as goal
 
 pub loop-i-init : goal.loop-i-init
@@ -18,6 +18,3 @@ returns-then-leaves-shared-gt2000000 c = search turn_many
 
 pub loop-i-preserved : goal.loop-i-preserved
 loop-i-preserved c = (simp length-set (search rules), search turn_more)
-
-pub returns : goal.returns
-returns c = search sharing-done

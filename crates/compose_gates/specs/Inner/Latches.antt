@@ -1,5 +1,5 @@
 -- For the contracts of the composer's inner functions: definitions of latches in lent words.
-use Rattle.std.specs.Prelude.{ℕ, zero, suc, ◌+◌, ◌-◌, ◌*◌, ◌≤◌, ◌<◌, max, Bool, true, false, cond, ◌&&◌, List, [], ◌∷◌, ◌≡◌, eqb, length, get_or, drop}
+use Rattle.std.specs.Prelude.{ℕ, zero, suc, ◌+◌, ◌-◌, ◌*◌, ◌≤◌, ◌<◌, max, Bool, true, false, cond, ◌&&◌, List, [], ◌∷◌, ◌≡◌, eqb, length, get_or, drop, Option, Some, None}
 use Rattle.std.proofs.Math.Option.{none}
 use Rattle.lists.specs.Parts.{part, put}
 use Rattle.lists.specs.Tests.{Each}
@@ -7,8 +7,6 @@ use Rattle.lists.specs.Words.{pairs_of}
 use Rattle.aiger.specs.Gates.{variable}
 use Rattle.witness_read.specs.Sections.{NamedLatch}
 use Rattle.compose_spec.specs.Composing.{Defined, defined_from, definition_of, agree}
-use Rattle.compose_gates.specs.declared.DefinedLatches.{DefinedLatches}
-use Rattle.compose_gates.specs.declared.DefinedLatches.TheVariants as answer
 use Rattle.compose_gates.specs.Inner.Linked.{TwoLiterals, literal_at}
 
 -- ---- numbers in the order of first appearance
@@ -82,11 +80,11 @@ pub record Definable (words count vars own definitions first : ℕ) (work : List
   pub turns : InTurn first 0 (latch_variables own count work)
 
 -- how many latches are composed, or 18
-abbrev pub defined_answer : ℕ → List Defined → DefinedLatches
-defined_answer n ds = cond (agree ds) (answer.Agreed n) answer.Differs
+abbrev pub defined_answer : ℕ → List Defined → Option ℕ
+defined_answer n ds = cond (agree ds) (Some n) None
 
 -- The promise: the answer, and the words where 18 does not apply.
-pub record Defines (words count vars own definitions first : ℕ) (work work' : List ℕ) (r : DefinedLatches) : Type 0 where
+pub record Defines (words count vars own definitions first : ℕ) (work work' : List ℕ) (r : Option ℕ) : Type 0 where
   pub returns : r ≡ defined_answer (met_in first 0 (latch_variables own count work)) (defined_at words count vars own work)
   pub stored : agree (defined_at words count vars own work) ≡ true
       → work' ≡ put work definitions (definitions_from first (met_in first 0 (latch_variables own count work)) (defined_at words count vars own work))

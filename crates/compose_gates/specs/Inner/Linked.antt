@@ -1,5 +1,5 @@
 -- For the contracts of the composer's inner functions: gates shared in lent words.
-use Rattle.std.specs.Prelude.{ℕ, suc, ◌+◌, ◌*◌, ◌≤◌, ◌<◌, true, cond, List, [], map, ◌≡◌, length, get_or, take, drop}
+use Rattle.std.specs.Prelude.{ℕ, suc, ◌+◌, ◌*◌, ◌≤◌, ◌<◌, true, cond, List, [], map, ◌≡◌, length, get_or, take, drop, Option, Some, None}
 use Rattle.lists.specs.Parts.{part, zeros}
 use Rattle.lists.specs.Tests.{Each}
 use Rattle.lists.specs.Words.{pairs_of}
@@ -9,8 +9,6 @@ use Rattle.key_table.specs.Inner.Table.{Held, Holding, Finds}
 use Rattle.compose_spec.specs.Sharing.{translate, unordered, Shared, share_gates}
 use Rattle.compose_spec.specs.Inner.Keys.{key_of}
 use Rattle.compose_spec.specs.Composing.{gates_fit}
-use Rattle.compose_gates.specs.declared.SharedGates.{SharedGates}
-use Rattle.compose_gates.specs.declared.SharedGates.TheVariants as answer
 
 -- ---- one gate
 
@@ -78,8 +76,8 @@ shared_in operands count vars known leaves work =
     share_gates (suc leaves) (gates_at operands count work) (record { vars = part work vars (vars + known); gates = [] })
 
 -- how many composed gates there are, or 17
-abbrev pub shared_answer : ℕ → Shared → SharedGates
-shared_answer leaves s = cond (gates_fit leaves s.gates) (answer.All (length s.gates)) answer.TooMany
+abbrev pub shared_answer : ℕ → Shared → Option ℕ
+shared_answer leaves s = cond (gates_fit leaves s.gates) (Some (length s.gates)) None
 
 -- the words after the gates are shared: behind the known variables those of the gates, and the table with the gates
 pub record Linked (count vars known table : ℕ) (work : List ℕ) (s : Shared) (work' : List ℕ) : Type 0 where
@@ -89,6 +87,6 @@ pub record Linked (count vars known table : ℕ) (work : List ℕ) (s : Shared) 
   pub behind : drop (table_end table count) work' ≡ drop (table_end table count) work
 
 -- The promise: the answer, and the words where 17 does not apply.
-pub record Shares (operands count vars known table leaves : ℕ) (work work' : List ℕ) (r : SharedGates) : Type 0 where
+pub record Shares (operands count vars known table leaves : ℕ) (work work' : List ℕ) (r : Option ℕ) : Type 0 where
   pub returns : r ≡ shared_answer leaves (shared_in operands count vars known leaves work)
   pub words : gates_fit leaves (shared_in operands count vars known leaves work).gates ≡ true → Linked count vars known table work (shared_in operands count vars known leaves work) work'

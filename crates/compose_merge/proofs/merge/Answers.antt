@@ -65,7 +65,7 @@ define_and_collect-requires c =
     let cleared = step-some (clear_step c.clear_regions.auto.work c.clear_regions.ensures) c.requires in
     let numbered = step-some (inputs-step _ _ _ _ c.number_leaves-first_latch.auto.work c.number_leaves-first_latch.ensures) cleared in
     let leaves = step-some (latches-step _ _ _ _ _ c.number_leaves-next.auto.work c.number_leaves-next.ensures) numbered in
-    step-some (gates-step _ _ _ _ _ c.share_gates.ensures c.share_gates.auto.work c.in-All.is) leaves
+    step-some (gates-step _ _ _ _ _ c.share_gates.ensures c.share_gates.auto.work c.in-Some.is) leaves
 
 pub shape_of-work : goal.shape_of-work
 shape_of-work c = omega (arith, c.define_and_collect.auto.work, c.share_gates.auto.work, c.number_leaves-next.auto.work, c.number_leaves-first_latch.auto.work, c.clear_regions.auto.work)
@@ -75,5 +75,5 @@ returns c =
     step-goes (clear_step c.clear_regions.auto.work c.clear_regions.ensures)
     (step-goes (inputs-step _ _ _ _ c.number_leaves-first_latch.auto.work c.number_leaves-first_latch.ensures)
     (step-goes (latches-step _ _ _ _ _ c.number_leaves-next.auto.work c.number_leaves-next.ensures)
-    (step-goes (gates-step _ _ _ _ _ c.share_gates.ensures c.share_gates.auto.work c.in-All.is)
+    (step-goes (gates-step _ _ _ _ _ c.share_gates.ensures c.share_gates.auto.work c.in-Some.is)
     c.define_and_collect.ensures)))

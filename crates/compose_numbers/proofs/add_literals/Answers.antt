@@ -1,6 +1,6 @@
 use mathlib.Core.Path.{refl}
 use borrow.Author.Rules.{rules}
-use Rattle.compose_numbers.proofs.AddLaws.{adding-none, adding-done, turn-addable, turn_more}
+use Rattle.compose_numbers.proofs.AddLaws.{adding-none, turn-addable, turn_more}
 use Rattle.compose_numbers.proofs.add_literals.Goals as goal
 
 pub loop-i-init : goal.loop-i-init
@@ -11,6 +11,3 @@ add_literal-found-requires c = search turn-addable
 
 pub loop-i-preserved : goal.loop-i-preserved
 loop-i-preserved c = (search rules, search turn_more)
-
-pub returns : goal.returns
-returns c = search adding-done

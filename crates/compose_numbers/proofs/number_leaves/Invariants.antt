@@ -1,4 +1,3 @@
-use Prim.Native.Nat.{◌-◌}
 use mathlib.Core.Path.{◌≡◌}
 use lib.ListN.{length}
 use Rattle.compose_numbers.proofs.NumberLaws.{Numbering}
@@ -6,6 +5,3 @@ use Rattle.compose_numbers.proofs.number_leaves.Given as goal
 
 abbrev pub invariant-loop-i : goal.invariant-loop-i
 invariant-loop-i l = (length l.work ≡ length l.initial.work) × Numbering l.origins l.count l.assigned l.size l.before l.vars l.next l.initial.work l.work l.after l.i
-
-abbrev pub decreases-loop-i : goal.decreases-loop-i
-decreases-loop-i l = l.count - l.i
