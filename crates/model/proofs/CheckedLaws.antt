@@ -9,7 +9,7 @@ use lib.Dec.{leb, ltb}
 use lib.ListN.{length, take}
 use mathlib.Core.Logic.{⊎_elim}
 use borrow.Author.Tests.{le-ltb, lt-ltb, lt-leb, le-leb, leb-true}
-use Rattle.lists.specs.Answer.{Answer, got, unless}
+use Rattle.lists.specs.Answer.{got, unless}
 use Rattle.lists.specs.Parts.{zeros}
 use Rattle.lists.specs.Tests.{all, every}
 use Rattle.lists.specs.Words.{triples_of}
@@ -22,12 +22,10 @@ use Rattle.aiger.specs.declared.Refusal.TheVariants.{Room, Definition}
 use Rattle.aiger.specs.Gates.{gate_from}
 use Rattle.aiger.specs.Defined.{literal, defined}
 use Rattle.model.specs.declared.AigerTransition.{AigerTransition}
-use Rattle.model.specs.declared.AigerLatch.{AigerLatch}
-use Rattle.model.specs.declared.Counts.{Counts}
 use Rattle.model.specs.Circuit.{Circuit, circuit_of, current_of, next_of, leaves_of, nexts_of}
 use Rattle.model.specs.Limits.{counted, well_defined}
 use Rattle.model.specs.Checked.{checked, judged, counts_of}
-use Rattle.model.specs.Inner.Marking.{leaves_from, literals_from, leaves_of_record, literals_of_record, AddsLeaves, AddsGates, Checkable, Marking, limited}
+use Rattle.model.specs.Inner.Marking.{leaves_of_record, literals_of_record, AddsLeaves, AddsGates, Checkable, Marking, limited}
 use Rattle.model.proofs.MarkingLaws.{marking-none, adds-both, adds_lost, gates_lost}
 
 -- ---- the definitions of a record

@@ -6,7 +6,6 @@ use mathlib.Core.Path.{◌≡◌, refl, sym, ap, ◌∙◌}
 use native.Mathlib.Omega.{arith}
 use lib.ListN.{length, get_or, take, drop, take-append-drop}
 use lib.Seq.{take_all, take-take}
-use borrow.Author.Tests.{not-true, not-false}
 use Rattle.lists.proofs.RestLaws.{take_next}
 use Rattle.lists.specs.Parts.{zeros}
 use Rattle.lists.specs.Tests.{all, every}

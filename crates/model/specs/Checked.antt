@@ -1,6 +1,6 @@
 -- What the validation of a model record answers (R5.1; refusals R9.7, R9.11).
 use Rattle.std.specs.Prelude.{ℕ, ◌*◌, List, Result, ◌≡◌, leb, ltb, length}
-use Rattle.lists.specs.Answer.{Answer, got, refused, unless}
+use Rattle.lists.specs.Answer.{Answer, got, unless}
 use Rattle.lists.specs.Parts.{zeros}
 use Rattle.aiger.specs.declared.Refusal.{Refusal}
 use Rattle.aiger.specs.Refusals.{answered_as}

@@ -196,7 +196,11 @@ impl<'a> LentModel<'a> {
         let inputs = lists::first(self.inputs, counts.inputs);
         let currents = self.currents();
         define_all(marks, counts.max_variable, inputs)
-            && define_all(marks, counts.max_variable, lists::first(&currents, counts.latches))
+            && define_all(
+                marks,
+                counts.max_variable,
+                lists::first(&currents, counts.latches),
+            )
     }
 
     // Whether no next literal and no output is above 2M + 1.
@@ -206,7 +210,10 @@ impl<'a> LentModel<'a> {
         let counts = self.counts;
         let nexts = self.nexts();
         within(lists::first(&nexts, counts.latches), counts.max_variable)
-            && within(lists::first(self.outputs, counts.outputs), counts.max_variable)
+            && within(
+                lists::first(self.outputs, counts.outputs),
+                counts.max_variable,
+            )
     }
 
     // Whether the record is within the limits, with so many gates beside it.

@@ -1,8 +1,7 @@
 -- Laws for the code of the step: words that hold values, loaded from bits, computed gate by gate, and packed into words again.
-use Prim.Native.Nat.{ℕ, zero, suc, ◌+◌, ◌*◌, ◌-◌, ◌/◌, ◌%◌, ◌^◌, ◌≤◌, ◌<◌, min}
+use Prim.Native.Nat.{ℕ, zero, suc, ◌+◌, ◌*◌, ◌-◌, ◌/◌, ◌%◌, ◌^◌, ◌≤◌, ◌<◌}
 use mathlib.Core.Bool.{Bool, true, false, ◌&&◌, cond}
 use mathlib.Core.List.{List, [], ◌∷◌, ◌++◌, map}
-use mathlib.Core.Logic.{⊎_elim}
 use mathlib.Core.Path.{◌≡◌, refl, sym, ap, ◌∙◌}
 use native.Mathlib.Omega.{arith}
 use lib.Dec.{eqb}
@@ -14,7 +13,7 @@ use Rattle.lists.specs.Parts.{part}
 use Rattle.lists.specs.Tests.{Each}
 use Rattle.lists.specs.Words.{triples_of}
 use Rattle.lists.proofs.BitLaws.{odd-bit, bit_lt, odd-xor, product_odd, bits-length, bits_append, packed_under}
-use Rattle.lists.proofs.BoolLaws.{below_or, xor-turns}
+use Rattle.lists.proofs.BoolLaws.{xor-turns}
 use Rattle.lists.proofs.MapLaws.{map-take, map-drop, each_maps}
 use Rattle.lists.proofs.PartLaws.{part-drop}
 use Rattle.lists.proofs.RestLaws.{rest_more, take_next}

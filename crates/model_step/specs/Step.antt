@@ -1,6 +1,6 @@
 -- The step (R6; refusals R9.7, R9.11, R9.12).
 use Rattle.std.specs.Prelude.{ℕ, ◌^◌, Bool, false, cond, ◌&&◌, List, [], ◌∷◌, map, eqb, ltb, length, take, drop}
-use Rattle.lists.specs.Answer.{Answer, got, refused, unless, and_then}
+use Rattle.lists.specs.Answer.{Answer, got, unless, and_then}
 use Rattle.lists.specs.Bits.{bits, packed}
 use Rattle.aiger.specs.declared.Gate.{Gate}
 use Rattle.aiger.specs.Gates.{variable, Valuation, value}

@@ -86,18 +86,55 @@ fn make_accepted(
         Claim::Relation { source, targets } => {
             let count = obligation_claims::state_keys(nexts, &mut keys);
             let keys = lists::first(&keys, count);
-            making::make(question, Plan { currents, source, keys, claims: Claims::States(targets), last: 1 }, pairs, literals)
+            making::make(
+                question,
+                Plan {
+                    currents,
+                    source,
+                    keys,
+                    claims: Claims::States(targets),
+                    last: 1,
+                },
+                pairs,
+                literals,
+            )
         }
-        Claim::Transducer { source, observed, outcomes } => {
+        Claim::Transducer {
+            source,
+            observed,
+            outcomes,
+        } => {
             let count = obligation_claims::outcome_keys(nexts, outputs, observed, &mut keys);
             let keys = lists::first(&keys, count);
-            making::make(question, Plan { currents, source, keys, claims: Claims::Outcomes(outcomes), last: 1 }, pairs, literals)
+            making::make(
+                question,
+                Plan {
+                    currents,
+                    source,
+                    keys,
+                    claims: Claims::Outcomes(outcomes),
+                    last: 1,
+                },
+                pairs,
+                literals,
+            )
         }
         Claim::Terminal { bad, states } => {
             let count = obligation_claims::state_keys(currents, &mut keys);
             let keys = lists::first(&keys, count);
             let last = cnf::opposite_of(lists::word(outputs, bad as usize));
-            making::make(question, Plan { currents: lists::first(&now, 0), source: 0, keys, claims: Claims::States(states), last }, pairs, literals)
+            making::make(
+                question,
+                Plan {
+                    currents: lists::first(&now, 0),
+                    source: 0,
+                    keys,
+                    claims: Claims::States(states),
+                    last,
+                },
+                pairs,
+                literals,
+            )
         }
     }
 }

@@ -37,7 +37,13 @@ fn append_front(
         clauses: 0,
         literals: 0,
     };
-    let sources = obligation_gates::append_sources(plan.currents, plan.source, pairs, literals, start);
+    let sources = obligation_gates::append_sources(
+        plan.currents,
+        plan.source,
+        pairs,
+        literals,
+        start,
+    );
     let limited = obligation_gates::append_predicate(
         lists::first(model.inputs, model.counts.inputs),
         question.relevant,

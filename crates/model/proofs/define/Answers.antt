@@ -8,7 +8,7 @@ use Rattle.model.proofs.define.Goals.{then-literal-eq0-via-then-literal-eq0, the
 pub returns-then-literal-eq0 : goal.returns-then-literal-eq0
 returns-then-literal-eq0 c =
     undefining _ _ _ (λ d. elim c.then-literal-eq0.branch [
-      then-literal-eq0-via-then-literal-eq0 w ↦ omega (arith, d.some)
+      | then-literal-eq0-via-then-literal-eq0 w ↦ omega (arith, d.some)
       | then-literal-eq0-via-else-literal-eq0+then-literal-ne0 w ↦ omega (arith, d.even)
       | then-literal-eq0-via-else-literal-eq0+else-literal-ne0+then-most-variable w ↦ omega (arith, d.low)
     ])

@@ -1,5 +1,5 @@
 use Prim.Native.Nat.{◌+◌}
-use mathlib.Core.List.{List, ◌++◌}
+use mathlib.Core.List.{◌++◌}
 use mathlib.Core.Path.{◌≡◌, sym, ◌∙◌}
 use native.Mathlib.Omega.{arith}
 use lib.ListN.{length, drop}
@@ -33,7 +33,7 @@ returns-then-not-fits g c =
     let p = valid g (goal.at.returns-then-not-fits g c).In_ok-validate in
     let n : length c.args.model.now.latches ≡ 8 = search rules in
     elim c.then-not-fits.branch [
-      then-not-fits-via-then-not-fits w ↦ (step-state p n c.args.state c.args.input _ c.fits.ensures (search rules), c.validate.ensures.clears)
+      | then-not-fits-via-then-not-fits w ↦ (step-state p n c.args.state c.args.input _ c.fits.ensures (search rules), c.validate.ensures.clears)
       | then-not-fits-via-else-not-fits+then-not-fits-2 w ↦ (
         step-word p n c.args.state c.args.input _ c.fits.ensures (search rules) _ c.first-inputs.ensures _ w.fits-else-not-fits.ensures (search rules),
         c.validate.ensures.clears,

@@ -1,5 +1,4 @@
 use native.Mathlib.Omega.{arith}
-use borrow.Author.Rules.{rules}
 use Rattle.model_step.proofs.StepLaws.{running-inside, running_more}
 use Rattle.model_step.proofs.run_gates.Goals as goal
 

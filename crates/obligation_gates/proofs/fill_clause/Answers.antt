@@ -14,10 +14,10 @@ loop-word-preserved c =
     let k = c.loop-word.invariant in
     let h : c.loop-word.word-index < length c.args.clause.now = omega arith in
     elim c.if-add.branch [
-      then-add w ↦ rw (w.list-is, w.n-is)
-        (keeping-more c.args.inputs.now c.args.relevant.now c.args.clause.now _ _ _ c.loop-word.word-index c.requires.0 k h _ _ c.add.ensures (omega (arith, k.few, c.requires.1)) _ w.predicate_literal.ensures _ w.word.ensures)
+      | then-add w ↦ rw (w.list-is, w.n-is)
+          (keeping-more c.args.inputs.now c.args.relevant.now c.args.clause.now _ _ _ c.loop-word.word-index c.requires.0 k h _ _ c.add.ensures (omega (arith, k.few, c.requires.1)) _ w.predicate_literal.ensures _ w.word.ensures)
       | else-add w ↦ rw (w.list-is, w.n-is)
-        (keeping_seen c.args.inputs.now c.args.relevant.now c.args.clause.now _ _ _ c.loop-word.word-index c.requires.0 k h _ _ c.add.ensures (search rules))
+          (keeping_seen c.args.inputs.now c.args.relevant.now c.args.clause.now _ _ _ c.loop-word.word-index c.requires.0 k h _ _ c.add.ensures (search rules))
     ]
 
 pub returns : goal.returns

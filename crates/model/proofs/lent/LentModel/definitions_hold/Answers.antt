@@ -8,8 +8,10 @@ use Rattle.model.proofs.lent.LentModel.definitions_hold.Goals.{then-define_leave
 
 pub returns : goal.returns
 returns g c =
-    let clear : c.fill.new.self ≡ zeros (length c.args.marks.now) = search rules in
-    (elim c.if-define_leaves.branch [
-      then-define_leaves w ↦ w.defined-is ∙ definitions-say _ _ _ _ c.requires _ _ _ c.define_leaves.ensures w.if-define_leaves.true _ _ _ w.define_gates-defined.ensures
-      | else-define_leaves w ↦ w.defined-is ∙ definitions_lost _ _ _ _ c.requires _ _ _ c.define_leaves.ensures w.if-define_leaves.false _
-    ], clear)
+    let clear : c.fill.new.self ≡ zeros (length c.args.marks.now) = search rules in (
+      elim c.if-define_leaves.branch [
+        | then-define_leaves w ↦ w.defined-is ∙ definitions-say _ _ _ _ c.requires _ _ _ c.define_leaves.ensures w.if-define_leaves.true _ _ _ w.define_gates-defined.ensures
+        | else-define_leaves w ↦ w.defined-is ∙ definitions_lost _ _ _ _ c.requires _ _ _ c.define_leaves.ensures w.if-define_leaves.false _
+      ],
+      clear,
+    )

@@ -9,14 +9,14 @@ use Rattle.model.proofs.lent.LentModel.limits_hold.Goals.{then-not-hold-via-then
 pub returns-then-not-hold : goal.returns-then-not-hold
 returns-then-not-hold c =
     limited_fails (lent_record c.args.self.now) c.args.gates (λ f. elim c.then-not-hold.branch [
-      then-not-hold-via-then-not-hold w ↦ let e = f.counts in search rules
+      | then-not-hold-via-then-not-hold w ↦ let e = f.counts in search rules
       | then-not-hold-via-else-not-hold+then-gates-counts w ↦ omega (arith, f.gates)
     ])
 
 pub returns-then-self-counts : goal.returns-then-self-counts
 returns-then-self-counts c =
     limited_fails (lent_record c.args.self.now) c.args.gates (λ f. elim c.then-self-counts.branch [
-      then-self-counts-via-then-self-counts w ↦ omega (arith, f.inputs)
+      | then-self-counts-via-then-self-counts w ↦ omega (arith, f.inputs)
       | then-self-counts-via-else-self-counts+then-self-counts-2 w ↦ omega (arith, f.outputs)
     ])
 

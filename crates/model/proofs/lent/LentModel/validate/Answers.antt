@@ -18,7 +18,7 @@ definitions_hold-requires g c = checkable (lent_record c.args.self.now) _ _ c.co
 pub returns-then-not-limits_hold : goal.returns-then-not-limits_hold
 returns-then-not-limits_hold g c =
     elim c.then-not-limits_hold.branch [
-      then-not-limits_hold-via-then-not-limits_hold w ↦ record { judges = check_limits _ _ c.count.result _ c.count.ensures (omega arith) c.limits_hold.result c.limits_hold.ensures (search rules); clears = search rules }
+      | then-not-limits_hold-via-then-not-limits_hold w ↦ record { judges = check_limits _ _ c.count.result _ c.count.ensures (omega arith) c.limits_hold.result c.limits_hold.ensures (search rules); clears = search rules }
       | then-not-limits_hold-via-else-not-limits_hold+then-not-definitions_hold w ↦ record {
         judges = check_fails _ _ c.count.result _ c.count.ensures (omega arith) c.limits_hold.result c.limits_hold.ensures (search rules) w.definitions_hold.result w.definitions_hold.ensures.0 (search rules);
         clears = search rules;
