@@ -13,8 +13,8 @@ returns-then-keys-le3 c = c.push_few.ensures
 pub fill_claim-requires : goal.fill_claim-requires
 fill_claim-requires c = (c.requires.1.list_fits c.if-keys-le3.false, c.requires.1.low)
 
-pub returns-in-None : goal.returns-in-None
-returns-in-None c = claim_dropped _ _ _ c.fill_claim.ensures c.in-None.is _ _ _
+pub returns-in_default : goal.returns-in_default
+returns-in_default c = claim_dropped _ _ _ c.fill_claim.ensures c.in_default.is _ _ _
 
 pub push_simplified-requires : goal.push_simplified-requires
 push_simplified-requires c =
@@ -22,5 +22,5 @@ push_simplified-requires c =
     let w = claim_words c.args.keys.now c.args.claim.now _ _ f in
     (omega (arith, w, c.requires.1.list_fits c.if-keys-le3.false, c.fill_claim.auto.list), omega (arith, w, c.requires.1.short), c.requires.0, words-narrow c.args.keys.now c.args.claim.now _ _ f c.requires.1.low)
 
-pub returns-in-Some : goal.returns-in-Some
-returns-in-Some c = c.push_simplified.ensures (claim_list c.args.keys.now c.args.claim.now) (c.fill_claim.ensures.when_words c.in-Some.n c.in-Some.is)
+pub returns : goal.returns
+returns c = c.push_simplified.ensures (claim_list c.args.keys.now c.args.claim.now) (c.fill_claim.ensures.when_words c.in-Some.n c.in-Some.is)
