@@ -1,5 +1,6 @@
 -- A claim's literals, and the loop that fills a list with their words.
 use Prim.Native.Nat.{ℕ, zero, suc, ◌+◌, ◌-◌, ◌/◌, ◌%◌, ◌≤◌, ◌<◌, ◌^◌}
+use Rattle.std.specs.Prelude.{Some, None}
 use mathlib.Core.Path.{◌≡◌, refl, sym, ap, ap₂, ◌∙◌}
 use mathlib.Core.Bool.{Bool, true, false, not, ◌||◌, or-true}
 use mathlib.Core.List.{List, [], ◌∷◌, ◌++◌, map, map-append, append-nil}
@@ -21,19 +22,14 @@ use Rattle.cnf.specs.Simplified.{cnf_word, without_false}
 use Rattle.cnf.specs.Inner.Appending.{Filled, Narrow}
 use Rattle.cnf.proofs.SignLaws.{opposite-is, without_append}
 use Rattle.obligation_spec.specs.Lists.{valued}
-use Rattle.obligation_claims.specs.declared.Fill.TheVariants.{True, Words}
 use Rattle.obligation_claims.specs.Inner.Claims.{claim_list, LowKeys}
 use Rattle.obligation_claims.specs.Inner.Filling.{Fills}
 
 -- ---- claim_literal
 
-module _ (ws : List ℕ) (k : ℕ) where
-  pub bit_outside : length ws ≤ k / 64 → 0 ≡ bit (holds ws k)
-  bit_outside h = ap bit (holds_outside ws k h)
-
-  pub bit-inside : get_or ws (k / 64) 0 / 2 ^ (k % 64) % 2 ≡ bit (holds ws k)
-  unfolding holds
-  bit-inside = sym (odd-bit (get_or ws (k / 64) 0 / 2 ^ (k % 64)))
+pub bit-is : (ws : List ℕ) (k : ℕ) → get_or ws (k / 64) 0 / 2 ^ (k % 64) % 2 ≡ bit (holds ws k)
+unfolding holds
+bit-is ws k = sym (odd-bit (get_or ws (k / 64) 0 / 2 ^ (k % 64)))
 
 pub bit-low : (ws : List ℕ) (k b : ℕ) → b ≡ bit (holds ws k) → b < 2
 bit-low ws k b e = rw e (bit_lt (holds ws k))
@@ -68,15 +64,14 @@ member-at x (l ∷ ls) (suc i) h e = rw (member-at x ls i (omega arith) e) (or-t
 -- the words of the first i literals stand in the first n places
 pub record Filling (ls list₀ list : List ℕ) (i n : ℕ) : Type 0 where
   pub filled : Filled (take i ls) list n
-  pub passed : i ≤ length ls
   pub behind : n ≤ i
   pub same : length list ≡ length list₀
 
 pub filling-none : (ls list : List ℕ) → Filling ls list list 0 0
-filling-none ls list = record { filled = record { untrue = refl; count = refl; words = refl }; passed = omega arith; behind = omega arith; same = refl }
+filling-none ls list = record { filled = record { untrue = refl; count = refl; words = refl }; behind = omega arith; same = refl }
 
 module _ (ls list₀ list : List ℕ) (i n : ℕ) (k : Filling ls list₀ list i n) where
-  pub filling-done : length ls ≤ i → Fills ls (Words n) list
+  pub filling-done : length ls ≤ i → Fills ls (Some n) list
   filling-done h =
       record {
         when_true = λ e. absurd (let z : ◌≡◌ {A = ℕ} 0 1 = cc in omega arith);
@@ -90,7 +85,7 @@ module _ (ls list₀ list : List ℕ) (i n : ℕ) (k : Filling ls list₀ list i
     next_without : without_false (take (i + 1) ls) ≡ without_false (take i ls) ++ without_false (get_or ls i 0 ∷ [])
     next_without = rw (take_next ls i 0 h) (without_append (take i ls) (get_or ls i 0 ∷ []))
 
-    pub filling-true : (v : ℕ) → v ≡ get_or ls i 0 → v ≡ 1 → Fills ls True list
+    pub filling-true : (v : ℕ) → v ≡ get_or ls i 0 → v ≡ 1 → Fills ls None list
     filling-true v q e =
         record {
           when_true = λ z. member-at 1 ls i h (sym e ∙ q);
@@ -108,7 +103,6 @@ module _ (ls list₀ list : List ℕ) (i n : ℕ) (k : Filling ls list₀ list i
                 count = k.filled.count ∙ ap length (sym w);
                 words = k.filled.words ∙ ap (map cnf_word) (sym w);
               };
-          passed = omega arith;
           behind = omega (arith, k.behind);
           same = k.same;
         }
@@ -129,14 +123,13 @@ module _ (ls list₀ list : List ℕ) (i n : ℕ) (k : Filling ls list₀ list i
                     ∙ ap₂ (λ (a : List ℕ) (b : ℕ). a ++ b ∷ []) k.filled.words (f ∙ ap cnf_word q)
                     ∙ sym (ap (map cnf_word) w ∙ map-append cnf_word (without_false (take i ls)) (get_or ls i 0 ∷ []));
               };
-          passed = omega arith;
           behind = omega (arith, k.behind);
           same = length-set list n x ∙ k.same;
         }
 
 -- as the code reads a claim's literals
 module _ (keys claim list₀ list : List ℕ) (i n : ℕ) (k : Filling (claim_list keys claim) list₀ list i n) where
-  pub claiming_done : length keys ≤ i → Fills (claim_list keys claim) (Words n) list
+  pub claiming_done : length keys ≤ i → Fills (claim_list keys claim) (Some n) list
   claiming_done h = filling-done (claim_list keys claim) list₀ list i n k (rw (claim_length keys claim) h)
 
   module _ (h : i < length keys) (v : ℕ) (e : v ≡ valued (get_or keys i 0 / 256) (not (holds claim (get_or keys i 0 % 256)))) where
@@ -146,7 +139,7 @@ module _ (keys claim list₀ list : List ℕ) (i n : ℕ) (k : Filling (claim_li
     is : v ≡ get_or (claim_list keys claim) i 0
     is = e ∙ sym (map_at (λ x. valued (x / 256) (not (holds claim (x % 256)))) keys i 0 0 h)
 
-    pub claiming_true : v ≡ 1 → Fills (claim_list keys claim) True list
+    pub claiming_true : v ≡ 1 → Fills (claim_list keys claim) None list
     claiming_true f = filling-true (claim_list keys claim) list₀ list i n k inside v is f
 
     pub claiming_false : v < 2 → (v ≡ 1 → ⊥) → Filling (claim_list keys claim) list₀ list (i + 1) n

@@ -1,5 +1,6 @@
 -- How the clause of a claim, and those of all claims, are appended.
 use Prim.Native.Nat.{ℕ, zero, suc, ◌+◌, ◌-◌, ◌*◌, ◌/◌, ◌%◌, ◌≤◌, ◌<◌, ◌^◌}
+use Rattle.std.specs.Prelude.{Option, None}
 use mathlib.Core.Path.{◌≡◌, refl, sym, ◌∙◌}
 use mathlib.Core.Bool.{not}
 use mathlib.Core.List.{List, [], ◌∷◌}
@@ -22,9 +23,10 @@ use Rattle.cnf.proofs.ShortLaws.{simplified-filled, simplified_one_true}
 use Rattle.cnf.proofs.SignLaws.{length_without}
 use Rattle.cnf.proofs.SimplifyLaws.{filled-narrow}
 use Rattle.obligation_spec.specs.Lists.{valued}
-use Rattle.obligation_claims.specs.declared.Fill.{Fill}
-use Rattle.obligation_claims.specs.declared.Fill.TheVariants.{True}
-use Rattle.obligation_claims.specs.Inner.Claims.{claim_list, state_claims, outcome_claims, LowKeys}
+use Rattle.obligation_claims.specs.Inner.Claims.{claim_list, LowKeys}
+use Rattle.obligation_claims.specs.declared.Claims.{Claims}
+use Rattle.obligation_claims.specs.declared.Claims.TheVariants.{States, Outcomes}
+use Rattle.obligation_claims.specs.Inner.Kinds.{count_in, claim_at, lists_of}
 use Rattle.obligation_claims.specs.Inner.Filling.{Fills, Fits}
 use Rattle.obligation_claims.proofs.FillLaws.{claim_length, claim_narrow}
 
@@ -75,8 +77,8 @@ module _ (keys claim : List ℕ) where
 
 -- ---- push_claim
 
-module _ (ls : List ℕ) (r : Fill) (list : List ℕ) (f : Fills ls r list) where
-  pub claim_dropped : r ≡ True → (at : ClauseCounts) (pairs words : List ℕ) → Appends (ls ∷ []) at pairs words at pairs words
+module _ (ls : List ℕ) (r : Option ℕ) (list : List ℕ) (f : Fills ls r list) where
+  pub claim_dropped : r ≡ None → (at : ClauseCounts) (pairs words : List ℕ) → Appends (ls ∷ []) at pairs words at pairs words
   claim_dropped e at pairs words = appends-dropped ls at pairs words (simplified_one_true ls (f.when_true e))
 
 module _ (keys claim list : List ℕ) (n : ℕ) (f : Filled (claim_list keys claim) list n) where
@@ -88,50 +90,9 @@ module _ (keys claim list : List ℕ) (n : ℕ) (f : Filled (claim_list keys cla
 
 -- ---- all claims
 
--- the clauses of the first i lists were appended, and the lists in which clauses are made still fit
-pub record Pushing (lists : List (List ℕ)) (keys : List ℕ) (at : ClauseCounts) (list₀ work₀ pairs₀ words₀ : List ℕ) (at' : ClauseCounts) (list work pairs words : List ℕ) (i : ℕ) : Type 0 where
-  pub appends : Appends (take i lists) at pairs₀ words₀ at' pairs words
-  pub passed : i ≤ length lists
-  pub same_list : length list ≡ length list₀
-  pub same_work : length work ≡ length work₀
-  pub same_pairs : length pairs ≡ length pairs₀
-  pub same_words : length words ≡ length words₀
-
 -- few keys need no list
-pub fits-few : (keys : List ℕ) (n m : ℕ) → length keys ≤ 3 → LowKeys keys → Fits keys n m
-fits-few keys n m h e = record { low = e; short = omega arith; list_fits = λ k. absurd (omega arith); work_fits = λ k. absurd (omega arith) }
-
-pub fits-same : (keys : List ℕ) (n m n' m' : ℕ) → Fits keys n m → n' ≡ n → m' ≡ m → Fits keys n' m'
-fits-same keys n m n' m' f e g = rw (e, g) f
-
-module _ (lists : List (List ℕ)) (keys : List ℕ) (at : ClauseCounts) (list₀ work₀ pairs₀ words₀ : List ℕ) where
-  pub pushing-none : Pushing lists keys at list₀ work₀ pairs₀ words₀ at list₀ work₀ pairs₀ words₀ 0
-  pushing-none = record { appends = appends-none at pairs₀ words₀; passed = omega arith; same_list = refl; same_work = refl; same_pairs = refl; same_words = refl }
-
-  module _ (at' : ClauseCounts) (list work pairs words : List ℕ) (i : ℕ) (k : Pushing lists keys at list₀ work₀ pairs₀ words₀ at' list work pairs words i) where
-    pub pushing-fits : Fits keys (length list₀) (length work₀) → Fits keys (length list) (length work)
-    pushing-fits f = fits-same keys (length list₀) (length work₀) (length list) (length work) f k.same_list k.same_work
-
-    module _ (n : ℕ) (all : length lists ≡ n) where
-      pub pushing-more : i < n → (claim : List ℕ) → get_or lists i [] ≡ claim_list keys claim
-          → (at'' : ClauseCounts) (list' work' pairs' words' : List ℕ) → Appends (claim_list keys claim ∷ []) at' pairs words at'' pairs' words'
-          → length list' ≡ length list → length work' ≡ length work → length pairs' ≡ length pairs → length words' ≡ length words
-          → Pushing lists keys at list₀ work₀ pairs₀ words₀ at'' list' work' pairs' words' (i + 1)
-      pushing-more h claim e at'' list' work' pairs' words' g a b c d =
-          record {
-            appends = appends-next lists i at at' at'' pairs₀ words₀ pairs words pairs' words' [] (omega arith) k.appends (rw e g);
-            passed = omega arith;
-            same_list = a ∙ k.same_list;
-            same_work = b ∙ k.same_work;
-            same_pairs = c ∙ k.same_pairs;
-            same_words = d ∙ k.same_words;
-          }
-
-      pub pushing-done : n ≤ i → Appends lists at pairs₀ words₀ at' pairs words
-      pushing-done h = appends-end lists i at at' at' pairs₀ words₀ pairs words pairs words (omega arith) k.appends
-
-      pub pushing-space : i < n → Space at n → Space at' 1
-      pushing-space h s = space-next lists i at pairs₀ words₀ at' pairs words (omega arith) k.appends (rw all s)
+pub fits-few : (keys : List ℕ) (n : ℕ) → length keys ≤ 3 → LowKeys keys → Fits keys n
+fits-few keys n h e = record { low = e; short = omega arith; list_fits = λ k. absurd (omega arith) }
 
 -- the words of one claim, as the code cuts them
 pub one_word : (states : List ℕ) (i : ℕ) → i < length states → take (i + 1 - i) (drop i states) ≡ get_or states i 0 ∷ []
@@ -144,15 +105,23 @@ three_words words at h =
     rw (e, rest_more words at 0 (omega arith), rest_more words (at + 1) 0 (omega arith), n, rest_more words (at + 2) 0 h) refl
 
 module _ (keys : List ℕ) where
-  pub states_count : (states : List ℕ) → length (state_claims keys states) ≡ length states
-  states_count states = length-map states (λ s. claim_list keys (s ∷ []))
+  pub lists_count : (claims : Claims) → length (lists_of keys claims) ≡ count_in claims
+  lists_count (States words) = length-map words.now (λ s. claim_list keys (s ∷ []))
+  lists_count (Outcomes words) = triples_count (λ t h l. claim_list keys (t ∷ h ∷ l ∷ [])) words.now
 
-  pub states_at : (states : List ℕ) (i : ℕ) → i < length states → get_or (state_claims keys states) i [] ≡ claim_list keys (take (i + 1 - i) (drop i states))
-  states_at states i h = map_at (λ s. claim_list keys (s ∷ [])) states i 0 [] h ∙ rw (one_word states i h) refl
+  lists_at : (claims : Claims) (i : ℕ) → i < count_in claims → get_or (lists_of keys claims) i [] ≡ claim_list keys (claim_at claims i)
+  lists_at (States words) i h = map_at (λ s. claim_list keys (s ∷ [])) words.now i 0 [] h ∙ rw (one_word words.now i h) refl
+  lists_at (Outcomes words) i h =
+      triples_at (λ t h l. claim_list keys (t ∷ h ∷ l ∷ [])) words.now i 0 [] (omega arith) ∙ rw (three_words words.now (3 * i) (omega arith)) refl
 
-  pub outcomes_count : (words : List ℕ) → length (outcome_claims keys words) ≡ length words / 3
-  outcomes_count words = triples_count (λ t h l. claim_list keys (t ∷ h ∷ l ∷ [])) words
+  module _ (claims : Claims) (at : ClauseCounts) (pairs₀ words₀ : List ℕ) (at' : ClauseCounts) (pairs words : List ℕ) (i : ℕ) (g : Appends (take i (lists_of keys claims)) at pairs₀ words₀ at' pairs words) where
+    pub claims-space : i < count_in claims → Space at (count_in claims) → Space at' 1
+    claims-space h s = space-next (lists_of keys claims) i at pairs₀ words₀ at' pairs words (rw (lists_count claims) h) g (rw (lists_count claims) s)
 
-  pub outcomes_at : (words : List ℕ) (i : ℕ) → i < length words / 3 → get_or (outcome_claims keys words) i [] ≡ claim_list keys (take (3 * i + 3 - 3 * i) (drop (3 * i) words))
-  outcomes_at words i h =
-      triples_at (λ t h l. claim_list keys (t ∷ h ∷ l ∷ [])) words i 0 [] (omega arith) ∙ rw (three_words words (3 * i) (omega arith)) refl
+    pub claims-next : i < count_in claims → (claim : List ℕ) → claim ≡ claim_at claims i → (at'' : ClauseCounts) (pairs' words' : List ℕ)
+        → Appends (claim_list keys claim ∷ []) at' pairs words at'' pairs' words' → Appends (take (i + 1) (lists_of keys claims)) at pairs₀ words₀ at'' pairs' words'
+    claims-next h claim e at'' pairs' words' k =
+        appends-next (lists_of keys claims) i at at' at'' pairs₀ words₀ pairs words pairs' words' [] (rw (lists_count claims) h) g (rw (lists_at claims i h, ← e) k)
+
+    pub claims-end : count_in claims ≤ i → Appends (lists_of keys claims) at pairs₀ words₀ at' pairs words
+    claims-end h = appends-end (lists_of keys claims) i at at' at' pairs₀ words₀ pairs words pairs words (rw (lists_count claims) h) g

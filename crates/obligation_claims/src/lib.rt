@@ -11,16 +11,40 @@ ghost use Rattle.lists.specs.Sets.{holds};
 ghost use Rattle.word_sort.specs.Inner.Sorted.{sorted};
 ghost use Rattle.cnf.specs.Inner.Appending.{Appends, Space};
 ghost use Rattle.obligation_spec.specs.Lists.{valued};
-ghost use Rattle.obligation_claims.specs.Inner.Claims.{keys_from, observed_keys, outcome_keys, claim_list, state_claims, outcome_claims, LowKeys, LowLiterals};
+ghost use Rattle.obligation_claims.specs.Inner.Claims.{keys_from, observed_keys, outcome_keys, claim_list, LowKeys, LowLiterals};
+ghost use Rattle.obligation_claims.specs.Inner.Kinds.{count_in, claim_at, lists_of};
 ghost use Rattle.obligation_claims.specs.Inner.Filling.{InOrder, Fills, Fits};
 
 use cnf::ClauseCounts;
 
-// What became of a claim's literals: one is the true constant, or so many words were filled in.
+// Claims as their words: one a state, three an outcome (target, high, low).
 #[derive(Clone, Copy)]
-pub enum Fill {
-    True,
-    Words(usize),
+pub enum Claims<'a> {
+    States(&'a [u64]),
+    Outcomes(&'a [u64]),
+}
+
+impl<'a> Claims<'a> {
+    // How many claims there are.
+    pub fn count(self) -> usize
+        ensures { result ≡ count_in self.entry }
+    {
+        match self {
+            Claims::States(words) => words.len(),
+            Claims::Outcomes(words) => words.len() / 3,
+        }
+    }
+
+    // The words of the claim at a place.
+    fn claim(self, i: usize) -> &'a [u64]
+        requires { i < count_in self }
+        ensures { result.now ≡ claim_at self.entry i }
+    {
+        match self {
+            Claims::States(words) => &words[i..i + 1],
+            Claims::Outcomes(words) => &words[3 * i..3 * i + 3],
+        }
+    }
 }
 
 // Writes the keys of the literals, whose bits begin at `place`.
@@ -28,10 +52,8 @@ fn add_keys(literals: &[u64], place: u64, keys: &mut [u64], at: usize)
     requires { (at + length literals.now ≤ length keys.old) × (place + length literals.now ≤ 256) × LowLiterals literals.now }
     ensures { keys.new ≡ put keys.old at (keys_from place literals.now) }
 {
-    let mut i = 0;
-    while i < literals.len() {
-        keys[at + i] = 256 * literals[i] + (place + i as u64);
-        i += 1;
+    for (i, literal) in literals.iter().enumerate() {
+        keys[at + i] = 256 * *literal + (place + i as u64);
     }
 }
 
@@ -40,10 +62,8 @@ fn observed_literals(outputs: &[u64], observed: &[u64], out: &mut [u64])
     requires { length observed.now ≤ length out.old }
     ensures { out.new ≡ put out.old 0 (map (λ i. get_or outputs.now i 0) observed.now) }
 {
-    let mut i = 0;
-    while i < observed.len() {
-        out[i] = lists::word(outputs, lists::index(observed[i]));
-        i += 1;
+    for (i, index) in observed.iter().enumerate() {
+        out[i] = lists::word(outputs, *index as usize);
     }
 }
 
@@ -106,12 +126,7 @@ pub fn outcome_keys(nexts: &[u64], outputs: &[u64], observed: &[u64], keys: &mut
 fn claim_bit(claim: &[u64], place: usize) -> u64
     ensures { result ≡ bit (holds claim.now place) }
 {
-    let at = place / 64;
-    if claim.len() <= at {
-        return 0;
-    }
-    let w = claim[at];
-    (w >> (place % 64)) % 2
+    (lists::word(claim, place / 64) >> (place % 64)) % 2
 }
 
 // The literal that differs from the key's bit of the claim. Its sign is turned with no branch, since bits are hard to foresee.
@@ -120,31 +135,27 @@ fn claim_literal(key: u64, claim: &[u64]) -> u64
     ensures { result ≡ valued (key / 256) (not (holds claim.now (key % 256))) }
 {
     let literal = key / 256;
-    let turn = claim_bit(claim, lists::index(key % 256));
+    let turn = claim_bit(claim, (key % 256) as usize);
     literal - literal % 2 + (literal + turn) % 2
 }
 
-// Fills the list with the words of a claim's clause, false constants left out.
-fn fill_claim(keys: &[u64], claim: &[u64], list: &mut [u64]) -> Fill
+// Fills the list with the words of a claim's clause, false constants left out, and says how many; none where a literal is the true one.
+fn fill_claim(keys: &[u64], claim: &[u64], list: &mut [u64]) -> Option<usize>
     requires { (length keys.now ≤ length list.old) × LowKeys keys.now }
     ensures { Fills (claim_list keys.now claim.now) result list.new }
 {
     let mut n = 0;
-    let mut i = 0;
-    while i < keys.len() {
-        let literal = claim_literal(keys[i], claim);
-        if literal < 2 {
-            if literal == 1 {
-                return Fill::True;
-            }
-            i += 1;
-            continue;
+    for key in keys {
+        let literal = claim_literal(*key, claim);
+        if literal == 1 {
+            return None;
         }
-        list[n] = cnf::word(literal);
-        n += 1;
-        i += 1;
+        if 2 <= literal {
+            list[n] = cnf::word(literal);
+            n += 1;
+        }
     }
-    Fill::Words(n)
+    Some(n)
 }
 
 // Appends the clause of a claim with at most three literals, filled up with false constants.
@@ -159,10 +170,8 @@ fn push_few(
     ensures { Appends (claim_list keys.now claim.now ∷ []) at pairs.old literals.old result pairs.new literals.new }
 {
     let mut clause = [0; 3];
-    let mut i = 0;
-    while i < keys.len() {
-        clause[i] = claim_literal(keys[i], claim);
-        i += 1;
+    for (i, key) in keys.iter().enumerate() {
+        clause[i] = claim_literal(*key, claim);
     }
     cnf::push_short(clause, pairs, literals, at)
 }
@@ -172,123 +181,57 @@ fn push_claim(
     keys: &[u64],
     claim: &[u64],
     list: &mut [u64],
-    work: &mut [u64],
     pairs: &mut [u64],
     literals: &mut [u32],
     at: ClauseCounts,
 ) -> ClauseCounts
-    requires { Space at 1 × Fits keys.now (length list.old) (length work.old) }
+    requires { Space at 1 × Fits keys.now (length list.old) }
     ensures { Appends (claim_list keys.now claim.now ∷ []) at pairs.old literals.old result pairs.new literals.new }
 {
     if keys.len() <= 3 {
         return push_few(keys, claim, pairs, literals, at);
     }
-    let Fill::Words(n) = fill_claim(keys, claim, list) else {
+    let Some(n) = fill_claim(keys, claim, list) else {
         return at;
     };
     cnf::push_simplified(list, n, pairs, literals, at)
 }
 
-// Appends the clauses of claimed states.
-fn push_states(
+// Appends the clauses of claims, each made in the lent list.
+fn push_claims(
     keys: &[u64],
-    states: &[u64],
+    claims: Claims,
     list: &mut [u64],
-    work: &mut [u64],
     pairs: &mut [u64],
     literals: &mut [u32],
     at: ClauseCounts,
 ) -> ClauseCounts
-    requires { Space at (length states.now) × Fits keys.now (length list.old) (length work.old) }
-    ensures { Appends (state_claims keys.now states.now) at pairs.old literals.old result pairs.new literals.new }
+    requires { Space at (count_in claims) × Fits keys.now (length list.old) }
+    ensures { Appends (lists_of keys.now claims.entry) at pairs.old literals.old result pairs.new literals.new }
 {
     let mut appended = at;
-    let mut i = 0;
-    while i < states.len() {
-        appended = push_claim(
-            keys,
-            &states[i..i + 1],
-            list,
-            work,
-            pairs,
-            literals,
-            appended,
-        );
-        i += 1;
+    for i in 0..claims.count() {
+        appended = push_claim(keys, claims.claim(i), list, pairs, literals, appended);
     }
     appended
 }
 
-// Appends the clauses of claimed outcomes, three words each.
-fn push_outcomes(
+// Appends the clauses of claims, by the keys in order. A clause of four literals or more is made simple in a local list (R3.5), and then
+// written.
+pub fn append_claims(
     keys: &[u64],
-    words: &[u64],
-    list: &mut [u64],
-    work: &mut [u64],
+    claims: Claims,
     pairs: &mut [u64],
     literals: &mut [u32],
     at: ClauseCounts,
 ) -> ClauseCounts
-    requires { Space at (length words.now / 3) × Fits keys.now (length list.old) (length work.old) }
-    ensures { Appends (outcome_claims keys.now words.now) at pairs.old literals.old result pairs.new literals.new }
-{
-    let count = words.len() / 3;
-    let mut appended = at;
-    let mut i = 0;
-    while i < count {
-        appended = push_claim(
-            keys,
-            &words[3 * i..3 * i + 3],
-            list,
-            work,
-            pairs,
-            literals,
-            appended,
-        );
-        i += 1;
-    }
-    appended
-}
-
-// Appends the clauses of claimed states, by the keys in order. A clause of four literals or more is made simple in a local list (R3.5),
-// and then written.
-pub fn append_states(
-    keys: &[u64],
-    states: &[u64],
-    pairs: &mut [u64],
-    literals: &mut [u32],
-    at: ClauseCounts,
-) -> ClauseCounts
-    requires { Space at (length states.now) × (length keys.now ≤ 1024) × LowKeys keys.now }
-    ensures { Appends (state_claims keys.now states.now) at pairs.old literals.old result pairs.new literals.new }
+    requires { Space at (count_in claims) × (length keys.now ≤ 1024) × LowKeys keys.now }
+    ensures { Appends (lists_of keys.now claims.entry) at pairs.old literals.old result pairs.new literals.new }
 {
     if keys.len() <= 3 {
         let mut none = [0; 1];
-        let mut also = [0; 1];
-        return push_states(keys, states, &mut none, &mut also, pairs, literals, at);
+        return push_claims(keys, claims, &mut none, pairs, literals, at);
     }
     let mut list = [0; 1024];
-    let mut work = [0; 1024];
-    push_states(keys, states, &mut list, &mut work, pairs, literals, at)
-}
-
-// Appends the clauses of claimed outcomes, three words each, by the keys in order; as with states.
-pub fn append_outcomes(
-    keys: &[u64],
-    words: &[u64],
-    pairs: &mut [u64],
-    literals: &mut [u32],
-    at: ClauseCounts,
-) -> ClauseCounts
-    requires { Space at (length words.now / 3) × (length keys.now ≤ 1024) × LowKeys keys.now }
-    ensures { Appends (outcome_claims keys.now words.now) at pairs.old literals.old result pairs.new literals.new }
-{
-    if keys.len() <= 3 {
-        let mut none = [0; 1];
-        let mut also = [0; 1];
-        return push_outcomes(keys, words, &mut none, &mut also, pairs, literals, at);
-    }
-    let mut list = [0; 1024];
-    let mut work = [0; 1024];
-    push_outcomes(keys, words, &mut list, &mut work, pairs, literals, at)
+    push_claims(keys, claims, &mut list, pairs, literals, at)
 }

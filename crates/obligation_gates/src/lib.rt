@@ -13,6 +13,7 @@ ghost use Rattle.obligation_gates.specs.Inner.Encoding.{Low, LowGate, gate_array
 
 use aiger::Gate;
 use cnf::ClauseCounts;
+use model::GateList;
 
 // The three clauses of a gate as arrays of literals (R7.3): output implies left, output implies right, left and right imply output.
 fn gate_clauses(gate: Gate) -> [[u64; 3]; 3]
@@ -36,9 +37,8 @@ fn predicate_literal(inputs: &[u64], relevant: &[u64], word: u32) -> u64
     requires { Low inputs.now }
     ensures { result ≡ predicate_literal inputs.now relevant.now word }
 {
-    let index = (word / 2) as usize;
-    let input = lists::index(lists::word(relevant, index));
-    let literal = lists::word(inputs, input);
+    let input = lists::word(relevant, (word / 2) as usize);
+    let literal = lists::word(inputs, input as usize);
     if word % 2 == 1 {
         return literal;
     }
@@ -50,18 +50,13 @@ fn fill_clause(inputs: &[u64], relevant: &[u64], clause: &[u32], list: &mut [u64
     requires { Clausal inputs.now relevant.now clause.now × (length clause.now ≤ length list.old) }
     ensures { FilledAs inputs.now relevant.now clause.now list.new result }
 {
-    let mut seen = [0u64; 2];
+    let mut seen = [0; 2];
     let mut n = 0;
-    let mut i = 0;
-    while i < clause.len() {
-        let word = clause[i];
-        if lists::add(&mut seen, word as usize) {
-            list[n] = cnf::word(predicate_literal(inputs, relevant, word));
+    for word in clause {
+        if lists::add(&mut seen, *word as usize) {
+            list[n] = cnf::word(predicate_literal(inputs, relevant, *word));
             n += 1;
-            i += 1;
-            continue;
         }
-        i += 1;
     }
     n
 }
@@ -72,12 +67,11 @@ fn push_clause(
     relevant: &[u64],
     clause: &[u32],
     list: &mut [u64],
-    work: &mut [u64],
     pairs: &mut [u64],
     literals: &mut [u32],
     at: ClauseCounts,
 ) -> ClauseCounts
-    requires { Clausal inputs.now relevant.now clause.now × (length clause.now ≤ 1024) × (length list.old ≡ 1024) × (length work.old ≡ 1024) × Space at 1 }
+    requires { Clausal inputs.now relevant.now clause.now × (length clause.now ≤ 1024) × (length list.old ≡ 1024) × Space at 1 }
     ensures { Appends (map (predicate_literal inputs.now relevant.now) clause.now ∷ []) at pairs.old literals.old result pairs.new literals.new }
 {
     let n = fill_clause(inputs, relevant, clause, list);
@@ -91,25 +85,20 @@ fn push_clauses(
     predicate_pairs: &[u64],
     predicate_literals: &[u32],
     list: &mut [u64],
-    work: &mut [u64],
     pairs: &mut [u64],
     literals: &mut [u32],
     at: ClauseCounts,
 ) -> ClauseCounts
-    requires { Bounded inputs.now relevant.now predicate_pairs.now predicate_literals.now × (length list.old ≡ 1024) × (length work.old ≡ 1024) × Space at (length predicate_pairs.now / 2) }
+    requires { Bounded inputs.now relevant.now predicate_pairs.now predicate_literals.now × (length list.old ≡ 1024) × Space at (length predicate_pairs.now / 2) }
     ensures { Appends (map (map (predicate_literal inputs.now relevant.now)) (clauses_in predicate_literals.now predicate_pairs.now)) at pairs.old literals.old result pairs.new literals.new }
 {
     let count = predicate_pairs.len() / 2;
     let mut appended = at;
-    let mut i = 0;
-    while i < count {
-        let start = lists::index(predicate_pairs[2 * i]);
-        let end = start + lists::index(predicate_pairs[2 * i + 1]);
+    for i in 0..count {
+        let start = predicate_pairs[2 * i] as usize;
+        let end = start + predicate_pairs[2 * i + 1] as usize;
         let clause = &predicate_literals[start..end];
-        appended = push_clause(
-            inputs, relevant, clause, list, work, pairs, literals, appended,
-        );
-        i += 1;
+        appended = push_clause(inputs, relevant, clause, list, pairs, literals, appended);
     }
     appended
 }
@@ -130,15 +119,13 @@ pub fn append_predicate(
     if predicate_pairs.len() < 2 {
         return at;
     }
-    let mut list = [0u64; 1024];
-    let mut work = [0u64; 1024];
+    let mut list = [0; 1024];
     push_clauses(
         inputs,
         relevant,
         predicate_pairs,
         predicate_literals,
         &mut list,
-        &mut work,
         pairs,
         literals,
         at,
@@ -181,11 +168,9 @@ pub fn append_sources(
     ensures { Appends (source_lists currents.now (bits (length currents.now) source)) at pairs.old literals.old result pairs.new literals.new }
 {
     let mut appended = at;
-    let mut i = 0;
-    while i < currents.len() {
-        let literal = source_literal(currents[i], source, i);
+    for (i, current) in currents.iter().enumerate() {
+        let literal = source_literal(*current, source, i);
         appended = push_literal(literal, pairs, literals, appended);
-        i += 1;
     }
     appended
 }
@@ -213,15 +198,8 @@ pub fn append_ands(
     ensures { Appends (words_of gate_lists (take count (triples_of gate_from gates.now))) at pairs.old literals.old result pairs.new literals.new }
 {
     let mut appended = at;
-    let mut i = 0;
-    while i < count {
-        let gate = Gate {
-            output: gates[3 * i],
-            left: gates[3 * i + 1],
-            right: gates[3 * i + 2],
-        };
-        appended = push_gate(gate, pairs, literals, appended);
-        i += 1;
+    for i in 0..count {
+        appended = push_gate(gates.gate(i), pairs, literals, appended);
     }
     appended
 }

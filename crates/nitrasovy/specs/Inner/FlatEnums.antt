@@ -1,4 +1,5 @@
 -- For the contracts of inner functions: the code's enums as flat structs.
+use Rattle.std.specs.Prelude.{ℕ}
 use Rattle.lists.specs.Answer.{Answer, got, refused}
 use Rattle.cnf.specs.declared.ClauseCounts.{ClauseCounts}
 use Rattle.witness_text.specs.declared.AagCounts.{AagCounts}

@@ -1,11 +1,7 @@
-use Rattle.obligation_claims.proofs.KeyLaws.{picking_none, picking_more, picking_done}
+use mathlib.Core.Path.{refl}
+use native.Mathlib.Omega.{arith}
+use Rattle.obligation_claims.proofs.KeyLaws.{picking_more}
 use Rattle.obligation_claims.proofs.observed_literals.Goals as goal
 
-pub loop-i-init : goal.loop-i-init
-loop-i-init c = search picking_none
-
 pub loop-i-preserved : goal.loop-i-preserved
-loop-i-preserved c = search picking_more
-
-pub returns : goal.returns
-returns c = picking_done c.args.outputs.now c.args.observed.now _ _ _ c.loop-i.invariant c.loop-i-test.false
+loop-i-preserved c = picking_more _ _ _ _ c.loop-i.i c.loop-i.invariant _ _ refl c.word.ensures (omega arith)

@@ -18,9 +18,9 @@ returns-in_default c = claim_dropped _ _ _ c.fill_claim.ensures c.in_default.is 
 
 pub push_simplified-requires : goal.push_simplified-requires
 push_simplified-requires c =
-    let f : Filled (claim_list c.args.keys.now c.args.claim.now) c.fill_claim.new.list c.in-Words.n = c.fill_claim.ensures.when_words c.in-Words.n c.in-Words.is in
+    let f : Filled (claim_list c.args.keys.now c.args.claim.now) c.fill_claim.new.list c.in-Some.n = c.fill_claim.ensures.when_words c.in-Some.n c.in-Some.is in
     let w = claim_words c.args.keys.now c.args.claim.now _ _ f in
     (omega (arith, w, c.requires.1.list_fits c.if-keys-le3.false, c.fill_claim.auto.list), omega (arith, w, c.requires.1.short), c.requires.0, words-narrow c.args.keys.now c.args.claim.now _ _ f c.requires.1.low)
 
 pub returns : goal.returns
-returns c = c.push_simplified.ensures (claim_list c.args.keys.now c.args.claim.now) (c.fill_claim.ensures.when_words c.in-Words.n c.in-Words.is)
+returns c = c.push_simplified.ensures (claim_list c.args.keys.now c.args.claim.now) (c.fill_claim.ensures.when_words c.in-Some.n c.in-Some.is)

@@ -1,11 +1,9 @@
 -- For the contracts of the functions that put keys in order and fill a clause's list.
-use Rattle.std.specs.Prelude.{ℕ, ◌≤◌, ◌<◌, true, List, ◌≡◌, length, take}
+use Rattle.std.specs.Prelude.{ℕ, ◌≤◌, ◌<◌, true, List, Option, Some, None, ◌≡◌, length, take}
 use Rattle.lists.specs.Sets.{member}
 use Rattle.word_sort.specs.Inner.Sorted.{sorted}
 use Rattle.cnf.specs.Inner.Appending.{Filled}
 use Rattle.obligation_claims.specs.Inner.Claims.{LowKeys}
-use Rattle.obligation_claims.specs.declared.Fill.{Fill}
-use Rattle.obligation_claims.specs.declared.Fill.TheVariants.{True, Words}
 
 -- the first n words are these keys, in order
 pub record InOrder (keys : List ℕ) (n : ℕ) (words : List ℕ) : Type 0 where
@@ -14,13 +12,12 @@ pub record InOrder (keys : List ℕ) (n : ℕ) (words : List ℕ) : Type 0 where
   pub order : take n words ≡ sorted keys
 
 -- what became of the literals of a clause: one of them is the true constant, or the list was filled
-pub record Fills (ls : List ℕ) (r : Fill) (list : List ℕ) : Type 0 where
-  pub when_true : r ≡ True → member 1 ls ≡ true
-  pub when_words : (n : ℕ) → r ≡ Words n → Filled ls list n
+pub record Fills (ls : List ℕ) (r : Option ℕ) (list : List ℕ) : Type 0 where
+  pub when_true : r ≡ None → member 1 ls ≡ true
+  pub when_words : (n : ℕ) → r ≡ Some n → Filled ls list n
 
--- keys whose clauses can be made in two lists of these lengths, filled and sorted there. One of at most three literals needs none.
-pub record Fits (keys : List ℕ) (list work : ℕ) : Type 0 where
+-- keys whose clauses can be made in a list of this length. One of at most three literals needs none.
+pub record Fits (keys : List ℕ) (list : ℕ) : Type 0 where
   pub low : LowKeys keys
   pub short : length keys ≤ 1024
   pub list_fits : 3 < length keys → length keys ≤ list
-  pub work_fits : 3 < length keys → length keys ≤ work

@@ -1,11 +1,5 @@
-use Prim.Native.Nat.{◌-◌, ◌≤◌}
-use mathlib.Core.Path.{◌≡◌}
-use lib.ListN.{length}
 use Rattle.obligation_gates.proofs.RepeatLaws.{Keeping}
 use Rattle.obligation_gates.proofs.fill_clause.Given as goal
 
-abbrev pub invariant-loop-i : goal.invariant-loop-i
-invariant-loop-i l = Keeping l.inputs l.relevant l.clause l.seen l.list l.n l.i × (l.i ≤ length l.clause) × (length l.list ≡ length l.initial.list)
-
-abbrev pub decreases-loop-i : goal.decreases-loop-i
-decreases-loop-i l = length l.clause - l.i
+abbrev pub invariant-loop-word : goal.invariant-loop-word
+invariant-loop-word l = Keeping l.inputs l.relevant l.clause l.seen l.list l.n l.word-index

@@ -1,4 +1,3 @@
-use Prim.Native.Nat.{◌-◌}
 use mathlib.Core.Path.{◌≡◌}
 use lib.ListN.{length, take}
 use Rattle.cnf.specs.Inner.Appending.{Appends}
@@ -6,8 +5,4 @@ use Rattle.obligation_gates.proofs.ClauseLaws.{clause_lists}
 use Rattle.obligation_gates.proofs.push_clauses.Given as goal
 
 abbrev pub invariant-loop-i : goal.invariant-loop-i
-invariant-loop-i l = (length l.list ≡ length l.initial.list) × (length l.work ≡ length l.initial.work) × (length l.pairs ≡ length l.initial.pairs) × (length l.literals ≡ length l.initial.literals)
-    × Appends (take l.i (clause_lists l.inputs l.relevant l.predicate_pairs l.predicate_literals)) l.initial.appended l.initial.pairs l.initial.literals l.appended l.pairs l.literals
-
-abbrev pub decreases-loop-i : goal.decreases-loop-i
-decreases-loop-i l = l.count - l.i
+invariant-loop-i l = Appends (take l.i (clause_lists l.inputs l.relevant l.predicate_pairs l.predicate_literals)) l.initial.appended l.initial.pairs l.initial.literals l.appended l.pairs l.literals

@@ -1,5 +1,5 @@
 -- What a question of the code asks about (R12.3).
-use Rattle.model.specs.Lent.{lent_record}
+use Rattle.model.specs.Inner.Lent.{lent_record}
 use Rattle.obligation_spec.specs.Calls.{Asked, asked_of}
 use Rattle.obligation_check.specs.declared.Question.{Question}
 
