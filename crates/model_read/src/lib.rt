@@ -120,20 +120,18 @@ fn take_head(s: &[u8], cursor: Cursor, counts: Counts) -> Option<Parsed<AigerTra
 }
 
 // Whether a model is well defined with the gates of the lines from a cursor on. The work words are all 0 at first.
-fn check_model(s: &[u8], cursor: Cursor, model: AigerTransition, work: &mut [u64]) -> Result<(), Refusal>
+fn check_model(
+    s: &[u8],
+    cursor: Cursor,
+    model: AigerTransition,
+    work: &mut [u64],
+) -> Result<(), Refusal>
     requires { (model.max_variable < length work.old) × (work.old ≡ zeros (length work.old)) }
     ensures { answered result ≡ verdict_of (gates_of (circuit_of model []) model.and_count (lines_from s.now cursor)) }
 {
     let lent = LentModel::from(&model);
     let fine = lent.define_leaves(work);
-    let Some(good) = check_gates(
-        s,
-        cursor,
-        model.and_count,
-        model.max_variable,
-        fine,
-        work,
-    ) else {
+    let Some(good) = check_gates(s, cursor, model.and_count, model.max_variable, fine, work) else {
         return Err(Refusal::Line);
     };
     if !good || !lent.literals_hold() {
@@ -188,7 +186,11 @@ fn read_body(
 }
 
 // Reads a transition text: the record, and the gates' words in front of the lent ones.
-pub fn parse_ascii_aiger_transition(s: &[u8], gates: &mut [u64], work: &mut [u64]) -> Result<AigerTransition, Refusal>
+pub fn parse_ascii_aiger_transition(
+    s: &[u8],
+    gates: &mut [u64],
+    work: &mut [u64],
+) -> Result<AigerTransition, Refusal>
     ensures { Reads (read_transition s.now (length gates.old) (length work.old)) gates.old (length work.old) result gates.new work.new }
 {
     lists::clear(work);

@@ -1,4 +1,3 @@
-use Prim.Native.Nat.{◌-◌}
 use mathlib.Core.Path.{◌≡◌}
 use lib.ListN.{length}
 use Rattle.model_read.proofs.GateLaws.{Checking}
@@ -6,4 +5,3 @@ use Rattle.model_read.proofs.check_gates.Given as goal
 
 abbrev pub invariant-loop-i : goal.invariant-loop-i
 invariant-loop-i l = (length l.work ≡ length l.initial.work) × Checking l.s l.initial.next l.n l.most l.fine l.initial.work l.work l.next l.good l.i
-

@@ -1,4 +1,3 @@
-use Prim.Native.Nat.{◌-◌}
 use mathlib.Core.Path.{◌≡◌}
 use lib.ListN.{length}
 use Rattle.model_read.proofs.GateLaws.{Writing}
@@ -6,4 +5,3 @@ use Rattle.model_read.proofs.write_gates.Given as goal
 
 abbrev pub invariant-loop-i : goal.invariant-loop-i
 invariant-loop-i l = (length l.gates ≡ length l.initial.gates) × Writing l.s l.initial.next l.n l.initial.gates l.gates l.next l.i
-
