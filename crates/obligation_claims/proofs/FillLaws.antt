@@ -15,7 +15,7 @@ use Rattle.lists.proofs.BitLaws.{odd-bit}
 use Rattle.lists.proofs.MapLaws.{map_at}
 use Rattle.lists.proofs.OnceLaws.{member_append}
 use Rattle.lists.proofs.RestLaws.{take_next}
-use Rattle.lists.proofs.TestLaws.{each_map, each-so, each_at}
+use Rattle.lists.proofs.TestLaws.{each_map, each-so}
 use Rattle.cnf.specs.Simplified.{cnf_word, without_false}
 use Rattle.cnf.specs.Inner.Appending.{Filled, Narrow}
 use Rattle.cnf.proofs.SignLaws.{opposite-is, without_append}

@@ -157,7 +157,7 @@ fn push_claim(
         return push_few(keys, claim, pairs, literals, at);
     }
     match fill_claim(keys, claim, list) {
-        Some(n) => cnf::push_simplified(list, n, pairs, literals, at),
+        Some(n) => cnf::push_simplified(&mut list[..n], pairs, literals, at),
         None => at,
     }
 }
