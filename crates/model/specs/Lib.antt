@@ -4,5 +4,4 @@ pub mod Limits
 pub mod Checked
 pub mod Values
 pub mod RecordWords
-pub mod Lent
 pub mod Inner

@@ -12,7 +12,7 @@ ghost use Rattle.aiger.specs.Refusals.{answered};
 ghost use Rattle.model.specs.Circuit.{current_of, next_of};
 ghost use Rattle.model.specs.Limits.{counted};
 ghost use Rattle.model.specs.Checked.{counts_of, Validates};
-ghost use Rattle.model.specs.Lent.{lent_record};
+ghost use Rattle.model.specs.Inner.Lent.{lent_record};
 ghost use Rattle.model.specs.Inner.Marking.{AddsLeaves, AddsGate, AddsGates, Checkable, leaves_of_record, literals_of_record, limited};
 
 use aiger::{Gate, Refusal};

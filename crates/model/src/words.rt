@@ -2,7 +2,7 @@
 ghost use Rattle.std.specs.Prelude.{◌≡◌, ◌<◌};
 ghost use Rattle.lists.specs.Parts.{part};
 ghost use Rattle.model.specs.RecordWords.{latch_count_in, counts_in, latch_in, latches_in, record_in};
-ghost use Rattle.model.specs.Lent.{lent_record};
+ghost use Rattle.model.specs.Inner.Lent.{lent_record};
 
 use crate::{AigerLatch, Counts, LentModel};
 

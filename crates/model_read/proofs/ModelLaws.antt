@@ -12,7 +12,7 @@ use Rattle.text.specs.declared.Cursor.{Cursor}
 use Rattle.aiger.specs.Defined.{defined}
 use Rattle.model.specs.declared.AigerTransition.{AigerTransition}
 use Rattle.model.specs.declared.lent.LentModel.{LentModel}
-use Rattle.model.specs.Lent.{lent_record}
+use Rattle.model.specs.Inner.Lent.{lent_record}
 use Rattle.model.specs.Circuit.{Circuit, circuit_of, leaves_of}
 use Rattle.model.specs.Limits.{well_defined}
 use Rattle.model.specs.Inner.Marking.{Marking, AddsLeaves, leaves_of_record, literals_of_record}

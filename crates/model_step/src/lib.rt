@@ -9,7 +9,7 @@ ghost use Rattle.lists.specs.Words.{triples_of};
 ghost use Rattle.aiger.specs.Gates.{variable, value, gate_from};
 ghost use Rattle.aiger.specs.Refusals.{answered};
 ghost use Rattle.model.specs.Circuit.{circuit_of};
-ghost use Rattle.model.specs.Lent.{lent_record};
+ghost use Rattle.model.specs.Inner.Lent.{lent_record};
 ghost use Rattle.model_step.specs.Step.{assigned, computed, step_values, outcome_under, step_of};
 ghost use Rattle.model_step.specs.Inner.Runnable.{Runnable};
 ghost use Rattle.model_step.specs.Inner.Stored.{held, Becomes, Inside, InsideGate, Readable, readings};

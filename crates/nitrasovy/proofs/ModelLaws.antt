@@ -11,7 +11,7 @@ use Rattle.aiger.specs.declared.Refusal.{Refusal}
 use Rattle.aiger.specs.Refusals.{refusal_number, answered}
 use Rattle.model.specs.declared.AigerTransition.{AigerTransition}
 use Rattle.model.specs.declared.lent.LentModel.{LentModel}
-use Rattle.model.specs.Lent.{lent_record}
+use Rattle.model.specs.Inner.Lent.{lent_record}
 use Rattle.model.specs.Circuit.{Circuit, record_of, no_circuit}
 use Rattle.model.specs.RecordWords.{record_in}
 use Rattle.model_read.specs.Reading.{read_transition, read_of, Reads}

@@ -3,7 +3,7 @@ ghost use Rattle.std.specs.Prelude.{◌≡◌};
 ghost use Rattle.aiger.specs.Refusals.{answered};
 ghost use Rattle.model.specs.RecordWords.{record_in};
 ghost use Rattle.obligation_spec.specs.Calls.{asked_of};
-ghost use Rattle.obligation_check.specs.Questions.{asked_in};
+ghost use Rattle.obligation_check.specs.Inner.Questions.{asked_in};
 ghost use Rattle.obligation.specs.Promise.{buffers_of};
 ghost use Rattle.nitrasovy.specs.Inner.FlatEnums.{flat_sizes};
 ghost use Rattle.nitrasovy.specs.FlatObligations.{RelationFlat, TransducerFlat, TerminalFlat};

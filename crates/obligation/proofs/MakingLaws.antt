@@ -15,10 +15,10 @@ use Rattle.cnf.specs.Inner.Appending.{Appends, Space}
 use Rattle.cnf.proofs.AppendLaws.{appends_then, space-empty, space-less, space-left}
 use Rattle.obligation_spec.specs.Lists.{source_lists, predicate_literal, gate_lists}
 use Rattle.obligation_gates.proofs.SourceLaws.{count}
-use Rattle.obligation_claims.specs.Inner.Claims.{claim_list, state_claims, outcome_claims}
-use Rattle.obligation.specs.declared.making.Claims.{Claims}
-use Rattle.obligation.specs.declared.making.Claims.TheVariants.{States, Outcomes}
-use Rattle.obligation.specs.Inner.Planned.{count_in, words_in, wide_in}
+use Rattle.obligation_claims.specs.Inner.Claims.{claim_list, state_claims, outcome_claims, LowKeys}
+use Rattle.obligation_claims.specs.declared.Claims.{Claims}
+use Rattle.obligation_claims.specs.declared.Claims.TheVariants.{States, Outcomes}
+use Rattle.obligation_claims.specs.Inner.Kinds.{count_in, words_in, wide_in, lists_of}
 use Rattle.obligation_gates.specs.Inner.Encoding.{Bounded}
 use Rattle.obligation.specs.Inner.Appended.{Parts, Claimed, claimed_of, front_lists, claim_lists, all_lists, claim_count, FrontReady, ClaimsReady, empty}
 
@@ -100,18 +100,23 @@ claims-few keys words wide d = go wide (claims_many keys words wide)
     go true e = omega (arith, e, d.few_words)
     go false e = omega (arith, e, d.few_words)
 
-module _ (keys words : List ℕ) (at : ClauseCounts) (s : Space at 1000000) where
-  pub states_space : (wide : Bool) → ClaimsReady (claimed_of keys words wide) → Space at (length words)
-  states_space wide d = space-less at (length words) 1000000 d.few_words s
-
-  pub outcomes_space : (wide : Bool) → ClaimsReady (claimed_of keys words wide) → Space at (length words / 3)
-  outcomes_space wide d = space-less at (length words / 3) 1000000 (omega (arith, d.few_words)) s
-
 -- ---- a plan of the code
 
 pub count_same : (claims : Claims) → count_in claims ≡ claim_count (length (words_in claims)) (wide_in claims)
 count_same (States words) = refl
 count_same (Outcomes words) = refl
+
+pub lists_same : (keys : List ℕ) (claims : Claims) → lists_of keys claims ≡ claim_lists (claimed_of keys (words_in claims) (wide_in claims))
+lists_same keys (States words) = refl
+lists_same keys (Outcomes words) = refl
+
+-- what appending the claims asks
+pub claims-asked : (keys : List ℕ) (claims : Claims) → ClaimsReady (claimed_of keys (words_in claims) (wide_in claims)) → (at : ClauseCounts) → Space at 1000000
+    → Space at (count_in claims) × (length keys ≤ 1024) × LowKeys keys
+claims-asked keys claims d at s =
+    let many : count_in claims ≤ 1000000 =
+    omega (arith, count_same claims, claims_many keys (words_in claims) (wide_in claims), claims-few keys (words_in claims) (wide_in claims) d) in
+    (space-less at (count_in claims) 1000000 many s, omega (arith, d.few_keys), d.low_keys)
 
 -- inputs as the code lends them
 pub bounded_inputs : (p : Parts) → FrontReady p → (is : List ℕ) → is ≡ p.inputs → Bounded is p.relevant p.pairs p.words

@@ -3,16 +3,17 @@
 
 ghost use Rattle.std.specs.Prelude.{◌≡◌};
 ghost use Rattle.obligation_spec.specs.Calls.{circuit, asked_of};
-ghost use Rattle.obligation_check.specs.Questions.{asked_in};
+ghost use Rattle.obligation_check.specs.Inner.Questions.{asked_in};
 ghost use Rattle.obligation.specs.Promise.{buffers_of, Promised, MakesRelation};
 ghost use Rattle.obligation.specs.Inner.Appended.{Asks, ClaimsOf, MakesAll};
 ghost use Rattle.obligation.specs.Inner.ByClaim.{claim_test, claim_clauses};
 
 use aiger::Refusal;
 use cnf::ClauseCounts;
-use making::{Claims, Plan};
+use making::Plan;
 use model::{AigerTransition, LentModel};
 use obligation_check::Question;
+use obligation_claims::Claims;
 
 mod making;
 

@@ -2,20 +2,14 @@
 ghost use Rattle.std.specs.Prelude.{true, ◌≡◌, ◌*◌, ◌≤◌};
 ghost use Rattle.lists.specs.Words.{words_of};
 ghost use Rattle.cnf.specs.Simplified.{simplified};
-ghost use Rattle.cnf.specs.Inner.Appending.{Appends, Space};
-ghost use Rattle.obligation.specs.Inner.Appended.{front_lists, claim_lists, all_lists, FrontReady, ClaimsReady, Ready, Roomy, MakesAll, empty};
-ghost use Rattle.obligation.specs.Inner.Planned.{count_in, parts_in, claimed_in};
+ghost use Rattle.cnf.specs.Inner.Appending.{Appends};
+ghost use Rattle.obligation.specs.Inner.Appended.{front_lists, all_lists, FrontReady, Ready, Roomy, MakesAll, empty};
+ghost use Rattle.obligation.specs.Inner.Planned.{parts_in, claimed_in};
 
 use aiger::Refusal;
 use cnf::ClauseCounts;
 use obligation_check::Question;
-
-// The words of claims: one a state, three an outcome.
-#[derive(Clone, Copy)]
-pub enum Claims<'a> {
-    States(&'a [u64]),
-    Outcomes(&'a [u64]),
-}
+use obligation_claims::Claims;
 
 // What the clauses are made of beside what is asked about: the latches at a source's bits, the claims and the keys of their literals, and
 // the literal of a last clause. The true constant, whose clause is dropped, is none.
@@ -56,26 +50,6 @@ fn append_front(
     obligation_gates::append_ands(question.gates, model.counts.ands, pairs, literals, limited)
 }
 
-// Appends the clauses of the claims.
-fn append_claims(
-    plan: &Plan,
-    pairs: &mut [u64],
-    literals: &mut [u32],
-    at: ClauseCounts,
-) -> ClauseCounts
-    requires { ClaimsReady (claimed_in plan.now) × Space at 1000000 }
-    ensures { Appends (claim_lists (claimed_in plan.now)) at pairs.old literals.old result pairs.new literals.new }
-{
-    match plan.claims {
-        Claims::States(words) => {
-            obligation_claims::append_states(plan.keys, words, pairs, literals, at)
-        }
-        Claims::Outcomes(words) => {
-            obligation_claims::append_outcomes(plan.keys, words, pairs, literals, at)
-        }
-    }
-}
-
 // Appends all clauses of an obligation: a row's end with the claims, a terminal list's with a clause of one literal.
 fn append_all(
     question: &Question,
@@ -87,18 +61,8 @@ fn append_all(
     ensures { Appends (all_lists (parts_in question.now plan.now) (claimed_in plan.now) plan.now.last) empty pairs.old literals.old result pairs.new literals.new }
 {
     let front = append_front(question, plan, pairs, literals);
-    let claimed = append_claims(plan, pairs, literals, front);
+    let claimed = obligation_claims::append_claims(plan.keys, plan.claims, pairs, literals, front);
     obligation_gates::push_literal(plan.last, pairs, literals, claimed)
-}
-
-// How many claims there are.
-fn claim_count(claims: Claims) -> usize
-    ensures { result ≡ count_in claims.entry }
-{
-    match claims {
-        Claims::States(words) => words.len(),
-        Claims::Outcomes(words) => words.len() / 3,
-    }
 }
 
 // Whether the room suffices for every obligation of so many parts. A predicate has at most 1,024 literals, a gate's clauses have seven.
@@ -157,7 +121,7 @@ pub fn make(
         question.predicate_pairs.len() / 2,
         question.model.counts.ands,
         plan.keys.len(),
-        claim_count(plan.claims),
+        plan.claims.count(),
         pairs.len(),
         literals.len(),
     ) {

@@ -5,8 +5,8 @@ ghost use Rattle.std.specs.Prelude.{◌≡◌, ◌+◌, ◌*◌, ◌/◌, ◌≤
 ghost use Rattle.lists.specs.Tests.{all};
 ghost use Rattle.obligation_spec.specs.Lists.{outcomes_of};
 ghost use Rattle.obligation_spec.specs.Limits.{before, rising_outcomes};
-ghost use Rattle.model.specs.Lent.{lent_record};
-ghost use Rattle.obligation_check.specs.Questions.{asked_in};
+ghost use Rattle.model.specs.Inner.Lent.{lent_record};
+ghost use Rattle.obligation_check.specs.Inner.Questions.{asked_in};
 ghost use Rattle.obligation_check.specs.Inner.Boundary.{indexes, predicate_holds, Bounds, IsState, ClaimsStates, ClaimsOutcomes, no_outcome, outcome_fits, Checks};
 
 use aiger::Refusal;

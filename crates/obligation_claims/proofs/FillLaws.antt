@@ -1,5 +1,6 @@
 -- A claim's literals, and the loop that fills a list with their words.
 use Prim.Native.Nat.{ℕ, zero, suc, ◌+◌, ◌-◌, ◌/◌, ◌%◌, ◌≤◌, ◌<◌, ◌^◌}
+use Rattle.std.specs.Prelude.{Some, None}
 use mathlib.Core.Path.{◌≡◌, refl, sym, ap, ap₂, ◌∙◌}
 use mathlib.Core.Bool.{Bool, true, false, not, ◌||◌, or-true}
 use mathlib.Core.List.{List, [], ◌∷◌, ◌++◌, map, map-append, append-nil}
@@ -11,29 +12,33 @@ use lib.Seq.{take_all, take-suc-set}
 use borrow.Author.Tests.{eq-eqb, ne_eqb}
 use Rattle.lists.specs.Bits.{bit}
 use Rattle.lists.specs.Sets.{member, holds}
-use Rattle.lists.proofs.BitLaws.{odd-bit}
+use Rattle.lists.proofs.BitLaws.{odd-bit, bit_lt}
 use Rattle.lists.proofs.MapLaws.{map_at}
 use Rattle.lists.proofs.OnceLaws.{member_append}
 use Rattle.lists.proofs.RestLaws.{take_next}
-use Rattle.lists.proofs.TestLaws.{each_map, each-so}
+use Rattle.lists.proofs.TestLaws.{each_map, each-so, each_at}
 use Rattle.cnf.specs.Simplified.{cnf_word, without_false}
 use Rattle.cnf.specs.Inner.Appending.{Filled, Narrow}
 use Rattle.cnf.proofs.SignLaws.{opposite-is, without_append}
 use Rattle.obligation_spec.specs.Lists.{valued}
-use Rattle.std.specs.Prelude.{Some, None}
 use Rattle.obligation_claims.specs.Inner.Claims.{claim_list, LowKeys}
 use Rattle.obligation_claims.specs.Inner.Filling.{Fills}
 
 -- ---- claim_literal
 
-module _ (ws : List ℕ) (k : ℕ) where
-  pub bit-inside : get_or ws (k / 64) 0 / 2 ^ (k % 64) % 2 ≡ bit (holds ws k)
-  unfolding holds
-  bit-inside = sym (odd-bit (get_or ws (k / 64) 0 / 2 ^ (k % 64)))
+pub bit-is : (ws : List ℕ) (k : ℕ) → get_or ws (k / 64) 0 / 2 ^ (k % 64) % 2 ≡ bit (holds ws k)
+unfolding holds
+bit-is ws k = sym (odd-bit (get_or ws (k / 64) 0 / 2 ^ (k % 64)))
+
+pub bit-low : (ws : List ℕ) (k b : ℕ) → b ≡ bit (holds ws k) → b < 2
+bit-low ws k b e = rw e (bit_lt (holds ws k))
 
 turned : (l : ℕ) (b : Bool) → l - l % 2 + (l + bit b) % 2 ≡ valued l (not b)
 turned l true = sym (opposite-is l ∙ omega arith)
 turned l false = omega arith
+
+pub literal_turned : (key j : ℕ) (claim : List ℕ) (b : ℕ) → j ≡ key % 256 → b ≡ bit (holds claim j) → key / 256 - key / 256 % 2 + (key / 256 + b) % 2 ≡ valued (key / 256) (not (holds claim (key % 256)))
+literal_turned key j claim b f e = rw (e, f) (turned (key / 256) (holds claim (key % 256)))
 
 -- the literal of a low key has 32 bits
 pub literal-narrow : (key : ℕ) (b : Bool) → key < 2 ^ 39 → valued (key / 256) b < 2 ^ 32
@@ -58,9 +63,11 @@ member-at x (l ∷ ls) (suc i) h e = rw (member-at x ls i (omega arith) e) (or-t
 -- the words of the first i literals stand in the first n places
 pub record Filling (ls list₀ list : List ℕ) (i n : ℕ) : Type 0 where
   pub filled : Filled (take i ls) list n
-  pub passed : i ≤ length ls
   pub behind : n ≤ i
   pub same : length list ≡ length list₀
+
+pub filling-none : (ls list : List ℕ) → Filling ls list list 0 0
+filling-none ls list = record { filled = record { untrue = refl; count = refl; words = refl }; behind = omega arith; same = refl }
 
 module _ (ls list₀ list : List ℕ) (i n : ℕ) (k : Filling ls list₀ list i n) where
   pub filling-done : length ls ≤ i → Fills ls (Some n) list
@@ -95,7 +102,6 @@ module _ (ls list₀ list : List ℕ) (i n : ℕ) (k : Filling ls list₀ list i
                 count = k.filled.count ∙ ap length (sym w);
                 words = k.filled.words ∙ ap (map cnf_word) (sym w);
               };
-          passed = omega arith;
           behind = omega (arith, k.behind);
           same = k.same;
         }
@@ -116,13 +122,15 @@ module _ (ls list₀ list : List ℕ) (i n : ℕ) (k : Filling ls list₀ list i
                     ∙ ap₂ (λ (a : List ℕ) (b : ℕ). a ++ b ∷ []) k.filled.words (f ∙ ap cnf_word q)
                     ∙ sym (ap (map cnf_word) w ∙ map-append cnf_word (without_false (take i ls)) (get_or ls i 0 ∷ []));
               };
-          passed = omega arith;
           behind = omega (arith, k.behind);
           same = length-set list n x ∙ k.same;
         }
 
 -- as the code reads a claim's literals
 module _ (keys claim list₀ list : List ℕ) (i n : ℕ) (k : Filling (claim_list keys claim) list₀ list i n) where
+  pub claiming_done : length keys ≤ i → Fills (claim_list keys claim) (Some n) list
+  claiming_done h = filling-done (claim_list keys claim) list₀ list i n k (rw (claim_length keys claim) h)
+
   module _ (h : i < length keys) (v : ℕ) (e : v ≡ valued (get_or keys i 0 / 256) (not (holds claim (get_or keys i 0 % 256)))) where
     inside : i < length (claim_list keys claim)
     inside = rw (claim_length keys claim) h
@@ -138,3 +146,6 @@ module _ (keys claim list₀ list : List ℕ) (i n : ℕ) (k : Filling (claim_li
 
     pub claiming_word : (x : ℕ) → 2 ≤ v → x ≡ cnf_word v → length keys ≤ length list₀ → Filling (claim_list keys claim) list₀ (set list n x) (i + 1) (n + 1)
     claiming_word x f g room = filling-word (claim_list keys claim) list₀ list i n k inside v x is f g (omega (arith, k.behind, k.same))
+
+pub key-low : (keys : List ℕ) → LowKeys keys → (i : ℕ) → i < length keys → get_or keys i 0 < 2 ^ 39
+key-low keys e i h = each_at (λ key. key < 2 ^ 39) keys i 0 e h

@@ -5,12 +5,13 @@ use mathlib.Core.List.{List, [], ◌∷◌, ◌++◌, map}
 use native.Mathlib.Nat.{zero-add}
 use native.Mathlib.Omega.{arith}
 use lib.ListN.{length, get_or, take, drop, set, length-map, length-append, length-take, length-drop}
-use lib.Seq.{take_at}
+use lib.Seq.{take_at, length-take-le}
 use Rattle.lists.specs.Parts.{part, put}
 use Rattle.lists.proofs.MapLaws.{map_at}
 use Rattle.lists.proofs.PartLaws.{Copied, copied_none, copied_more, copied-done, put-put, part-drop}
 use Rattle.lists.proofs.TestLaws.{each_append, each_take}
 use Rattle.word_sort.specs.Inner.Sorted.{sorted}
+use Rattle.word_sort.proofs.SortedLaws.{sorted-length}
 use Rattle.obligation_claims.specs.Inner.Claims.{keys_from, observed_keys, outcome_keys, LowKeys, LowLiterals}
 use Rattle.obligation_claims.specs.Inner.Filling.{InOrder}
 
@@ -57,9 +58,9 @@ module _ (outputs observed o₀ : List ℕ) where
   picking_none h = copied_none o₀ 0 (picked outputs observed) (omega (arith, length-map observed (λ i. get_or outputs i 0)))
 
   module _ (o : List ℕ) (i : ℕ) (k : Copied o₀ 0 (picked outputs observed) o i) where
-    pub picking_more : (v : ℕ) → v ≡ get_or outputs (get_or observed i 0) 0 → i < length observed → Copied o₀ 0 (picked outputs observed) (set o i v) (i + 1)
-    picking_more v f h =
-        let n : get_or (picked outputs observed) i 0 ≡ v = map_at (λ i. get_or outputs i 0) observed i 0 0 h ∙ sym f in
+    pub picking_more : (j v : ℕ) → j ≡ get_or observed i 0 → v ≡ get_or outputs j 0 → i < length observed → Copied o₀ 0 (picked outputs observed) (set o i v) (i + 1)
+    picking_more j v e f h =
+        let n : get_or (picked outputs observed) i 0 ≡ v = map_at (λ i. get_or outputs i 0) observed i 0 0 h ∙ ap (λ (x : ℕ). get_or outputs x 0) (sym e) ∙ sym f in
         let c : Copied o₀ 0 (picked outputs observed) (set o (0 + i) (get_or (picked outputs observed) i 0)) (i + 1) =
         copied_more o₀ 0 (picked outputs observed) o i k 0 (omega (arith, length-map observed (λ i. get_or outputs i 0))) in
         rw (zero-add i, n) at c
@@ -135,6 +136,11 @@ outcome-low nexts observed h k e f =
     (keys-low 0 nexts (omega arith) e)
     (observed-low observed k f)
 
+-- the part `&mut keys[..n]`, sorted and given back
+pub sorted_front : (o part : List ℕ) (n : ℕ) → n ≤ length o → part ≡ sorted (take n o) → take n (part ++ drop n o) ≡ sorted (take n o)
+sorted_front o part n h p =
+    take_at part (drop n o) n (ap length p ∙ sorted-length (take n o) ∙ length-take-le n o h) ∙ p
+
 -- keys written to the front, and the first n words sorted
 module _ (o keys w s : List ℕ) (n : ℕ) (e : w ≡ put o 0 keys) (m : n ≡ length keys) where
   pub in_order_lem : length s ≡ length w → n ≤ length w → take n s ≡ sorted (take n w) → InOrder keys n s
@@ -166,3 +172,12 @@ module _ (outputs observed lits : List ℕ) where
         let q : w ≡ put o 0 (outcome_keys nexts (picked outputs observed)) = rw e at f in
         let z : n ≡ length (outcome_keys nexts (picked outputs observed)) = omega (arith, outcome-length nexts (picked outputs observed), picked_length outputs observed) in
         in_order_lem o (outcome_keys nexts (picked outputs observed)) w s n q z same (omega arith) p
+
+-- fewer than two keys are in order
+pub sorted-few : (l : List ℕ) → length l < 2 → l ≡ sorted l
+sorted-few [] h = refl
+sorted-few (x ∷ []) h = refl
+sorted-few (x ∷ y ∷ l) h = absurd (omega arith)
+
+pub few_in_order : (o : List ℕ) (n : ℕ) → n < 2 → take n o ≡ sorted (take n o)
+few_in_order o n h = sorted-few (take n o) (rw (length-take n o) (omega arith))

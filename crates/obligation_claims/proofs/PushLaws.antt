@@ -1,13 +1,13 @@
 -- How the clause of a claim, and those of all claims, are appended.
 use Prim.Native.Nat.{ℕ, zero, suc, ◌+◌, ◌-◌, ◌*◌, ◌/◌, ◌%◌, ◌≤◌, ◌<◌, ◌^◌}
+use Rattle.std.specs.Prelude.{Option, None}
 use mathlib.Core.Path.{◌≡◌, refl, sym, ◌∙◌}
 use mathlib.Core.Bool.{not}
-use mathlib.Core.Logic.{inl, inr}
 use mathlib.Core.List.{List, [], ◌∷◌}
 use native.Mathlib.Nat.{zero-add}
 use native.Mathlib.Omega.{arith}
 use lib.ListN.{length, get_or, take, drop, set, length-map}
-use Rattle.lists.specs.Parts.{put, part}
+use Rattle.lists.specs.Parts.{put}
 use Rattle.lists.specs.Sets.{holds}
 use Rattle.lists.specs.Tests.{Each}
 use Rattle.lists.proofs.MapLaws.{map_at}
@@ -17,15 +17,17 @@ use Rattle.lists.proofs.TestLaws.{each_append}
 use Rattle.lists.proofs.WordLaws.{triples_at, triples_count}
 use Rattle.cnf.specs.declared.ClauseCounts.{ClauseCounts}
 use Rattle.cnf.specs.Simplified.{simplified}
-use Rattle.cnf.specs.Inner.Appending.{Appends, Filled, Narrow, NarrowWords}
-use Rattle.cnf.proofs.AppendLaws.{appends-same, appends-dropped, appends-next}
+use Rattle.cnf.specs.Inner.Appending.{Appends, Space, Filled, Narrow, NarrowWords}
+use Rattle.cnf.proofs.AppendLaws.{appends-same, appends-dropped, appends-next, appends-end, space-next}
 use Rattle.cnf.proofs.ShortLaws.{simplified-filled, simplified_one_true}
 use Rattle.cnf.proofs.SignLaws.{length_without}
 use Rattle.cnf.proofs.SimplifyLaws.{filled-narrow}
 use Rattle.obligation_spec.specs.Lists.{valued}
-use Rattle.std.specs.Prelude.{Option, None}
-use Rattle.obligation_claims.specs.Inner.Claims.{claim_list, state_claims, outcome_claims, LowKeys}
-use Rattle.obligation_claims.specs.Inner.Filling.{Fills, Claims}
+use Rattle.obligation_claims.specs.Inner.Claims.{claim_list, LowKeys}
+use Rattle.obligation_claims.specs.declared.Claims.{Claims}
+use Rattle.obligation_claims.specs.declared.Claims.TheVariants.{States, Outcomes}
+use Rattle.obligation_claims.specs.Inner.Kinds.{count_in, claim_at, lists_of}
+use Rattle.obligation_claims.specs.Inner.Filling.{Fills, Fits}
 use Rattle.obligation_claims.proofs.FillLaws.{claim_length, claim_narrow}
 
 -- ---- push_few: at most three literals, filled up with false constants
@@ -88,55 +90,38 @@ module _ (keys claim list : List ℕ) (n : ℕ) (f : Filled (claim_list keys cla
 
 -- ---- all claims
 
--- the clauses of the first i claims were appended, and the list in which clauses are made is as long as it was
-pub record Pushing (lists : List (List ℕ)) (at : ClauseCounts) (list₀ pairs₀ words₀ : List ℕ) (at' : ClauseCounts) (list pairs words : List ℕ) (i : ℕ) : Type 0 where
-  pub appends : Appends (take i lists) at pairs₀ words₀ at' pairs words
-  pub passed : i ≤ length lists
-  pub same_list : length list ≡ length list₀
-  pub same_pairs : length pairs ≡ length pairs₀
-  pub same_words : length words ≡ length words₀
-
-module _ (at : ClauseCounts) (list₀ pairs₀ words₀ keys claims : List ℕ) (size : ℕ) (c : Claims keys claims size) (at' : ClauseCounts) (list pairs words : List ℕ) (i : ℕ) (k : Pushing c.lists at list₀ pairs₀ words₀ at' list pairs words i) where
-  pub pushing-more : i < length claims / size → (at'' : ClauseCounts) (list' pairs' words' : List ℕ)
-      → Appends (claim_list keys (part claims (size * i) (size * i + size)) ∷ []) at' pairs words at'' pairs' words'
-      → length list' ≡ length list → length pairs' ≡ length pairs → length words' ≡ length words → Pushing c.lists at list₀ pairs₀ words₀ at'' list' pairs' words' (i + 1)
-  pushing-more h at'' list' pairs' words' g a b d =
-      record {
-        appends = appends-next c.lists i at at' at'' pairs₀ words₀ pairs words pairs' words' [] (omega (arith, c.count)) k.appends (rw (c.each i h) g);
-        passed = omega (arith, c.count);
-        same_list = a ∙ k.same_list;
-        same_pairs = b ∙ k.same_pairs;
-        same_words = d ∙ k.same_words;
-      }
+-- few keys need no list
+pub fits-few : (keys : List ℕ) (n : ℕ) → length keys ≤ 3 → LowKeys keys → Fits keys n
+fits-few keys n h e = record { low = e; short = omega arith; list_fits = λ k. absurd (omega arith) }
 
 -- the words of one claim, as the code cuts them
-pub one_word : (states : List ℕ) (i : ℕ) → i < length states → part states (1 * i) (1 * i + 1) ≡ get_or states i 0 ∷ []
-one_word states i h =
-    let a : 1 * i ≡ i = omega arith in
-    let e : i + 1 - i ≡ 1 = omega arith in
-    rw (a, e, rest_more states i 0 h) refl
+pub one_word : (states : List ℕ) (i : ℕ) → i < length states → take (i + 1 - i) (drop i states) ≡ get_or states i 0 ∷ []
+one_word states i h = let e : i + 1 - i ≡ 1 = omega arith in rw (e, rest_more states i 0 h) refl
 
-pub three_words : (words : List ℕ) (at : ℕ) → at + 2 < length words → part words at (at + 3) ≡ get_or words at 0 ∷ get_or words (at + 1) 0 ∷ get_or words (at + 2) 0 ∷ []
+pub three_words : (words : List ℕ) (at : ℕ) → at + 2 < length words → take (at + 3 - at) (drop at words) ≡ get_or words at 0 ∷ get_or words (at + 1) 0 ∷ get_or words (at + 2) 0 ∷ []
 three_words words at h =
     let e : at + 3 - at ≡ 3 = omega arith in
     let n : at + 1 + 1 ≡ at + 2 = omega arith in
     rw (e, rest_more words at 0 (omega arith), rest_more words (at + 1) 0 (omega arith), n, rest_more words (at + 2) 0 h) refl
 
 module _ (keys : List ℕ) where
-  abbrev pub states-are : (states : List ℕ) → Claims keys states 1
-  states-are states =
-      record {
-        sizes = inl refl;
-        lists = state_claims keys states;
-        count = length-map states (λ s. claim_list keys (s ∷ [])) ∙ omega arith;
-        each = λ i h. map_at (λ s. claim_list keys (s ∷ [])) states i 0 [] (omega arith) ∙ rw (one_word states i (omega arith)) refl;
-      }
+  pub lists_count : (claims : Claims) → length (lists_of keys claims) ≡ count_in claims
+  lists_count (States words) = length-map words.now (λ s. claim_list keys (s ∷ []))
+  lists_count (Outcomes words) = triples_count (λ t h l. claim_list keys (t ∷ h ∷ l ∷ [])) words.now
 
-  abbrev pub outcomes-are : (words : List ℕ) → Claims keys words 3
-  outcomes-are words =
-      record {
-        sizes = inr refl;
-        lists = outcome_claims keys words;
-        count = triples_count (λ t h l. claim_list keys (t ∷ h ∷ l ∷ [])) words;
-        each = λ i h. triples_at (λ t h l. claim_list keys (t ∷ h ∷ l ∷ [])) words i 0 [] (omega arith) ∙ rw (three_words words (3 * i) (omega arith)) refl;
-      }
+  lists_at : (claims : Claims) (i : ℕ) → i < count_in claims → get_or (lists_of keys claims) i [] ≡ claim_list keys (claim_at claims i)
+  lists_at (States words) i h = map_at (λ s. claim_list keys (s ∷ [])) words.now i 0 [] h ∙ rw (one_word words.now i h) refl
+  lists_at (Outcomes words) i h =
+      triples_at (λ t h l. claim_list keys (t ∷ h ∷ l ∷ [])) words.now i 0 [] (omega arith) ∙ rw (three_words words.now (3 * i) (omega arith)) refl
+
+  module _ (claims : Claims) (at : ClauseCounts) (pairs₀ words₀ : List ℕ) (at' : ClauseCounts) (pairs words : List ℕ) (i : ℕ) (g : Appends (take i (lists_of keys claims)) at pairs₀ words₀ at' pairs words) where
+    pub claims-space : i < count_in claims → Space at (count_in claims) → Space at' 1
+    claims-space h s = space-next (lists_of keys claims) i at pairs₀ words₀ at' pairs words (rw (lists_count claims) h) g (rw (lists_count claims) s)
+
+    pub claims-next : i < count_in claims → (claim : List ℕ) → claim ≡ claim_at claims i → (at'' : ClauseCounts) (pairs' words' : List ℕ)
+        → Appends (claim_list keys claim ∷ []) at' pairs words at'' pairs' words' → Appends (take (i + 1) (lists_of keys claims)) at pairs₀ words₀ at'' pairs' words'
+    claims-next h claim e at'' pairs' words' k =
+        appends-next (lists_of keys claims) i at at' at'' pairs₀ words₀ pairs words pairs' words' [] (rw (lists_count claims) h) g (rw (lists_at claims i h, ← e) k)
+
+    pub claims-end : count_in claims ≤ i → Appends (lists_of keys claims) at pairs₀ words₀ at' pairs words
+    claims-end h = appends-end (lists_of keys claims) i at at' at' pairs₀ words₀ pairs words pairs words (rw (lists_count claims) h) g

@@ -11,18 +11,49 @@ ghost use Rattle.lists.specs.Sets.{holds};
 ghost use Rattle.word_sort.specs.Inner.Sorted.{sorted};
 ghost use Rattle.cnf.specs.Inner.Appending.{Appends, Space};
 ghost use Rattle.obligation_spec.specs.Lists.{valued};
-ghost use Rattle.obligation_claims.specs.Inner.Claims.{keys_from, observed_keys, outcome_keys, claim_list, state_claims, outcome_claims, LowKeys, LowLiterals};
-ghost use Rattle.obligation_claims.specs.Inner.Filling.{InOrder, Fills, Fits, Claims};
+ghost use Rattle.obligation_claims.specs.Inner.Claims.{keys_from, observed_keys, outcome_keys, claim_list, LowKeys, LowLiterals};
+ghost use Rattle.obligation_claims.specs.Inner.Kinds.{count_in, claim_at, lists_of};
+ghost use Rattle.obligation_claims.specs.Inner.Filling.{InOrder, Fills, Fits};
 
 use cnf::ClauseCounts;
+
+// Claims as their words: one a state, three an outcome (target, high, low).
+#[derive(Clone, Copy)]
+pub enum Claims<'a> {
+    States(&'a [u64]),
+    Outcomes(&'a [u64]),
+}
+
+impl<'a> Claims<'a> {
+    // How many claims there are.
+    pub fn count(self) -> usize
+        ensures { result ≡ count_in self.entry }
+    {
+        match self {
+            Claims::States(words) => words.len(),
+            Claims::Outcomes(words) => words.len() / 3,
+        }
+    }
+
+    // The words of the claim at a place.
+    fn claim(self, i: usize) -> &'a [u64]
+        requires { i < count_in self }
+        ensures { result.now ≡ claim_at self.entry i }
+    {
+        match self {
+            Claims::States(words) => &words[i..i + 1],
+            Claims::Outcomes(words) => &words[3 * i..3 * i + 3],
+        }
+    }
+}
 
 // Writes the keys of the literals, whose bits begin at `place`.
 fn add_keys(literals: &[u64], place: u64, keys: &mut [u64], at: usize)
     requires { (at + length literals.now ≤ length keys.old) × (place + length literals.now ≤ 256) × LowLiterals literals.now }
     ensures { keys.new ≡ put keys.old at (keys_from place literals.now) }
 {
-    for i in 0..literals.len() {
-        keys[at + i] = 256 * literals[i] + (place + i as u64);
+    for (i, literal) in literals.iter().enumerate() {
+        keys[at + i] = 256 * *literal + (place + i as u64);
     }
 }
 
@@ -31,8 +62,8 @@ fn observed_literals(outputs: &[u64], observed: &[u64], out: &mut [u64])
     requires { length observed.now ≤ length out.old }
     ensures { out.new ≡ put out.old 0 (map (λ i. get_or outputs.now i 0) observed.now) }
 {
-    for i in 0..observed.len() {
-        out[i] = lists::word(outputs, observed[i] as usize);
+    for (i, index) in observed.iter().enumerate() {
+        out[i] = lists::word(outputs, *index as usize);
     }
 }
 
@@ -58,9 +89,12 @@ fn add_outcome_keys(nexts: &[u64], literals: &[u64], keys: &mut [u64])
 
 // Puts the first n keys in order.
 fn sort_first(keys: &mut [u64], n: usize)
-    requires { n ≤ length keys.old }
+    requires { (n ≤ 136) × (n ≤ length keys.old) }
     ensures { take n keys.new ≡ sorted (take n keys.old) }
 {
+    if n < 2 {
+        return;
+    }
     word_sort::sort(&mut keys[..n]);
 }
 
@@ -105,19 +139,20 @@ fn claim_literal(key: u64, claim: &[u64]) -> u64
     literal - literal % 2 + (literal + turn) % 2
 }
 
-// Fills the list with the words of a claim's clause, false constants left out, and says how many there are; none where a literal is the true constant.
+// Fills the list with the words of a claim's clause, false constants left out, and says how many; none where a literal is the true one.
 fn fill_claim(keys: &[u64], claim: &[u64], list: &mut [u64]) -> Option<usize>
     requires { (length keys.now ≤ length list.old) × LowKeys keys.now }
     ensures { Fills (claim_list keys.now claim.now) result list.new }
 {
     let mut n = 0;
-    for i in 0..keys.len() {
-        let literal = claim_literal(keys[i], claim);
-        if literal >= 2 {
+    for key in keys {
+        let literal = claim_literal(*key, claim);
+        if literal == 1 {
+            return None;
+        }
+        if 2 <= literal {
             list[n] = cnf::word(literal);
             n += 1;
-        } else if literal == 1 {
-            return None;
         }
     }
     Some(n)
@@ -135,8 +170,8 @@ fn push_few(
     ensures { Appends (claim_list keys.now claim.now ∷ []) at pairs.old literals.old result pairs.new literals.new }
 {
     let mut clause = [0; 3];
-    for i in 0..keys.len() {
-        clause[i] = claim_literal(keys[i], claim);
+    for (i, key) in keys.iter().enumerate() {
+        clause[i] = claim_literal(*key, claim);
     }
     cnf::push_short(clause, pairs, literals, at)
 }
@@ -162,71 +197,41 @@ fn push_claim(
     }
 }
 
-// Appends the clauses of claims of `size` words each.
+// Appends the clauses of claims, each made in the lent list.
 fn push_claims(
     keys: &[u64],
-    words: &[u64],
-    size: usize,
+    claims: Claims,
     list: &mut [u64],
     pairs: &mut [u64],
     literals: &mut [u32],
     at: ClauseCounts,
 ) -> ClauseCounts
-    requires { Claims keys.now words.now size × Space at (length words.now / size) × Fits keys.now (length list.old) }
-    ensures { (claims : Claims keys.now words.now size) → Appends claims.lists at pairs.old literals.old result pairs.new literals.new }
+    requires { Space at (count_in claims) × Fits keys.now (length list.old) }
+    ensures { Appends (lists_of keys.now claims.entry) at pairs.old literals.old result pairs.new literals.new }
 {
     let mut appended = at;
-    for i in 0..words.len() / size {
-        let claim = &words[size * i..size * i + size];
-        appended = push_claim(keys, claim, list, pairs, literals, appended);
+    for i in 0..claims.count() {
+        appended = push_claim(keys, claims.claim(i), list, pairs, literals, appended);
     }
     appended
 }
 
-// The same by the keys in order. A clause of four literals or more is made simple in a local list (R3.5), and then written.
-fn append_claims(
+// Appends the clauses of claims, by the keys in order. A clause of four literals or more is made simple in a local list (R3.5), and then
+// written.
+pub fn append_claims(
     keys: &[u64],
-    words: &[u64],
-    size: usize,
+    claims: Claims,
     pairs: &mut [u64],
     literals: &mut [u32],
     at: ClauseCounts,
 ) -> ClauseCounts
-    requires { Claims keys.now words.now size × Space at (length words.now / size) × (length keys.now ≤ 1024) × LowKeys keys.now }
-    ensures { (claims : Claims keys.now words.now size) → Appends claims.lists at pairs.old literals.old result pairs.new literals.new }
+    requires { Space at (count_in claims) × (length keys.now ≤ 1024) × LowKeys keys.now }
+    ensures { Appends (lists_of keys.now claims.entry) at pairs.old literals.old result pairs.new literals.new }
 {
     if keys.len() <= 3 {
         let mut none = [0; 1];
-        return push_claims(keys, words, size, &mut none, pairs, literals, at);
+        return push_claims(keys, claims, &mut none, pairs, literals, at);
     }
     let mut list = [0; 1024];
-    push_claims(keys, words, size, &mut list, pairs, literals, at)
-}
-
-// Appends the clauses of claimed states, one word each.
-pub fn append_states(
-    keys: &[u64],
-    states: &[u64],
-    pairs: &mut [u64],
-    literals: &mut [u32],
-    at: ClauseCounts,
-) -> ClauseCounts
-    requires { Space at (length states.now) × (length keys.now ≤ 1024) × LowKeys keys.now }
-    ensures { Appends (state_claims keys.now states.now) at pairs.old literals.old result pairs.new literals.new }
-{
-    append_claims(keys, states, 1, pairs, literals, at)
-}
-
-// Appends the clauses of claimed outcomes, three words each.
-pub fn append_outcomes(
-    keys: &[u64],
-    words: &[u64],
-    pairs: &mut [u64],
-    literals: &mut [u32],
-    at: ClauseCounts,
-) -> ClauseCounts
-    requires { Space at (length words.now / 3) × (length keys.now ≤ 1024) × LowKeys keys.now }
-    ensures { Appends (outcome_claims keys.now words.now) at pairs.old literals.old result pairs.new literals.new }
-{
-    append_claims(keys, words, 3, pairs, literals, at)
+    push_claims(keys, claims, &mut list, pairs, literals, at)
 }

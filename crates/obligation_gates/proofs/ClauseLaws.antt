@@ -17,7 +17,7 @@ use Rattle.lists.proofs.WordLaws.{pairs-count, pairs-at, twice}
 use Rattle.cnf.specs.declared.ClauseCounts.{ClauseCounts}
 use Rattle.cnf.specs.Clauses.{clauses_in}
 use Rattle.cnf.specs.Inner.Appending.{Appends, Space}
-use Rattle.cnf.proofs.AppendLaws.{appends-next, appends-end, space-next}
+use Rattle.cnf.proofs.AppendLaws.{appends-none, appends-next, appends-end, space-next}
 use Rattle.obligation_spec.specs.Lists.{predicate_literal}
 use Rattle.obligation_check.specs.Inner.Boundary.{indexes}
 use Rattle.obligation_gates.specs.Inner.Encoding.{Clausal, Bounded}
@@ -55,6 +55,10 @@ module _ (inputs relevant pairs words : List ℕ) where
 
   pub lists-count : length clause_lists ≡ length pairs / 2
   lists-count = length-map (clauses_in words pairs) (map (predicate_literal inputs relevant)) ∙ pairs-count (λ offset size. take size (drop offset words)) pairs
+
+  -- no pair: no clause
+  pub clauses-none : length pairs < 2 → (at : ClauseCounts) (p w : List ℕ) → Appends clause_lists at p w at p w
+  clauses-none h at p w = appends-end clause_lists 0 at at at p w p w p w (omega (arith, lists-count)) (appends-none at p w)
 
   -- the pair at i has this offset and this length
   module _ (i start size : ℕ) (h : i < length pairs / 2) (first : start ≡ get_or pairs (2 * i) 0) (second : size ≡ get_or pairs (2 * i + 1) 0) where

@@ -21,6 +21,11 @@ use Rattle.obligation_spec.specs.Lists.{gate_lists}
 use Rattle.obligation_gates.specs.Inner.Encoding.{LowGate, gate_arrays}
 use Rattle.obligation_gates.proofs.PredicateLaws.{opposite-low}
 
+-- the arrays as the code makes them
+pub arrays_are : (g : Gate) (x y z : ℕ) → x ≡ opposite g.output → y ≡ opposite g.left → z ≡ opposite g.right
+    → ((x ∷ g.left ∷ 0 ∷ []) ∷ (x ∷ g.right ∷ 0 ∷ []) ∷ (g.output ∷ y ∷ z ∷ []) ∷ []) ≡ gate_arrays g
+arrays_are g x y z e f h = rw (e, f, h) refl
+
 -- the clauses of the arrays, one after the other
 module _ (g : Gate) (arrays : List (List ℕ)) (is : arrays ≡ gate_arrays g) where
   module _ (low : LowGate g) where
@@ -62,14 +67,14 @@ gate_at ws i = gate_from (get_or ws (3 * i) 0) (get_or ws (3 * i + 1) 0) (get_or
 abbrev no_gate : Gate
 no_gate = gate_from 0 0 0
 
-module _ (ws : List ℕ) (count i : ℕ) (room : 3 * count ≤ length ws) (h : i < count) where
-  gate_is : get_or (triples_of gate_from ws) i no_gate ≡ gate_at ws i
-  gate_is = triples_at gate_from ws i 0 no_gate (omega arith)
+module _ (ws : List ℕ) (count i : ℕ) (room : 3 * count ≤ length ws) (h : i < count) (a : Gate) (is : a ≡ gate_at ws i) where
+  gate_is : get_or (triples_of gate_from ws) i no_gate ≡ a
+  gate_is = triples_at gate_from ws i 0 no_gate (omega arith) ∙ sym is
 
   inside : i < length (triples_of gate_from ws)
   inside = rw (triples_count gate_from ws) (omega arith)
 
-  pub gate_low : Each LowGate (take count (triples_of gate_from ws)) → LowGate (gate_at ws i)
+  pub gate_low : Each LowGate (take count (triples_of gate_from ws)) → LowGate a
   gate_low e =
       let k : i < length (take count (triples_of gate_from ws)) =
       rw (length-take-le count (triples_of gate_from ws) (rw (triples_count gate_from ws) (omega arith))) h in
@@ -82,6 +87,6 @@ module _ (ws : List ℕ) (count i : ℕ) (room : 3 * count ≤ length ws) (h : i
         words-length gate_lists 3 (λ x. refl) (take i (triples_of gate_from ws)) ∙ ap (λ (k : ℕ). 3 * k) (length-take-le i (triples_of gate_from ws) (omega (arith, inside))) in
         space-left (words_of gate_lists (take i (triples_of gate_from ws))) a₁ p₁ w₁ a₂ p₂ w₂ g 3 (3 * count) (omega arith) s
 
-    pub gate_next : (a₃ : ClauseCounts) (p₃ w₃ : List ℕ) → Appends (gate_lists (gate_at ws i)) a₂ p₂ w₂ a₃ p₃ w₃
+    pub gate_next : (a₃ : ClauseCounts) (p₃ w₃ : List ℕ) → Appends (gate_lists a) a₂ p₂ w₂ a₃ p₃ w₃
         → Appends (words_of gate_lists (take (i + 1) (triples_of gate_from ws))) a₁ p₁ w₁ a₃ p₃ w₃
     gate_next a₃ p₃ w₃ k = appends_item gate_lists (triples_of gate_from ws) i a₁ a₂ a₃ p₁ w₁ p₂ w₂ p₃ w₃ no_gate inside g (rw gate_is k)

@@ -25,7 +25,7 @@ use Rattle.cnf.proofs.MemberLaws.{simplified_members}
 use Rattle.cnf.proofs.SimplifyLaws.{filled-narrow, filled-part}
 use Rattle.obligation_spec.specs.Lists.{predicate_literal}
 use Rattle.obligation_gates.specs.Inner.Encoding.{Clausal, FilledAs}
-use Rattle.obligation_gates.proofs.PredicateLaws.{coded, literal-narrow, filled}
+use Rattle.obligation_gates.proofs.PredicateLaws.{coded, literal-some, literal-narrow, filled}
 
 -- the first i words of the clause were seen, and the list has n words in front: those of the same set that were kept
 pub record Keeping (inputs relevant clause seen list : List ℕ) (n i : ℕ) : Type 0 where
@@ -48,6 +48,9 @@ module _ (inputs relevant clause seen list : List ℕ) (n i : ℕ) (c : Clausal 
 
   pub word-indexed : word / 2 < length relevant
   word-indexed = each_at (λ w. w / 2 < length relevant) clause i 0 c.indexed h
+
+  pub keeping-some : (l : ℕ) → l ≡ predicate_literal inputs relevant word → 2 ≤ l
+  keeping-some l e = rw e (literal-some inputs relevant clause c word word-indexed)
 
   member-next : (w : ℕ) → member w (take (i + 1) clause) ≡ (member w (take i clause) || eqb w word)
   member-next w = rw (take_next clause i 0 h) (member_snoc w (take i clause) word)

@@ -1,16 +1,31 @@
 -- Laws for the functions that append the clauses of the source latches.
-use Prim.Native.Nat.{ℕ, zero, suc, ◌+◌, ◌/◌, ◌≤◌, ◌<◌, ◌^◌}
-use mathlib.Core.Bool.{Bool, false}
+use Prim.Native.Nat.{ℕ, zero, suc, ◌+◌, ◌/◌, ◌%◌, ◌≤◌, ◌<◌, ◌^◌}
+use mathlib.Core.Bool.{Bool, true, false}
 use mathlib.Core.List.{List, [], ◌∷◌}
 use mathlib.Core.Path.{◌≡◌, refl, sym, ap, ◌∙◌}
 use native.Mathlib.Omega.{arith}
+use borrow.Author.Tests.{eq-eqb, ne_eqb}
 use lib.ListN.{length, get_or, take}
 use Rattle.lists.specs.Bits.{odd, bits}
 use Rattle.lists.proofs.BitLaws.{bits-length, bits_at}
 use Rattle.cnf.specs.declared.ClauseCounts.{ClauseCounts}
+use Rattle.cnf.specs.Simplified.{opposite}
 use Rattle.cnf.specs.Inner.Appending.{Appends, Space}
 use Rattle.cnf.proofs.AppendLaws.{appends-next, appends-end, space-next}
 use Rattle.obligation_spec.specs.Lists.{valued, source_lists}
+use Rattle.obligation_gates.specs.Inner.Encoding.{Low}
+use Rattle.obligation_gates.proofs.PredicateLaws.{low-at, opposite-low}
+
+module _ (current source i : ℕ) where
+  pub source-set : source / 2 ^ i % 2 ≡ 1 → current ≡ valued current (odd (source / 2 ^ i))
+  source-set h = rw (eq-eqb (source / 2 ^ i % 2) 1 h) refl
+
+  pub source_clear : (source / 2 ^ i % 2 ≡ 1 → ⊥) → (r : ℕ) → r ≡ opposite current → r ≡ valued current (odd (source / 2 ^ i))
+  source_clear h r e = rw (ne_eqb (source / 2 ^ i % 2) 1 h) e
+
+valued-low : (l : ℕ) (b : Bool) → l < 2 ^ 31 → valued l b < 2 ^ 32
+valued-low l true h = omega arith
+valued-low l false h = opposite-low l h
 
 sources_count : (ls : List ℕ) (bs : List Bool) → length ls ≡ length bs → length (source_lists ls bs) ≡ length ls
 sources_count [] bs e = refl
@@ -36,6 +51,9 @@ module _ (currents : List ℕ) (source : ℕ) where
     list_is =
         sources_at currents (bits (length currents) source) i h (rw (bits-length (length currents) source) h)
         ∙ rw (bits_at (length currents) source i h, ← is) refl
+
+    pub source-narrow : Low currents → literal < 2 ^ 32
+    source-narrow e = rw is (valued-low (get_or currents i 0) (odd (source / 2 ^ i)) (low-at currents i e))
 
     module _ (a₁ a₂ : ClauseCounts) (p₁ w₁ p₂ w₂ : List ℕ) (g : Appends (take i sources) a₁ p₁ w₁ a₂ p₂ w₂) where
       pub source-space : Space a₁ (length currents) → Space a₂ 1

@@ -13,6 +13,7 @@ ghost use Rattle.obligation_gates.specs.Inner.Encoding.{Low, LowGate, gate_array
 
 use aiger::Gate;
 use cnf::ClauseCounts;
+use model::GateList;
 
 // The three clauses of a gate as arrays of literals (R7.3): output implies left, output implies right, left and right imply output.
 fn gate_clauses(gate: Gate) -> [[u64; 3]; 3]
@@ -39,10 +40,9 @@ fn predicate_literal(inputs: &[u64], relevant: &[u64], word: u32) -> u64
     let input = lists::word(relevant, (word / 2) as usize);
     let literal = lists::word(inputs, input as usize);
     if word % 2 == 1 {
-        literal
-    } else {
-        cnf::opposite_of(literal)
+        return literal;
     }
+    cnf::opposite_of(literal)
 }
 
 // Fills the list with the words of a predicate's clause, and says how many. Repeats are left out here: to sort them costs more.
@@ -50,12 +50,11 @@ fn fill_clause(inputs: &[u64], relevant: &[u64], clause: &[u32], list: &mut [u64
     requires { Clausal inputs.now relevant.now clause.now × (length clause.now ≤ length list.old) }
     ensures { FilledAs inputs.now relevant.now clause.now list.new result }
 {
-    let mut seen = [0u64; 2];
+    let mut seen = [0; 2];
     let mut n = 0;
-    for i in 0..clause.len() {
-        let word = clause[i];
-        if lists::add(&mut seen, word as usize) {
-            list[n] = cnf::word(predicate_literal(inputs, relevant, word));
+    for word in clause {
+        if lists::add(&mut seen, *word as usize) {
+            list[n] = cnf::word(predicate_literal(inputs, relevant, *word));
             n += 1;
         }
     }
@@ -93,8 +92,9 @@ fn push_clauses(
     requires { Bounded inputs.now relevant.now predicate_pairs.now predicate_literals.now × (length list.old ≡ 1024) × Space at (length predicate_pairs.now / 2) }
     ensures { Appends (map (map (predicate_literal inputs.now relevant.now)) (clauses_in predicate_literals.now predicate_pairs.now)) at pairs.old literals.old result pairs.new literals.new }
 {
+    let count = predicate_pairs.len() / 2;
     let mut appended = at;
-    for i in 0..predicate_pairs.len() / 2 {
+    for i in 0..count {
         let start = predicate_pairs[2 * i] as usize;
         let end = start + predicate_pairs[2 * i + 1] as usize;
         let clause = &predicate_literals[start..end];
@@ -119,7 +119,7 @@ pub fn append_predicate(
     if predicate_pairs.len() < 2 {
         return at;
     }
-    let mut list = [0u64; 1024];
+    let mut list = [0; 1024];
     push_clauses(
         inputs,
         relevant,
@@ -151,10 +151,9 @@ fn source_literal(current: u64, source: u64, i: usize) -> u64
     ensures { result ≡ valued current (odd (source / 2 ^ i)) }
 {
     if (source >> i) % 2 == 1 {
-        current
-    } else {
-        cnf::opposite_of(current)
+        return current;
     }
+    cnf::opposite_of(current)
 }
 
 // Appends the clauses of the source: each latch has its bit.
@@ -169,8 +168,8 @@ pub fn append_sources(
     ensures { Appends (source_lists currents.now (bits (length currents.now) source)) at pairs.old literals.old result pairs.new literals.new }
 {
     let mut appended = at;
-    for i in 0..currents.len() {
-        let literal = source_literal(currents[i], source, i);
+    for (i, current) in currents.iter().enumerate() {
+        let literal = source_literal(*current, source, i);
         appended = push_literal(literal, pairs, literals, appended);
     }
     appended
@@ -200,12 +199,7 @@ pub fn append_ands(
 {
     let mut appended = at;
     for i in 0..count {
-        let gate = Gate {
-            output: gates[3 * i],
-            left: gates[3 * i + 1],
-            right: gates[3 * i + 2],
-        };
-        appended = push_gate(gate, pairs, literals, appended);
+        appended = push_gate(gates.gate(i), pairs, literals, appended);
     }
     appended
 }

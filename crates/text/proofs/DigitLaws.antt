@@ -3,15 +3,21 @@ use Rattle.std.specs.Prelude.{Option, Some, None}
 use Prim.Native.Nat.{ℕ, suc, ◌+◌, ◌-◌, ◌*◌, ◌/◌, ◌^◌, ◌≤◌, ◌<◌}
 use mathlib.Core.Path.{◌≡◌, refl, ap, sym, ◌∙◌}
 use mathlib.Core.List.{List, [], ◌∷◌}
+use mathlib.Core.Logic.{◌⊎◌, inl, inr}
 use mathlib.Core.Bool.{Bool, true, false, cond, and-false}
 use native.Mathlib.Numerals.{add-one}
 use native.Mathlib.Omega.{arith}
 use borrow.Author.Tests.{lt-ltb, le-ltb, le-leb, lt-leb, leb-true}
 use lib.ListN.{length, get_or, drop, drop_of_length-le}
+use Rattle.std.specs.Prelude.{◌==◌}
 use lib.Dec.{leb}
 use lib.Seq.{drop-cons, drop-drop}
 use Rattle.lists.proofs.BoolLaws.{and_left, and_right}
+use native.Mathlib.Nat.{zero-add}
+use Rattle.lists.specs.Parts.{part}
+use Rattle.lists.proofs.PartLaws.{part-drop}
 use Rattle.scan.specs.Spans.{span, between}
+use Rattle.scan.proofs.SpanLaws.{span_le}
 use Rattle.text.specs.Numbers.{tenfold, digits_after, digits_of}
 
 pub tenfold_grows : (v : ℕ) (bs : List ℕ) → v ≤ tenfold v bs
@@ -45,8 +51,12 @@ zeros : (t : List ℕ) → digits_after 0 (drop (span (between 48 48) t) t) ≡ 
 zeros [] = refl
 zeros (b ∷ bs) = zeros-at b bs (zeros bs) (between 48 48 b) refl
 
-pub zeros-passed : (f : List ℕ) (at r : ℕ) → r ≡ at + span (between 48 48) (drop at f) → digits_after 0 (drop r f) ≡ digits_after 0 (drop at f)
-zeros-passed f at r k = rw (k, ← drop-drop (span (between 48 48) (drop at f)) at f) (zeros (drop at f))
+module _ (f : List ℕ) (r : ℕ) (k : r ≡ 0 + span (between 48 48) (drop 0 f)) where
+  pub zeros_within : r ≤ length f
+  zeros_within = omega (arith, span_le (between 48 48) f)
+
+  pub zeros-behind : digits_after 0 (part f r (length f)) ≡ digits_after 0 f
+  zeros-behind = rw (part-drop f r, k, zero-add) (zeros f)
 
 module _ (v : ℕ) (f : List ℕ) (i : ℕ) where
   pub digits_in_lem : i < length f → 48 ≤ get_or f i 0 → get_or f i 0 ≤ 57 → digits_after v (drop i f) ≡ digits_after (v * 10 + (get_or f i 0 - 48)) (drop (i + 1) f)
@@ -64,29 +74,21 @@ module _ (v : ℕ) (f : List ℕ) (i : ℕ) where
   pub digits-end : length f ≤ i → v < 2 ^ 64 → digits_after v (drop i f) ≡ Some v
   digits-end h k = rw (drop_of_length-le f h) (simp (lt-ltb v (2 ^ 64) k))
 
-module _ (f : List ℕ) (i : ℕ) where
-  pub digits-start : i < length f → digits_of (drop i f) ≡ digits_after 0 (drop i f)
-  digits-start h = rw (drop-cons f i 0 h)
-
-  pub digits-start-at : i < length f → (r : ℕ) → digits_after 0 (drop r f) ≡ digits_after 0 (drop i f) → digits_of (drop i f) ≡ digits_after 0 (drop r f)
-  digits-start-at h r k = digits-start h ∙ sym k
-
-  pub digits-none : length f ≤ i → digits_of (drop i f) ≡ None
-  digits-none h = rw (drop_of_length-le f h)
+pub digits-start : (f : List ℕ) (e : Bool) → e ≡ (length f == 0) → e ≡ false → (g : List ℕ) → digits_after 0 g ≡ digits_after 0 f → digits_of f ≡ digits_after 0 g
+digits-start [] e p q g k = let z : ◌≡◌ {A = ℕ} 0 1 = cc in absurd (omega arith)
+digits-start (b ∷ bs) e p q g k = sym k
 
 -- the same for the loop: n is what its invariant says of v and i
 module _ (n : Option ℕ) (v : ℕ) (f : List ℕ) (i : ℕ) (k : n ≡ digits_after v (drop i f)) where
-  pub at_low : i < length f → get_or f i 0 < 48 → None ≡ n
-  at_low h e = sym (k ∙ digits_low v f i h e)
+  pub at-outside : i < length f → (get_or f i 0 < 48) ⊎ ((48 ≤ get_or f i 0) × (57 < get_or f i 0)) → None ≡ n
+  at-outside h (inl e) = sym (k ∙ digits_low v f i h e)
+  at-outside h (inr e) = sym (k ∙ digits_high v f i h e.1)
 
-  pub at_high : i < length f → 57 < get_or f i 0 → None ≡ n
-  at_high h e = sym (k ∙ digits_high v f i h e)
-
-  pub at-over : i < length f → (d : ℕ) → d ≡ get_or f i 0 → (18446744073709551615 - (d - 48)) / 10 < v → None ≡ n
-  at-over h d q e = sym (k ∙ digits-over v f i h (omega arith))
+  pub at-over : i < length f → ((v * 10 + (get_or f i 0 - 48)) < 2 ^ 64 → ⊥) → None ≡ n
+  at-over h e = sym (k ∙ digits-over v f i h (omega (arith, e)))
 
   pub at-end : length f ≤ i → v < 2 ^ 64 → Some v ≡ n
   at-end h e = sym (k ∙ digits-end v f i h e)
 
-  pub at_digit : i < length f → (d : ℕ) → d ≡ get_or f i 0 → 48 ≤ get_or f i 0 → get_or f i 0 ≤ 57 → n ≡ digits_after (v * 10 + (d - 48)) (drop (i + 1) f)
-  at_digit h d q e g = k ∙ rw q (digits_in_lem v f i h e g)
+  pub at_digit : i < length f → 48 ≤ get_or f i 0 → get_or f i 0 ≤ 57 → (w : ℕ) → w ≡ v * 10 + (get_or f i 0 - 48) → n ≡ digits_after w (drop (i + 1) f)
+  at_digit h e g w q = k ∙ rw q (digits_in_lem v f i h e g)

@@ -15,23 +15,10 @@ use Rattle.text.specs.declared.Reader.{Reader}
 use Rattle.text.specs.declared.Reader.TheVariants.{Transition, Witness}
 use Rattle.text.specs.Numbers.{is_digit, tenfold, digits_after, digits_of, unsigned, long_zero, number_of}
 
--- the plus sign: an empty field, a field with one, another
-pub sign_none : (f : Bytes) → length f ≡ 0 → drop 0 f ≡ unsigned f
-sign_none [] h = refl
-sign_none (b ∷ bs) h = absurd (omega arith)
-
-pub sign_plus : (f : Bytes) → (length f ≡ 0 → ⊥) → get_or f 0 0 ≡ 43 → drop 1 f ≡ unsigned f
-sign_plus [] n h = absurd (n refl)
-sign_plus (b ∷ bs) n h = simp (eq-eqb b 43 h)
-
-pub sign_plain : (f : Bytes) → (length f ≡ 0 → ⊥) → (get_or f 0 0 ≡ 43 → ⊥) → drop 0 f ≡ unsigned f
-sign_plain [] n h = absurd (n refl)
-sign_plain (b ∷ bs) n h = simp (ne_eqb b 43 h)
-
 -- the transition reader
-pub usize-digits : (f : Bytes) (r : Option ℕ) (at : ℕ) → drop at f ≡ unsigned f → r ≡ digits_of (drop at f) → r ≡ number_of Transition f
+pub usize-digits : (f g : Bytes) (r : Option ℕ) → g ≡ unsigned f → r ≡ digits_of g → r ≡ number_of Transition f
 unfolding number_of
-usize-digits f r at k e = e ∙ ap digits_of k
+usize-digits f g r k e = e ∙ ap digits_of k
 
 -- the witness reader: a field of at most one byte, a longer one that begins with 0, another
 pub number_short : (f : Bytes) (r : Option ℕ) → length f < 2 → r ≡ number_of Transition f → r ≡ number_of Witness f

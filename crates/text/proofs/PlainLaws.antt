@@ -1,6 +1,6 @@
 -- Laws of `IsRun`: the loop that reads plain digits, the tests behind it, and what they say of `taken_at` and of a plain number.
 use Rattle.std.specs.Prelude.{Some}
-use Prim.Native.Nat.{ℕ, zero, suc, ◌+◌, ◌-◌, ◌*◌, ◌^◌, ◌≤◌, ◌<◌, min}
+use Prim.Native.Nat.{ℕ, zero, suc, ◌+◌, ◌-◌, ◌*◌, ◌^◌, ◌≤◌, ◌<◌, min, max}
 use mathlib.Core.Path.{◌≡◌, refl, ap, sym, ◌∙◌}
 use mathlib.Core.Bool.{Bool, true, false}
 use mathlib.Core.List.{[], ◌∷◌, ◌++◌}
@@ -38,26 +38,31 @@ pub record Running (l : Bytes) (a last i v : ℕ) : Type 0 where
   pub run : IsRun l a i v
   pub below : v < 10 ^ (i - a)
   pub near : last ≤ a + 18
-  pub within : last ≤ length l
+  pub upto : i ≤ last
+  pub within : a < last → last ≤ length l
 
 module _ (l : Bytes) (a last : ℕ) where
-  pub running_none : last ≡ min (a + 18) (length l) → Running l a last a 0
+  pub running_none : last ≡ a + min (length l - a) 18 → Running l a last a 0
   running_none q =
       let n : a - a ≡ 0 = omega arith in
       record {
         run = record { ordered = omega arith; inside = refl; digits = rw n; value = rw n; small = omega arith };
         below = rw n (omega arith);
         near = omega arith;
-        within = omega arith;
+        upto = omega arith;
+        within = λ h. omega arith;
       }
 
   module _ (i v : ℕ) (k : Running l a last i v) where
     pub running_run : IsRun l a i v
     running_run = k.run
 
+    pub running-done : last ≤ i → IsRun l a last v
+    running-done h = let same : last ≡ i = omega (arith, k.upto) in rw same k.run
+
     module _ (h : i < last) where
       pub running-inside : i < length l
-      running-inside = omega (arith, k.within)
+      running-inside = omega (arith, k.within (omega (arith, k.run.ordered)))
 
       room : v < 10 ^ 17
       room = omega (arith, k.below, pow-le-pow_right {n = 10} (omega arith) {i = i - a} {j = 17} (omega (arith, k.near)))
@@ -83,6 +88,7 @@ module _ (l : Bytes) (a last : ℕ) where
                 };
             below = rw (n, pow-succ' 10 (i - a)) (omega (arith, k.below));
             near = k.near;
+            upto = omega arith;
             within = k.within;
           }
 

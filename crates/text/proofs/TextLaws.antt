@@ -1,6 +1,6 @@
 -- Laws of `good_text`: its cases for the code, and with and without limits.
 use Prim.Native.Nat.{◌≤◌, ◌<◌}
-use mathlib.Core.Path.{◌≡◌, sym}
+use mathlib.Core.Path.{◌≡◌, refl, sym, ◌∙◌}
 use mathlib.Core.List.{[], ◌∷◌}
 use mathlib.Core.Bool.{Bool, true, false, and-true}
 use borrow.Author.Tests.{le-leb, lt-leb, leb-true}
@@ -17,9 +17,9 @@ module _ (reader : Reader) (t : Bytes) where
   text_long h = rw (lt-leb (length t) 16777216 h)
 
   module _ (h : length t ≤ 16777216) (r : Bool) (e : r ≡ good_bytes reader t) where
-    pub text_bytes : r ≡ false → false ≡ good_text limited reader t
+    pub text_bytes : r ≡ false → r ≡ good_text limited reader t
     unfolding good_text every
-    text_bytes n = rw (le-leb (length t) 16777216 h, ← e, n)
+    text_bytes n = n ∙ rw (le-leb (length t) 16777216 h, ← e, n) refl
 
     pub text_end : r ≡ true → (q : Bool) → q ≡ good_end reader t → q ≡ good_text limited reader t
     unfolding good_text every

@@ -1,7 +1,7 @@
 // Lines and fields of a text of bytes (R2), and the checks of R9.3. The numbers (R1) are in `numbers`.
 #![tactic(auto)]
 
-ghost use Rattle.std.specs.Prelude.{◌≡◌, true, false, ◌+◌, ◌<◌, length, drop};
+ghost use Rattle.std.specs.Prelude.{ℕ, Bool, ◌≡◌, true, false, ◌+◌, ◌<◌, length, drop};
 ghost use Rattle.lists.specs.Parts.{part};
 ghost use Rattle.scan.specs.Spans.{span};
 ghost use Rattle.text.specs.Lines.{line_at};
@@ -86,62 +86,57 @@ pub fn next_line(s: &[u8], cursor: Cursor) -> Option<Line>
     })
 }
 
-fn is_blank(b: u8) -> bool
-    ensures { result ≡ is_blank b }
-{
-    if 32 < b {
-        return false;
-    }
-    if b == 32 {
-        return true;
-    }
-    if b < 9 {
-        return false;
-    }
-    b <= 13
+// A test of bytes.
+pub trait ByteTest {
+    ghost passes: { ℕ → Bool };
+
+    fn passes(b: u8) -> bool
+        ensures { result ≡ passes b };
 }
 
-// The end of the blanks at a position; most are bytes 32.
-fn blanks_end(l: &[u8], at: usize) -> usize
-    ensures { result ≡ at + span is_blank (drop at l.now) }
+// A byte between fields.
+struct Blank {}
+
+impl ByteTest for Blank {
+    ghost passes = { is_blank };
+
+    fn passes(b: u8) -> bool {
+        b <= 32 && (b == 32 || (9 <= b && b <= 13))
+    }
+}
+
+// A byte of a field.
+struct InField {}
+
+impl ByteTest for InField {
+    ghost passes = { in_field };
+
+    fn passes(b: u8) -> bool {
+        !Blank::passes(b)
+    }
+}
+
+// Where the bytes that pass end, from a position on; a position past the end stays.
+pub fn passing_end<T: ByteTest>(l: &[u8], at: usize) -> usize
+    ensures { result ≡ at + span T.passes (drop at l.now) }
 {
-    let mut i = at;
-    while i < l.len() {
-        if l[i] == 32 {
-            i += 1;
-            continue;
-        }
-        if is_blank(l[i]) {
-            i += 1;
-        } else {
+    for i in at..l.len() {
+        if !T::passes(l[i]) {
             return i;
         }
     }
-    i
-}
-
-fn field_end(l: &[u8], at: usize) -> usize
-    ensures { result ≡ at + span in_field (drop at l.now) }
-{
-    let mut i = at;
-    while i < l.len() {
-        if is_blank(l[i]) {
-            return i;
-        }
-        i += 1;
-    }
-    i
+    at.max(l.len())
 }
 
 // The next field at or after a position of a line.
 pub fn next_field(l: &[u8], at: usize) -> Option<Field>
     ensures { result ≡ field_at l.now at }
 {
-    let start = blanks_end(l, at);
+    let start = passing_end::<Blank>(l, at);
     if l.len() <= start {
         return None;
     }
-    let end = field_end(l, start);
+    let end = passing_end::<InField>(l, start);
     Some(Field { start, end })
 }
 
@@ -174,7 +169,7 @@ fn any_number(reader: Reader, l: &[u8], start: usize) -> Taken
     requires { start < length l.now }
     ensures { result ≡ taken_field reader l.now (field_from l.now start) }
 {
-    let end = field_end(l, start);
+    let end = passing_end::<InField>(l, start);
     let Some(value) = numbers::parse_for(reader, &l[start..end]) else {
         return Taken::Unreadable;
     };
@@ -185,21 +180,16 @@ fn any_number(reader: Reader, l: &[u8], start: usize) -> Taken
 fn digits_run(l: &[u8], at: usize) -> Run
     ensures { IsRun l.now at result.end result.value }
 {
-    let last = scan::block_end(l.len(), at, 18);
-    let mut v: u64 = 0;
-    let mut i = at;
-    while i < last {
+    let last = at + l.len().saturating_sub(at).min(18);
+    let mut value = 0;
+    for i in at..last {
         let b = l[i];
-        if b < 48 {
-            return Run { end: i, value: v };
+        if b < 48 || 57 < b {
+            return Run { end: i, value };
         }
-        if 57 < b {
-            return Run { end: i, value: v };
-        }
-        v = v * 10 + (numbers::wide(b) - 48);
-        i += 1;
+        value = value * 10 + (u64::from(b) - 48);
     }
-    Run { end: i, value: v }
+    Run { end: last, value }
 }
 
 // Whether the bytes between two places begin with '0' and are more than one. Zeros in front may be many, and the readers differ on
@@ -210,10 +200,7 @@ fn long_zero(l: &[u8], at: usize, end: usize) -> bool
     if l.len() <= at {
         return false;
     }
-    if l[at] == 48 {
-        return at + 1 < end;
-    }
-    false
+    l[at] == 48 && at + 1 < end
 }
 
 // The number that plain digits from a place on write, where the byte `stop` follows them, and the place behind that byte: one pass
@@ -237,10 +224,7 @@ pub fn plain_number(s: &[u8], cursor: Cursor, stop: u8) -> Option<Parsed<u64>>
 fn ends_field(l: &[u8], at: usize) -> bool
     ensures { result ≡ true → at + span in_field (drop at l.now) ≡ at }
 {
-    if at < l.len() {
-        return is_blank(l[at]);
-    }
-    true
+    l.len() <= at || Blank::passes(l[at])
 }
 
 // The number of the next field at or after a position of a line. Most fields are short and plain digits, which are read while
@@ -248,21 +232,18 @@ fn ends_field(l: &[u8], at: usize) -> bool
 pub fn next_number(reader: Reader, l: &[u8], at: usize) -> Taken
     ensures { result ≡ taken_at reader l.now at }
 {
-    let start = blanks_end(l, at);
+    let start = passing_end::<Blank>(l, at);
     if l.len() <= start {
         return Taken::Missing;
     }
     let run = digits_run(l, start);
-    if long_zero(l, start, run.end) {
+    if long_zero(l, start, run.end) || !ends_field(l, run.end) {
         return any_number(reader, l, start);
     }
-    if ends_field(l, run.end) {
-        return Taken::Got {
-            value: run.value,
-            next: run.end,
-        };
+    Taken::Got {
+        value: run.value,
+        next: run.end,
     }
-    any_number(reader, l, start)
 }
 
 // The number of a line that has one and nothing else.
@@ -334,9 +315,5 @@ pub fn good_text(reader: Reader, s: &[u8]) -> bool
     if 16777216 < s.len() {
         return false;
     }
-    if good_bytes(reader, s) {
-        good_end(reader, s)
-    } else {
-        false
-    }
+    good_bytes(reader, s) && good_end(reader, s)
 }

@@ -4,68 +4,49 @@ ghost use Rattle.text.specs.Numbers.{digits_after, digits_of, unsigned, number_o
 
 use super::Reader;
 
-// A byte as a wider number.
-pub fn wide(x: u8) -> u64
-    ensures { result ≡ x }
-{
-    x as u64
-}
-
-// Where the digits of f may be read from as from a position: in a long field past the zeros in front.
-fn zeros_end(f: &[u8], at: usize) -> usize
-    ensures { digits_after 0 (drop result f.now) ≡ digits_after 0 (drop at f.now) }
+// A field without the zeros in front of its digits, where it is long.
+fn without_zeros(f: &[u8]) -> &[u8]
+    ensures { digits_after 0 result.now ≡ digits_after 0 f.now }
 {
     if f.len() <= 32 {
-        return at;
+        return f;
     }
-    scan::run_end(f, at, 48, 48)
+    &f[scan::run_end(f, 0, 48, 48)..]
 }
 
-// The digits of f from a position on.
-fn digits(f: &[u8], at: usize) -> Option<u64>
-    ensures { result ≡ digits_of (drop at f.now) }
+// The number of a field of digits.
+fn digits(f: &[u8]) -> Option<u64>
+    ensures { result ≡ digits_of f.now }
 {
-    if f.len() <= at {
+    if f.is_empty() {
         return None;
     }
-    let mut v: u64 = 0;
-    let mut i = zeros_end(f, at);
-    while i < f.len() {
-        let b = f[i];
-        if b < 48 {
+    let bytes = without_zeros(f);
+    let mut value: u64 = 0;
+    for &b in bytes {
+        if b < 48 || 57 < b {
             return None;
         }
-        if 57 < b {
-            return None;
-        }
-        let d = wide(b) - 48;
-        if (18446744073709551615 - d) / 10 < v {
-            return None;
-        }
-        v = v * 10 + d;
-        i += 1;
+        value = value.checked_mul(10)?.checked_add(u64::from(b - 48))?;
     }
-    Some(v)
+    Some(value)
 }
 
-// Where the digits of a field begin: behind a plus sign, if it has one (R1.2).
-fn sign_end(f: &[u8]) -> usize
-    ensures { drop result f.now ≡ unsigned f.now }
+// A field behind its plus sign, if it has one (R1.2).
+fn unsigned(f: &[u8]) -> &[u8]
+    ensures { result.now ≡ unsigned f.now }
 {
-    if f.len() == 0 {
-        return 0;
+    match f {
+        [b'+', digits @ ..] => digits,
+        _ => f,
     }
-    if f[0] == 43 {
-        return 1;
-    }
-    0
 }
 
 // The transition reader's number (R1.4).
 pub fn parse_usize(f: &[u8]) -> Option<u64>
     ensures { result ≡ number_of Reader.Transition f.now }
 {
-    digits(f, sign_end(f))
+    digits(unsigned(f))
 }
 
 // The witness reader's number (R1.3).
@@ -75,7 +56,7 @@ pub fn parse_number(f: &[u8]) -> Option<u64>
     if f.len() < 2 {
         return parse_usize(f);
     }
-    if f[0] == 48 {
+    if f[0] == b'0' {
         return None;
     }
     parse_usize(f)

@@ -3,14 +3,15 @@ use Rattle.std.specs.Prelude.{Option, Some, None}
 use Prim.Native.Nat.{ℕ, suc, ◌+◌, ◌-◌, ◌/◌, ◌%◌, ◌≤◌, ◌<◌, ◌^◌}
 use mathlib.Core.Path.{◌≡◌, refl, sym, ap, ◌∙◌}
 use mathlib.Core.Bool.{Bool, true, false, cond}
-use mathlib.Core.List.{[], ◌∷◌, ◌++◌}
+use mathlib.Core.List.{[], ◌∷◌, ◌++◌, append-nil}
 use native.Mathlib.Omega.{arith}
 use borrow.Author.Tests.{leb-true, leb-false, le-leb, lt-leb}
 use lib.Dec.{leb}
-use lib.ListN.{length, take, drop, set, length-set}
+use borrow.Rule.Slice.PartMut.{put_mid}
+use lib.ListN.{length, take, drop, set, length-set, drop_of_length-le}
 use lib.Seq.{drop-cons, append_snoc, get_or-set_same, take-set-le, drop-set-lt}
-use Rattle.lists.specs.Parts.{Bytes, part, put}
-use Rattle.lists.proofs.PartLaws.{put-none, put_one, put-part}
+use Rattle.lists.specs.Parts.{Bytes, part, front, put}
+use Rattle.lists.proofs.PartLaws.{part_length, put-none, put-part, put_back}
 use Rattle.text.specs.declared.Reader.{Reader}
 use Rattle.text.specs.Numbers.{number_of}
 use Rattle.text_decimal.specs.Decimal.{decimal}
@@ -21,14 +22,14 @@ use Rattle.text_decimal.proofs.FigureLaws.{figures, figures_length, decimal_figu
 -- ---- the answers
 
 module _ (o : Bytes) (at : ℕ) (bytes : Bytes) where
-  pub no_room : length o < at + length bytes → (None ≡ written_at (length o) at bytes) × (o ≡ written o at bytes)
+  pub no_room : (at + length bytes ≤ length o → ⊥) → (None ≡ written_at (length o) at bytes) × (o ≡ written o at bytes)
   unfolding written_at written
-  no_room h = (rw (lt-leb (at + length bytes) (length o) h), rw (lt-leb (at + length bytes) (length o) h))
+  no_room h = (rw (lt-leb (at + length bytes) (length o) (omega (arith, h))), rw (lt-leb (at + length bytes) (length o) (omega (arith, h))))
 
-  pub room : (o' : Bytes) (size : ℕ) → size ≡ length bytes → at + size ≤ length o → o' ≡ put o at bytes
-      → (Some (at + size) ≡ written_at (length o) at bytes) × (o' ≡ written o at bytes)
+  pub room : (o' : Bytes) (end : ℕ) → end ≡ at + length bytes → end ≤ length o → o' ≡ put o at bytes
+      → (Some end ≡ written_at (length o) at bytes) × (o' ≡ written o at bytes)
   unfolding written_at written
-  room o' size n h e =
+  room o' end n h e =
       let fits : leb (at + length bytes) (length o) ≡ true = le-leb (at + length bytes) (length o) (omega arith) in
       (rw (fits, n), rw fits e)
 
@@ -76,13 +77,17 @@ module _ (o : Bytes) (at : ℕ) (o' : Bytes) (next : ℕ) where
 -- ---- parts of the buffer
 
 module _ (o : Bytes) (at : ℕ) where
-  pub room_for_byte : (b : ℕ) → at < length o → (Some (at + 1) ≡ written_at (length o) at (b ∷ [])) × (set o at b ≡ written o at (b ∷ []))
-  room_for_byte b h = room o at (b ∷ []) (set o at b) 1 refl (omega arith) (sym (put_one o at b h))
-
   drop-stored : (b : ℕ) → at < length o → drop at (set o at b) ≡ b ∷ drop (suc at) o
   drop-stored b h =
       let l : at < length (set o at b) = simp length-set h in
       rw (drop-cons (set o at b) at 0 l, get_or-set_same o at b 0 h, drop-set-lt (suc at) o at b (omega arith))
+
+-- bytes that stand in for a part of the buffer
+pub part-written : (o : Bytes) (at e : ℕ) (bytes b : Bytes) → b ≡ bytes → e ≡ at + length bytes → e ≤ length o → put_mid at (e - at) o b ≡ put o at bytes
+part-written o at e bytes b q k h =
+    let size : length (part o at e) ≡ length bytes = part_length o at e h ∙ omega arith in
+    let same : bytes ≡ front (part o at e) bytes = sym (rw (drop_of_length-le (part o at e) {i = length bytes} (omega arith)) (append-nil bytes)) in
+    ap (put_mid at (e - at) o) (q ∙ same) ∙ put_back o at bytes (omega arith) e (omega arith) h
 
 -- ---- digits, from the last to the first
 
@@ -107,14 +112,15 @@ put_figure o at left rest h =
     (sym (append_snoc digits last (drop (suc (at + left)) o)) ∙ ap (λ (k : ℕ). (digits ++ (last ∷ [])) ++ drop k o) behind))
 
 module _ (o₀ : Bytes) (at n : ℕ) (o : Bytes) (left rest : ℕ) (w : Writing o₀ at n o left rest) where
-  pub writing_more : 0 < left → Writing o₀ at n (set o (at + (left - 1)) (48 + rest % 10)) (left - 1) (rest / 10)
-  writing_more h =
+  pub writing_more : 0 < left → (j : ℕ) → j ≡ at + (left - 1) → (m : ℕ) → m ≡ left - 1 → Writing o₀ at n (set o j (48 + rest % 10)) m (rest / 10)
+  writing_more h j p m q =
       let e : suc (left - 1) ≡ left = omega arith in
-      record {
+      rw (p, q)
+      (record {
         is = put_figure o at (left - 1) rest (omega (arith, w.fits, w.same)) ∙ ap (λ (c : ℕ). put o at (figures c rest)) e ∙ w.is;
         fits = omega (arith, w.fits);
         same = simp length-set w.same;
-      }
+      })
 
   pub writing-done : left ≤ 0 → o ≡ put o₀ at (decimal n)
   writing-done h =

@@ -19,23 +19,23 @@ pub literal-first : (n : ℕ) (ns : List ℕ) → text_of (literal_lines (n ∷ 
 literal-first n ns = text_first (number_line (n ∷ [])) (literal_lines ns)
 
 module _ (x left : ℕ) where
-  pub literals-more : 0 < left
-      → text_of (literal_lines (literals_from x left)) ≡ (number_line (2 * x ∷ []) ++ (10 ∷ [])) ++ text_of (literal_lines (literals_from (x + 1) (left - 1)))
-  literals-more h =
+  pub literals-more : 0 < left → (y m : ℕ) → y ≡ x + 1 → m ≡ left - 1
+      → text_of (literal_lines (literals_from x left)) ≡ (number_line (2 * x ∷ []) ++ (10 ∷ [])) ++ text_of (literal_lines (literals_from y m))
+  literals-more h y m p q =
       let e : left ≡ suc (left - 1) = omega arith in
-      ap (λ (k : ℕ). text_of (literal_lines (literals_from x k))) e ∙ rw (add-one x) (literal-first (2 * x) (literals_from (suc x) (left - 1)))
+      ap (λ (k : ℕ). text_of (literal_lines (literals_from x k))) e ∙ rw (p, q, add-one x) (literal-first (2 * x) (literals_from (suc x) (left - 1)))
 
   pub literals_end : left ≤ 0 → text_of (literal_lines (literals_from x left)) ≡ []
   literals_end h = let e : left ≡ 0 = omega arith in rw e
 
 module _ (x : ℕ) (words : List ℕ) (i : ℕ) where
-  pub gates-more : i + 1 < length words
+  pub gates-more : i + 1 < length words → (y j : ℕ) → y ≡ x + 1 → j ≡ i + 2
       → text_of (gate_lines x (drop i words))
-      ≡ (number_line (2 * x ∷ get_or words i 0 ∷ get_or words (i + 1) 0 ∷ []) ++ (10 ∷ [])) ++ text_of (gate_lines (x + 1) (drop (i + 2) words))
-  gates-more h =
+      ≡ (number_line (2 * x ∷ get_or words i 0 ∷ get_or words (i + 1) 0 ∷ []) ++ (10 ∷ [])) ++ text_of (gate_lines y (drop j words))
+  gates-more h y j p q =
       let n : i + 1 + 1 ≡ i + 2 = omega arith in
       let two : drop i words ≡ get_or words i 0 ∷ get_or words (i + 1) 0 ∷ drop (i + 2) words = rest_more words i 0 (omega arith) ∙ rw (rest_more words (i + 1) 0 h, n) refl in
-      rw (two, add-one x) (text_first (number_line (2 * x ∷ get_or words i 0 ∷ get_or words (i + 1) 0 ∷ [])) (gate_lines (suc x) (drop (i + 2) words)))
+      rw (p, q, two, add-one x) (text_first (number_line (2 * x ∷ get_or words i 0 ∷ get_or words (i + 1) 0 ∷ [])) (gate_lines (suc x) (drop (i + 2) words)))
 
   pub gates-end : length words ≤ i + 1 → text_of (gate_lines x (drop i words)) ≡ []
   gates-end h = ap text_of (none (drop i words) (omega (arith, length-drop i words)))

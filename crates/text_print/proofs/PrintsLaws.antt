@@ -23,12 +23,12 @@ module _ (o : Bytes) (at : ℕ) where
 
   module _ (bytes : Bytes) (size : ℕ) (n : size ≡ length bytes) where
     -- measured, where there is no room
-    pub prints_measured : (r : ℕ) → length o < at + size → r ≡ capped (at + size) → Prints o at bytes o r
-    prints_measured r h e = record { next = e ∙ ap (λ (k : ℕ). capped (at + k)) n; stands = λ k. absurd (omega arith) }
+    pub prints_measured : (r : ℕ) → (at + size ≤ length o → ⊥) → r ≡ capped (at + size) → Prints o at bytes o r
+    prints_measured r h e = record { next = e ∙ ap (λ (k : ℕ). capped (at + k)) n; stands = λ k. absurd (h (omega (arith, n))) }
 
     -- written, where there is room
-    pub prints-put : (o' : Bytes) → Word (at + size) → o' ≡ put o at bytes → Prints o at bytes o' (at + size)
-    prints-put o' h e = record { next = omega arith; stands = λ k. e }
+    pub prints-put : (o' : Bytes) (r : ℕ) → r ≡ at + size → Word r → o' ≡ put o at bytes → Prints o at bytes o' r
+    prints-put o' r q h e = record { next = omega (arith, q); stands = λ k. e }
 
   -- the answers of the functions that write
   module _ (bytes o' : Bytes) (answer : Option ℕ) (e : answer ≡ written_at (length o) at bytes) (k : o' ≡ written o at bytes) where

@@ -1,6 +1,6 @@
 -- Digits, fields and lines written where there is room for them.
 use Prim.Native.Nat.{ℕ, zero, suc, ◌+◌, ◌-◌, ◌*◌, ◌/◌, ◌%◌, ◌^◌, ◌≤◌, ◌<◌}
-use mathlib.Core.Path.{◌≡◌, sym, ap, ◌∙◌}
+use mathlib.Core.Path.{◌≡◌, refl, sym, ap, ◌∙◌}
 use mathlib.Core.List.{[], ◌∷◌, ◌++◌, append_assoc}
 use native.Mathlib.Nat.{pow-succ'}
 use native.Mathlib.Omega.{arith}
@@ -44,14 +44,15 @@ module _ (o₀ : Bytes) (at n : ℕ) (o : Bytes) (left rest : ℕ) (w : Writing 
       let less : rest / 100 ≡ rest / 10 / 10 = omega arith in
       let last : Bytes = set o (at + (left - 1)) (48 + rest % 10) in
       rw (f, g, e, low, high, fewer, less)
-      (writing_more o₀ at n last (left - 1) (rest / 10) (writing_more o₀ at n o left rest w (omega arith)) (omega arith))
+      (writing_more o₀ at n last (left - 1) (rest / 10) (writing_more o₀ at n o left rest w (omega arith) (at + (left - 1)) refl (left - 1) refl) (omega arith)
+      (at + (left - 1 - 1)) refl (left - 1 - 1) refl)
 
   pub writing-first : left ≡ 1 → set o at (48 + rest % 10) ≡ put o₀ at (decimal n)
   writing-first e =
       let place : at + (left - 1) ≡ at = omega arith in
       let first : Bytes = set o (at + (left - 1)) (48 + rest % 10) in
       ap (λ (k : ℕ). set o k (48 + rest % 10)) (sym place)
-      ∙ writing-done o₀ at n first (left - 1) (rest / 10) (writing_more o₀ at n o left rest w (omega arith)) (omega arith)
+      ∙ writing-done o₀ at n first (left - 1) (rest / 10) (writing_more o₀ at n o left rest w (omega arith) (at + (left - 1)) refl (left - 1) refl) (omega arith)
 
 -- ---- fields
 

@@ -6,20 +6,15 @@ ghost use Rattle.lists.specs.Parts.{put};
 ghost use Rattle.text_decimal.specs.Decimal.{decimal};
 ghost use Rattle.text_decimal.specs.Printed.{number_line, text_of};
 ghost use Rattle.text_print.specs.Inner.Prints.{capped, Prints};
-ghost use Rattle.text_print.specs.Inner.Lines.{literal_lines, literals_from, gate_lines};
 ghost use Rattle.text_print.specs.Inner.DigitPairs.{digit_pairs};
+ghost use Rattle.text_print.specs.Inner.Lines.{literal_lines, literals_from, gate_lines};
 ghost use Rattle.text_print.specs.Inner.Elements.{elements, elements_in};
-
 
 // The place n bytes further on. Places that no word can hold are the largest word.
 pub fn advance(at: usize, n: usize) -> usize
     ensures { result ≡ capped (at + n) }
 {
-    let left = 18446744073709551615 - at;
-    if left < n {
-        return 18446744073709551615;
-    }
-    at + n
+    at.saturating_add(n)
 }
 
 // Prints one byte.
@@ -77,22 +72,28 @@ fn digit_count(n: u64) -> usize
 }
 
 // The digits of 0 to 99, two for each.
-const PAIRS: [u8; 200] =
+static PAIRS: [u8; 200] =
     *b"00010203040506070809101112131415161718192021222324252627282930313233343536373839404142434445464748495051525354555657585960616263646566676869707172737475767778798081828384858687888990919293949596979899";
 
+fn digit_pairs() -> &'static [u8]
+    ensures { result.now ≡ digit_pairs }
+{
+    &PAIRS
+}
+
 // Writes the digits of n, from the last to the first, two at a time. Looking two digits up is quicker than dividing.
-fn write_digits(out: &mut [u8], at: usize, n: u64, size: usize, pairs: &[u8])
-    requires { (size ≡ length (decimal n)) × ((at + size ≤ length out.old) × (pairs.now ≡ digit_pairs)) }
+fn write_digits(out: &mut [u8], at: usize, n: u64, size: usize)
+    requires { (size ≡ length (decimal n)) × (at + size ≤ length out.old) }
     ensures { out.new ≡ put out.old at (decimal n) }
 {
+    let pairs = digit_pairs();
     let mut rest = n;
     let mut left = size;
+    // Kept (loop): two digits a turn, from the last on, and one that may be left over.
     while 2 <= left {
-        let two = lists::index(rest % 100);
-        let high = pairs[2 * two];
-        let low = pairs[2 * two + 1];
-        out[at + (left - 1)] = low;
-        out[at + (left - 2)] = high;
+        let two = (rest % 100) as usize;
+        out[at + (left - 1)] = pairs[2 * two + 1];
+        out[at + (left - 2)] = pairs[2 * two];
         left -= 2;
         rest = rest / 100;
     }
@@ -102,11 +103,11 @@ fn write_digits(out: &mut [u8], at: usize, n: u64, size: usize, pairs: &[u8])
 }
 
 // Writes the digits of n and a byte behind them.
-fn write_field(out: &mut [u8], at: usize, n: u64, size: usize, end: u8, pairs: &[u8])
-    requires { (size ≡ length (decimal n)) × ((at + size < length out.old) × (pairs.now ≡ digit_pairs)) }
+fn write_field(out: &mut [u8], at: usize, n: u64, size: usize, end: u8)
+    requires { (size ≡ length (decimal n)) × (at + size < length out.old) }
     ensures { out.new ≡ put out.old at (decimal n ++ (end ∷ [])) }
 {
-    write_digits(out, at, n, size, pairs);
+    write_digits(out, at, n, size);
     out[at + size] = end;
 }
 
@@ -115,14 +116,11 @@ pub fn print_number(out: &mut [u8], at: usize, n: u64) -> usize
     ensures { Prints out.old at (decimal n) out.new result }
 {
     let size = digit_count(n);
-    if out.len() < at {
+    let Some(end) = text_decimal::end_within(out.len(), at, size) else {
         return advance(at, size);
-    }
-    if out.len() - at < size {
-        return advance(at, size);
-    }
-    write_digits(out, at, n, size, &PAIRS);
-    at + size
+    };
+    write_digits(out, at, n, size);
+    end
 }
 
 // Prints a line of one number.
@@ -130,44 +128,30 @@ fn print_literal_line(out: &mut [u8], at: usize, x: u64) -> usize
     ensures { Prints out.old at (number_line (x ∷ []) ++ 10 ∷ []) out.new result }
 {
     let size = digit_count(x);
-    if out.len() <= at {
+    let Some(end) = text_decimal::end_within(out.len(), at, size + 1) else {
         return advance(at, size + 1);
-    }
-    if out.len() - at <= size {
-        return advance(at, size + 1);
-    }
-    write_field(out, at, x, size, 10, &PAIRS);
-    at + (size + 1)
-}
-
-// Prints a line of three numbers, with the table of digits.
-fn print_three_with(out: &mut [u8], at: usize, x: u64, y: u64, z: u64, pairs: &[u8]) -> usize
-    requires { pairs.now ≡ digit_pairs }
-    ensures { Prints out.old at (number_line (x ∷ y ∷ z ∷ []) ++ 10 ∷ []) out.new result }
-{
-    let first = digit_count(x);
-    let second = digit_count(y);
-    let third = digit_count(z);
-    let size = first + second + third + 3;
-    if out.len() < at {
-        return advance(at, size);
-    }
-    if out.len() - at < size {
-        return advance(at, size);
-    }
-    let middle = at + (first + 1);
-    let last = middle + (second + 1);
-    write_field(out, at, x, first, 32, pairs);
-    write_field(out, middle, y, second, 32, pairs);
-    write_field(out, last, z, third, 10, pairs);
-    at + size
+    };
+    write_field(out, at, x, size, 10);
+    end
 }
 
 // Prints a line of three numbers.
 pub fn print_three(out: &mut [u8], at: usize, x: u64, y: u64, z: u64) -> usize
     ensures { Prints out.old at (number_line (x ∷ y ∷ z ∷ []) ++ 10 ∷ []) out.new result }
 {
-    print_three_with(out, at, x, y, z, &PAIRS)
+    let first = digit_count(x);
+    let second = digit_count(y);
+    let third = digit_count(z);
+    let size = first + second + third + 3;
+    let Some(end) = text_decimal::end_within(out.len(), at, size) else {
+        return advance(at, size);
+    };
+    let middle = at + (first + 1);
+    let last = middle + (second + 1);
+    write_field(out, at, x, first, 32);
+    write_field(out, middle, y, second, 32);
+    write_field(out, last, z, third, 10);
+    end
 }
 
 // Prints the lines of the literals of variables in a row.
@@ -176,28 +160,8 @@ pub fn print_consecutive(out: &mut [u8], at: usize, first: u64, count: usize) ->
     ensures { Prints out.old at (text_of (literal_lines (literals_from first count))) out.new result }
 {
     let mut to = at;
-    let mut x = first;
-    let mut left = count;
-    while 0 < left {
-        to = print_literal_line(out, to, 2 * x);
-        x += 1;
-        left -= 1;
-    }
-    to
-}
-
-// Prints the lines of gates in a row, with the table of digits.
-fn print_gates_with(out: &mut [u8], at: usize, first: u64, words: &[u64], pairs: &[u8]) -> usize
-    requires { (2 * (first + length words.now) < 2 ^ 63) × (pairs.now ≡ digit_pairs) }
-    ensures { Prints out.old at (text_of (gate_lines first words.now)) out.new result }
-{
-    let mut to = at;
-    let mut x = first;
-    let mut i = 0;
-    while i + 1 < words.len() {
-        to = print_three_with(out, to, 2 * x, words[i], words[i + 1], pairs);
-        x += 1;
-        i += 2;
+    for i in 0..count {
+        to = print_literal_line(out, to, 2 * (first + i as u64));
     }
     to
 }
@@ -207,7 +171,11 @@ pub fn print_pairs(out: &mut [u8], at: usize, first: u64, words: &[u64]) -> usiz
     requires { 2 * (first + length words.now) < 2 ^ 63 }
     ensures { Prints out.old at (text_of (gate_lines first words.now)) out.new result }
 {
-    print_gates_with(out, at, first, words, &PAIRS)
+    let mut to = at;
+    for i in 0..words.len() / 2 {
+        to = print_three(out, to, 2 * (first + i as u64), words[2 * i], words[2 * i + 1]);
+    }
+    to
 }
 
 // Prints a line for each bit that is set in word j; the numbers of its bits begin at 64 * j. Zeros are passed over eight at a time where they can be.
@@ -218,6 +186,7 @@ fn print_word(out: &mut [u8], at: usize, words: &[u64], j: usize) -> usize
     let mut to = at;
     let mut rest = words[j];
     let mut k = (64 * j) as u64;
+    // Kept (loop): k moves on by 8 or by 1.
     while 0 < rest {
         if rest % 256 == 0 {
             rest = rest / 256;
@@ -242,10 +211,8 @@ pub fn print_set(out: &mut [u8], at: usize, words: &[u64]) -> usize
     ensures { Prints out.old at (text_of (literal_lines (elements words.now))) out.new result }
 {
     let mut to = at;
-    let mut j = 0;
-    while j < words.len() {
+    for j in 0..words.len() {
         to = print_word(out, to, words, j);
-        j += 1;
     }
     to
 }

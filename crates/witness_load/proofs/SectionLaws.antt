@@ -13,19 +13,11 @@ use Rattle.lists.proofs.PartLaws.{part_length, put-none, put-put, put_back}
 use Rattle.lists.proofs.WordLaws.{words_append, words-length}
 use Rattle.text.specs.declared.Cursor.{Cursor}
 use Rattle.text.specs.declared.Reader.TheVariants.{Witness}
-use Rattle.aiger.specs.declared.Gate.{Gate}
 use Rattle.aiger.specs.Sections.{section}
 use Rattle.aiger.proofs.SectionLaws.{section_of, Taking, taking-none, taking-more, taking_bad, taking-done}
-use Rattle.text.specs.declared.Parsed.{Parsed}
-use Rattle.circuit_lines.specs.SectionLines.{literal_line, gate_line}
-use Rattle.circuit_lines.specs.Inner.Takes.{lines_from, Takes, TakesGate}
-use Rattle.witness_text.specs.declared.Latch.{Latch}
-use Rattle.witness_text.specs.declared.TakenLatch.{TakenLatch}
-use Rattle.witness_text.specs.declared.TakenLatch.TheVariants as latch
-use Rattle.witness_text.specs.LatchLines.{latch_line}
-use Rattle.witness_text.specs.Inner.Takes.{TakesLatch}
-use Rattle.witness_load.specs.Inner.Loaded.{operand_words}
-use Rattle.witness_load.specs.Inner.Loading.{stored_words, literal_word, LoadsSection}
+use Rattle.circuit_lines.specs.SectionLines.{literal_line}
+use Rattle.circuit_lines.specs.Inner.Takes.{lines_from, Takes}
+use Rattle.witness_load.specs.Inner.Loading.{literal_word, LoadsSection}
 
 -- i items are taken, and their words stand in o₀ from place `at` on
 pub record Loading {A : Type 0} (item : Bytes → Answer A) (words : A → List ℕ) (s : Bytes) (c : Cursor) (n : ℕ) (o₀ : List ℕ) (at : ℕ) (o : List ℕ) (p : Cursor) (i : ℕ) : Type 0 where
@@ -35,11 +27,11 @@ pub record Loading {A : Type 0} (item : Bytes → Answer A) (words : A → List 
   pub stand : o ≡ put o₀ at (words_of words items)
 
 module _ {A : Type 0} (item : Bytes → Answer A) (words : A → List ℕ) (s : Bytes) (c : Cursor) (n : ℕ) (o₀ : List ℕ) (at : ℕ) where
-  loading-none : Loading item words s c n o₀ at o₀ c 0
+  pub loading-none : Loading item words s c n o₀ at o₀ c 0
   loading-none = record { items = []; count = refl; taking = taking-none item n (lines_from s c); stand = sym (put-none o₀ at) }
 
   module _ (o : List ℕ) (p : Cursor) (i : ℕ) (k : Loading item words s c n o₀ at o p i) where
-    loading-more : ((x : A) → length (words x) ≡ 2) → at ≤ length o₀ → i < n → (a : A) (p' : Cursor) → section item 1 (lines_from s p) ≡ section_of (a ∷ []) (lines_from s p')
+    pub loading-more : ((x : A) → length (words x) ≡ 2) → at ≤ length o₀ → i < n → (a : A) (p' : Cursor) → section item 1 (lines_from s p) ≡ section_of (a ∷ []) (lines_from s p')
         → (o' : List ℕ) → o' ≡ put o (at + 2 * i) (words a) → Loading item words s c n o₀ at o' p' (i + 1)
     loading-more w f h a p' e o' q =
         let ws : List ℕ = words_of words k.items in
@@ -57,58 +49,16 @@ module _ {A : Type 0} (item : Bytes → Answer A) (words : A → List ℕ) (s : 
               ∙ ap (put o₀ at) (sym join);
         }
 
-    loading_bad : i < n → section item 1 (lines_from s p) ≡ refused 8 → LoadsSection item words s c n o₀ at o None
+    pub loading_bad : i < n → section item 1 (lines_from s p) ≡ refused 8 → LoadsSection item words s c n o₀ at o None
     loading_bad h e = taking_bad item n (lines_from s c) k.items (lines_from s p) k.taking (omega (arith, k.count)) e
 
-    loading-done : n ≤ i → LoadsSection item words s c n o₀ at o (Some p)
+    pub loading-done : n ≤ i → LoadsSection item words s c n o₀ at o (Some p)
     loading-done h =
         record {
           items = k.items;
           takes = taking-done item n (lines_from s c) k.items (lines_from s p) k.taking (omega (arith, k.count));
           stand = k.stand;
         }
-
--- ---- latches
-
-abbrev pub Latches : Bytes → Cursor → ℕ → List ℕ → ℕ → List ℕ → Cursor → ℕ → Type 0
-Latches s c n o₀ at o p i = Loading latch_line stored_words s c n o₀ at o p i
-
-module _ (s : Bytes) (c : Cursor) (n : ℕ) (o₀ : List ℕ) (at : ℕ) where
-  pub latches-none : Latches s c n o₀ at o₀ c 0
-  latches-none = loading-none latch_line stored_words s c n o₀ at
-
-  module _ (o : List ℕ) (p : Cursor) (i : ℕ) (k : Latches s c n o₀ at o p i) where
-    module _ (h : i < n) (t : TakenLatch) (q : TakesLatch s p t) where
-      pub latches-more : (a : Latch) (p' : Cursor) → t ≡ latch.Got a p' → at + 2 * n ≤ length o₀ → (o' : List ℕ) → o' ≡ put o (at + 2 * i) (a.next ∷ a.reset ∷ [])
-          → Latches s c n o₀ at o' p' (i + 1)
-      latches-more a p' e f o' g = loading-more latch_line stored_words s c n o₀ at o p i k (λ x. refl) (omega arith) h a p' (rw e at q) o' g
-
-      pub latches_bad : t ≡ latch.Bad → LoadsSection latch_line stored_words s c n o₀ at o None
-      latches_bad e = loading_bad latch_line stored_words s c n o₀ at o p i k h (rw e at q)
-
-    pub latches-done : n ≤ i → LoadsSection latch_line stored_words s c n o₀ at o (Some p)
-    latches-done h = loading-done latch_line stored_words s c n o₀ at o p i k h
-
--- ---- gates
-
-abbrev pub Gates : Bytes → Cursor → ℕ → List ℕ → ℕ → List ℕ → Cursor → ℕ → Type 0
-Gates s c n o₀ at o p i = Loading (gate_line Witness) operand_words s c n o₀ at o p i
-
-module _ (s : Bytes) (c : Cursor) (n : ℕ) (o₀ : List ℕ) (at : ℕ) where
-  pub gates-none : Gates s c n o₀ at o₀ c 0
-  gates-none = loading-none (gate_line Witness) operand_words s c n o₀ at
-
-  module _ (o : List ℕ) (p : Cursor) (i : ℕ) (k : Gates s c n o₀ at o p i) where
-    module _ (h : i < n) (t : Option (Parsed Gate)) (q : TakesGate Witness s p t) where
-      pub gates-more : (a : Parsed Gate) → t ≡ Some a → at + 2 * n ≤ length o₀ → (o' : List ℕ) → o' ≡ put o (at + 2 * i) (a.value.left ∷ a.value.right ∷ [])
-          → Gates s c n o₀ at o' a.next (i + 1)
-      gates-more a e f o' g = loading-more (gate_line Witness) operand_words s c n o₀ at o p i k (λ x. refl) (omega arith) h a.value a.next (rw e at q) o' g
-
-      pub gates_bad : t ≡ None → LoadsSection (gate_line Witness) operand_words s c n o₀ at o None
-      gates_bad e = loading_bad (gate_line Witness) operand_words s c n o₀ at o p i k h (rw e at q)
-
-    pub gates-done : n ≤ i → LoadsSection (gate_line Witness) operand_words s c n o₀ at o (Some p)
-    gates-done h = loading-done (gate_line Witness) operand_words s c n o₀ at o p i k h
 
 -- ---- literals
 

@@ -1,4 +1,7 @@
 -- The two words of an input or a latch stored among those of all, and what they say of its name.
+use Rattle.std.specs.Prelude.{Some, None}
+use Rattle.std.specs.declared.option.Option as option
+use Rattle.std.proofs.Common.{◌⊎◌, inl, inr}
 use Prim.Native.Nat.{ℕ, ◌+◌, ◌-◌, ◌*◌, ◌≤◌, ◌<◌, min}
 use mathlib.Core.Bool.{true, false}
 use mathlib.Core.List.{List, [], ◌∷◌}
@@ -18,7 +21,6 @@ use Rattle.witness_text.specs.declared.Kind.TheVariants as kind
 use Rattle.witness_text.specs.Symbols.{count_of, symbol_of}
 use Rattle.witness_text.specs.Inner.Takes.{symbol_answer}
 use Rattle.witness_text.specs.declared.SymbolLine.{SymbolLine}
-use Rattle.witness_text.specs.declared.SymbolLine.TheVariants as symbol
 use Rattle.witness_text.proofs.SymbolLaws.{symbol-below}
 use Rattle.witness_load.specs.Inner.Loaded.{name_from}
 use Rattle.witness_load.specs.Inner.Loading.{leaf_words, with_words, with_name, NamesLine}
@@ -39,14 +41,10 @@ module _ (n : AagCounts) (x : Kind) (k : ℕ) (ws o : List ℕ) where
   pub latch_stored : x ≡ kind.Latch → (o' : List ℕ) → o' ≡ put o (2 * (n.inputs + k)) ws → o' ≡ with_words n x k ws o
   latch_stored e o' q = rw e q
 
-  pub output-stays : x ≡ kind.Output → o ≡ with_words n x k ws o
-  output-stays e = rw e
-
-  pub bad_stays : x ≡ kind.Bad → o ≡ with_words n x k ws o
-  bad_stays e = rw e
-
-  pub constraint_stays : x ≡ kind.Constraint → o ≡ with_words n x k ws o
-  constraint_stays e = rw e
+  pub others-stay : (x ≡ kind.Output) ⊎ ((x ≡ kind.Bad) ⊎ (x ≡ kind.Constraint)) → o ≡ with_words n x k ws o
+  others-stay (inl e) = rw e
+  others-stay (inr (inl e)) = rw e
+  others-stay (inr (inr e)) = rw e
 
 module _ (n : AagCounts) (k : ℕ) (x y : ℕ) (o : List ℕ) (g : length o ≡ leaf_words n) where
   same_length : (z : Kind) → k < count_of n z → length (with_words n z k (x ∷ y ∷ []) o) ≡ length o
@@ -83,11 +81,20 @@ module _ (s : Bytes) (a e : ℕ) (n : AagCounts) (h : 0 < a) (g : a ≤ e) (f : 
       ∙ ap (λ (j : ℕ). drop j (part s a e)) least
       ∙ drop_min name (part s a e)))
 
-module _ (s : Bytes) (a e : ℕ) (n : AagCounts) (o : List ℕ) (x : SymbolLine) (q : symbol_answer (part s a e) x ≡ symbol_of n (part s a e)) where
-  pub line_refused : x ≡ symbol.Refused → NamesLine s (part s a e) n o o false
+module _ (s : Bytes) (a e : ℕ) (n : AagCounts) (o : List ℕ) (x : option.Option SymbolLine) (q : symbol_answer (part s a e) x ≡ symbol_of n (part s a e)) where
+  pub line_refused : x ≡ None → NamesLine s (part s a e) n o o false
   line_refused u = rw u at (sym q)
 
-  module _ (z : Kind) (k name : ℕ) (u : x ≡ symbol.Named z k name) where
+  module _ (y : SymbolLine) (u : x ≡ Some y) where
+    abbrev z : Kind
+    z = y.kind
+
+    abbrev k : ℕ
+    k = y.index
+
+    abbrev name : ℕ
+    name = y.name
+
     named : symbol_of n (part s a e) ≡ got (record { kind = z; index = k; name = drop name (part s a e) })
     named = rw u at (sym q)
 

@@ -1,4 +1,6 @@
 -- What an accepted text says of its sections and their words, and the call that loads them.
+use Rattle.std.specs.Prelude.{Some, None}
+use Rattle.std.specs.declared.option.Option as option
 use Prim.Native.Nat.{ℕ, zero, suc, ◌+◌, ◌*◌, ◌≤◌, ◌<◌}
 use mathlib.Core.Bool.{Bool}
 use mathlib.Core.List.{List, [], ◌∷◌, ◌++◌, map, append_assoc}
@@ -21,8 +23,7 @@ use Rattle.aiger.proofs.SectionLaws.{section_shorter}
 use Rattle.circuit_lines.specs.SectionLines.{literal_line, gate_line}
 use Rattle.circuit_lines.specs.Inner.Takes.{lines_from}
 use Rattle.witness_text.specs.declared.AagCounts.{AagCounts}
-use Rattle.witness_text.specs.declared.WitnessHeader.{WitnessHeader}
-use Rattle.witness_text.specs.declared.WitnessHeader.TheVariants as header
+use Rattle.text.specs.declared.Parsed.{Parsed}
 use Rattle.witness_text.specs.declared.Latch.{Latch}
 use Rattle.witness_text.specs.Header.{header_of}
 use Rattle.witness_text.specs.LatchLines.{latch_line}
@@ -104,12 +105,12 @@ module _ (s : Bytes) (n : AagCounts) (w₀ : List ℕ) where
   pub load-room : Loadable s n w₀ → leaf_words n + body_room n ≤ length w₀
   load-room a = rw (a.accepted.counts, ← words-counted a.sections) a.accepted.fits
 
-  module _ (r : WitnessHeader) (q : TakesCounts s r) where
-    pub load_no_header : r ≡ header.Refused → (w : List ℕ) → LoadsText s n w₀ w
+  module _ (r : option.Option (Parsed AagCounts)) (q : TakesCounts s r) where
+    pub load_no_header : r ≡ None → (w : List ℕ) → LoadsText s n w₀ w
     load_no_header u w x a = got-refused (text_taken s n w₀ x a).1.heads (rw u at q)
 
-    module _ (m : AagCounts) (c₀ : Cursor) (u : r ≡ header.Got m c₀) (w₁ : List ℕ) (c : Cursor) (b : LoadsBody s c₀ n w₀ (leaf_words n) w₁ c) where
-      headed : Headed s m c₀
+    module _ (h : Parsed AagCounts) (u : r ≡ Some h) (w₁ : List ℕ) (c : Cursor) (b : LoadsBody s h.next n w₀ (leaf_words n) w₁ c) where
+      headed : Headed s h.value h.next
       headed = rw u at q
 
       loaded : (x : Sections) (k : Taken s n x) → (w₁ ≡ put w₀ (leaf_words n) (body_words k.1.body)) × (lines_from s c ≡ k.1.body.rest)

@@ -1,36 +1,33 @@
 // The sections of an accepted witness text as words in lent memory: the places of the names in the text, then the literals.
 #![tactic(auto)]
 
-ghost use Rattle.std.specs.Prelude.{true, [], ◌∷◌, ◌≡◌, ◌+◌, ◌*◌, ◌≤◌, ◌<◌, leb, length, drop};
+ghost use Rattle.std.specs.Prelude.{ℕ, List, refl, true, [], ◌∷◌, ◌≡◌, ◌+◌, ◌*◌, ◌≤◌, ◌<◌, leb, length, drop};
 ghost use Rattle.lists.specs.Parts.{part, put, zeros};
 ghost use Rattle.text.specs.declared.Reader.TheVariants.{Witness};
 ghost use Rattle.circuit_lines.specs.Inner.Takes.{lines_from};
-ghost use Rattle.circuit_lines.specs.SectionLines.{literal_line, gate_line};
+ghost use Rattle.circuit_lines.specs.SectionLines.{literal_line};
 ghost use Rattle.text.specs.Texts.{limited};
 ghost use Rattle.witness_text.specs.Header.{counted};
-ghost use Rattle.witness_text.specs.LatchLines.{latch_line};
 ghost use Rattle.witness_text.specs.Symbols.{count_of};
 ghost use Rattle.witness_read.specs.Reading.{read_aag};
 ghost use Rattle.witness_load.specs.Inner.Loaded.{operand_words, Loads};
 ghost use Rattle.witness_load.specs.Inner.Loading.{stored_words, literal_word, LoadsSection, rest_room, LoadsRest, body_room, LoadsBody, leaf_words, with_words, NamesLine, LoadsNames, Loadable, LoadsText};
 
-use aiger::Refusal;
-use circuit_lines::LiteralLine;
+use aiger::{Gate, Refusal};
+use circuit_lines::{GateLine, LiteralLine, TakeLine};
 use text::{Cursor, Reader};
-use witness_text::{AagCounts, Kind, SymbolLine, TakenLatch, WitnessHeader};
+use witness_text::{AagCounts, Kind, Latch, LatchLine};
 
 // The cursor after n lines, or at the end where there are fewer.
 fn pass_lines(s: &[u8], cursor: Cursor, n: usize) -> Cursor
     ensures { lines_from s.now result ≡ drop n (lines_from s.now cursor) }
 {
     let mut p = cursor;
-    let mut i = 0;
-    while i < n {
+    for i in 0..n {
         let Some(line) = text::next_line(s, p) else {
             return p;
         };
         p = line.next;
-        i += 1;
     }
     p
 }
@@ -43,38 +40,56 @@ fn store_pair(out: &mut [u64], at: usize, x: u64, y: u64)
     out[at + 1] = y;
 }
 
-// Next literal and reset of the latches of the n lines from a cursor on, stored from a place on.
-fn load_latches(s: &[u8], cursor: Cursor, n: usize, out: &mut [u64], at: usize) -> Option<Cursor>
-    requires { at + 2 * n ≤ length out.old }
-    ensures { LoadsSection latch_line stored_words s.now cursor n out.old at out.new result }
-{
-    let mut p = cursor;
-    let mut i = 0;
-    while i < n {
-        let TakenLatch::Got { latch, next } = witness_text::take_latch(s, p) else {
-            return None;
-        };
-        store_pair(out, at + 2 * i, latch.next, latch.reset);
-        p = next;
-        i += 1;
-    }
-    Some(p)
+// A kind of line whose item is stored as two words.
+trait PairLine: TakeLine {
+    ghost words: { Self.Item → List ℕ };
+
+    fn pair(item: Self::Item) -> (u64, u64)
+        ensures { words item ≡ result.0 ∷ result.1 ∷ [] };
+
+    ghost two: { (item : Self.Item) → length (words item) ≡ 2 };
 }
 
-// The operands of the gates of the n lines from a cursor on, stored from a place on.
-fn load_gates(s: &[u8], cursor: Cursor, n: usize, out: &mut [u64], at: usize) -> Option<Cursor>
+// Next literal and reset of a latch.
+impl PairLine for LatchLine {
+    ghost words = { stored_words };
+
+    ghost two = { λ latch. refl };
+
+    fn pair(latch: Latch) -> (u64, u64) {
+        (latch.next, latch.reset)
+    }
+}
+
+// The operands of a gate.
+impl PairLine for GateLine {
+    ghost words = { operand_words };
+
+    ghost two = { λ gate. refl };
+
+    fn pair(gate: Gate) -> (u64, u64) {
+        (gate.left, gate.right)
+    }
+}
+
+// The pairs of the n lines from a cursor on, stored from a place on.
+fn load_pairs<K: PairLine>(
+    kind: K,
+    s: &[u8],
+    cursor: Cursor,
+    n: usize,
+    out: &mut [u64],
+    at: usize,
+) -> Option<Cursor>
     requires { at + 2 * n ≤ length out.old }
-    ensures { LoadsSection (gate_line Witness) operand_words s.now cursor n out.old at out.new result }
+    ensures { LoadsSection (K.item kind) K.words s.now cursor n out.old at out.new result }
 {
     let mut p = cursor;
-    let mut i = 0;
-    while i < n {
-        let Some(gate) = circuit_lines::take_gate(Reader::Witness, s, p) else {
-            return None;
-        };
-        store_pair(out, at + 2 * i, gate.value.left, gate.value.right);
-        p = gate.next;
-        i += 1;
+    for i in 0..n {
+        let line = kind.take(s, p)?;
+        let (x, y) = K::pair(line.value);
+        store_pair(out, at + 2 * i, x, y);
+        p = line.next;
     }
     Some(p)
 }
@@ -100,7 +115,10 @@ fn load_rest(s: &[u8], cursor: Cursor, counts: AagCounts, out: &mut [u64], at: u
     let Some(gates) = load_literals(s, cursor, count, out, at) else {
         return cursor;
     };
-    let Some(end) = load_gates(s, gates, counts.gates, out, at + count) else {
+    let kind = GateLine {
+        reader: Reader::Witness,
+    };
+    let Some(end) = load_pairs(kind, s, gates, counts.gates, out, at + count) else {
         return cursor;
     };
     end
@@ -112,7 +130,7 @@ fn load_body(s: &[u8], cursor: Cursor, counts: AagCounts, out: &mut [u64], at: u
     ensures { LoadsBody s.now cursor counts out.old at out.new result }
 {
     let latches = pass_lines(s, cursor, counts.inputs);
-    let Some(rest) = load_latches(s, latches, counts.latches, out, at) else {
+    let Some(rest) = load_pairs(LatchLine {}, s, latches, counts.latches, out, at) else {
         return cursor;
     };
     load_rest(s, rest, counts, out, at + 2 * counts.latches)
@@ -126,9 +144,7 @@ fn store_leaf(counts: AagCounts, kind: Kind, index: usize, x: u64, y: u64, out: 
     match kind {
         Kind::Input => store_pair(out, 2 * index, x, y),
         Kind::Latch => store_pair(out, 2 * (counts.inputs + index), x, y),
-        Kind::Output => {}
-        Kind::Bad => {}
-        Kind::Constraint => {}
+        Kind::Output | Kind::Bad | Kind::Constraint => {}
     }
 }
 
@@ -138,11 +154,11 @@ fn name_line(s: &[u8], start: usize, end: usize, counts: AagCounts, out: &mut [u
     ensures { NamesLine s.now (part s.now start end) counts out.old out.new result }
 {
     let l = &s[start..end];
-    let SymbolLine::Named { kind, index, name } = witness_text::symbol_line(l, counts) else {
+    let Some(symbol) = witness_text::symbol_line(l, counts) else {
         return false;
     };
-    let at = scan::block_end(end, start, name);
-    store_leaf(counts, kind, index, at as u64, (end - at) as u64, out);
+    let at = scan::block_end(end, start, symbol.name);
+    store_leaf(counts, symbol.kind, symbol.index, at as u64, (end - at) as u64, out);
     true
 }
 
@@ -159,11 +175,10 @@ fn name_leaves(s: &[u8], cursor: Cursor, counts: AagCounts, out: &mut [u64])
         if witness_text::ends_symbols(&s[line.start..line.end]) {
             return;
         }
-        if name_line(s, line.start, line.end, counts, out) {
-            p = line.next;
-        } else {
+        if !name_line(s, line.start, line.end, counts, out) {
             return;
         }
+        p = line.next;
     }
 }
 
@@ -181,11 +196,11 @@ pub fn load(s: &[u8], known: AagCounts, words: &mut [u64])
     requires { Loadable s.now known words.old }
     ensures { LoadsText s.now known words.old words.new }
 {
-    let WitnessHeader::Got { counts, next } = witness_text::take_witness_header(s) else {
+    let Some(header) = witness_text::take_witness_header(s) else {
         return;
     };
     let names = 2 * (known.inputs + known.latches);
-    let c = load_body(s, next, known, words, names);
+    let c = load_body(s, header.next, known, words, names);
     load_names(s, c, known, &mut words[..names]);
 }
 

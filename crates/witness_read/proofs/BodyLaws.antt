@@ -1,8 +1,10 @@
 -- Laws for the functions that check several sections, one after the other.
+use Rattle.std.specs.Prelude.{Some, None}
+use Rattle.witness_read.proofs.NumberedLaws.{all-from-all}
 use Prim.Native.Nat.{ℕ, ◌+◌}
 use mathlib.Core.Bool.{Bool, true, false, ◌&&◌, and-true}
 use mathlib.Core.List.{List}
-use mathlib.Core.Path.{◌≡◌, refl, sym, ap, ◌∙◌}
+use mathlib.Core.Path.{◌≡◌, refl, sym, ◌∙◌}
 use Rattle.lists.specs.Answer.{Answer, got, refused, and_then}
 use Rattle.lists.specs.Parts.{Bytes}
 use Rattle.lists.specs.Tests.{all, all_from, every}
@@ -16,69 +18,65 @@ use Rattle.circuit_lines.specs.SectionLines.{literal_line, gate_line}
 use Rattle.circuit_lines.specs.Inner.Takes.{lines_from}
 use Rattle.witness_text.specs.declared.AagCounts.{AagCounts}
 use Rattle.witness_text.specs.LatchLines.{latch_line}
-use Rattle.witness_read.specs.declared.Checked.{Checked}
 use Rattle.witness_read.specs.Order.{Body, body_of, defines, latch_numbered, gate_numbered, well_numbered}
-use Rattle.witness_read.specs.Inner.Passes.{Passed, Checks, Leaves, leaves_of, leaves_numbered, Properties, properties_of, properties_numbered, PassedAll, ChecksLeaves, ChecksProperties, ChecksBody}
-use Rattle.witness_read.specs.declared.Checked.TheVariants as checked
+use Rattle.witness_read.specs.Inner.Passes.{Passed, Leaves, leaves_of, leaves_numbered, Properties, properties_of, properties_numbered, PassedAll, ChecksLeaves, ChecksProperties, ChecksBody}
+
+and_left : (f g h : Bool) → ((f && g) && h) ≡ (f && (g && h))
+and_left true g h = refl
+and_left false g h = refl
 
 -- ---- inputs and latches
 
-module _ (s : Bytes) (c : Cursor) (n : AagCounts) (r : Checked) (a : Checks (literal_line Witness) (all_from defines 1) s c n.inputs r) where
-  pub inputs_bad : r ≡ checked.Bad → ChecksLeaves s c n checked.Bad
-  inputs_bad k = let e : section (literal_line Witness) n.inputs (lines_from s c) ≡ refused 8 = rw k at a in rw e
+module _ (s : Bytes) (c : Cursor) (n : AagCounts) where
+  pub inputs_bad : section (literal_line Witness) n.inputs (lines_from s c) ≡ refused 8 → ChecksLeaves s c n None
+  inputs_bad e = rw e
 
-  module _ (p : Cursor) (f : Bool) (k : r ≡ checked.Done p f) (most : ℕ) (m : most ≡ n.max_variable) (t : Checked)
-      (b : Checks latch_line (all_from (latch_numbered most) (n.inputs + 1)) s p n.latches t) where
-    first : Passed (literal_line Witness) (all_from defines 1) s c n.inputs p f
-    first = rw k at a
+  module _ (p : Cursor) (f : Bool) (first : Passed (literal_line Witness) (all_from defines 1) s c n.inputs p f) where
+    pub latches_bad : section latch_line n.latches (lines_from s p) ≡ refused 8 → ChecksLeaves s c n None
+    latches_bad e = rw (first.takes, e)
 
-    pub latches_bad : t ≡ checked.Bad → ChecksLeaves s c n checked.Bad
-    latches_bad u = let e : section latch_line n.latches (lines_from s p) ≡ refused 8 = rw u at b in rw (first.takes, e)
-
-    pub leaves-done : (q : Cursor) (g : Bool) → t ≡ checked.Done q g → (w : Bool) → w ≡ (f && g) → ChecksLeaves s c n (checked.Done q w)
-    leaves-done q g u w z =
-        let second : Passed latch_line (all_from (latch_numbered most) (n.inputs + 1)) s p n.latches q g = rw u at b in
+    pub leaves-done : (q : Cursor) (g : Bool) → Passed latch_line (all_from (latch_numbered n.max_variable) (n.inputs + 1)) s p n.latches q g
+        → ChecksLeaves s c n (Some (record { next = q; fine = f && g }))
+    leaves-done q g second =
         record {
           taken = record { inputs = first.items; latches = second.items; rest = lines_from s q };
           takes = rw (first.takes, second.takes);
           left = refl;
-          says = z ∙ and_cong f g _ _ first.says (second.says ∙ rw m);
+          says = and_cong f g _ _ first.says second.says;
         }
 
 -- ---- outputs, bads and constraints
 
-module _ (s : Bytes) (c : Cursor) (n : AagCounts) (most : ℕ) (m : most ≡ n.max_variable) (r : Checked)
-    (a : Checks (literal_line Witness) (all (literal most)) s c n.outputs r) where
-  pub outputs_bad : r ≡ checked.Bad → ChecksProperties s c n checked.Bad
-  outputs_bad k = let e : section (literal_line Witness) n.outputs (lines_from s c) ≡ refused 8 = rw k at a in rw e
+abbrev literals : AagCounts → ℕ → ℕ → Bool
+literals n k = literal n.max_variable
 
-  module _ (p : Cursor) (f : Bool) (k : r ≡ checked.Done p f) (t : Checked) (b : Checks (literal_line Witness) (all (literal most)) s p n.bads t) where
-    outputs : Passed (literal_line Witness) (all (literal most)) s c n.outputs p f
-    outputs = rw k at a
+-- a section of literals that are in range
+abbrev pub PassedLiterals : Bytes → AagCounts → Cursor → ℕ → Cursor → Bool → Type 0
+PassedLiterals s n c k p f = Passed (literal_line Witness) (all_from (literals n) 0) s c k p f
 
-    pub bads_bad : t ≡ checked.Bad → ChecksProperties s c n checked.Bad
-    bads_bad u = let e : section (literal_line Witness) n.bads (lines_from s p) ≡ refused 8 = rw u at b in rw (outputs.takes, e)
+module _ (s : Bytes) (c : Cursor) (n : AagCounts) where
+  pub outputs_bad : section (literal_line Witness) n.outputs (lines_from s c) ≡ refused 8 → ChecksProperties s c n None
+  outputs_bad e = rw e
 
-    module _ (q : Cursor) (g : Bool) (u : t ≡ checked.Done q g) (v : Checked) (d : Checks (literal_line Witness) (all (literal most)) s q n.constraints v) where
-      bads : Passed (literal_line Witness) (all (literal most)) s p n.bads q g
-      bads = rw u at b
+  module _ (p : Cursor) (f : Bool) (outputs : PassedLiterals s n c n.outputs p f) where
+    pub bads_bad : section (literal_line Witness) n.bads (lines_from s p) ≡ refused 8 → ChecksProperties s c n None
+    bads_bad e = rw (outputs.takes, e)
 
-      pub constraints_bad : v ≡ checked.Bad → ChecksProperties s c n checked.Bad
-      constraints_bad x = let e : section (literal_line Witness) n.constraints (lines_from s q) ≡ refused 8 = rw x at d in rw (outputs.takes, bads.takes, e)
+    module _ (q : Cursor) (g : Bool) (bads : PassedLiterals s n p n.bads q g) where
+      pub constraints_bad : section (literal_line Witness) n.constraints (lines_from s q) ≡ refused 8 → ChecksProperties s c n None
+      constraints_bad e = rw (outputs.takes, bads.takes, e)
 
-      pub properties-done : (e : Cursor) (h : Bool) → v ≡ checked.Done e h → (y : Bool) → y ≡ (g && h) → (w : Bool) → w ≡ (f && y) → ChecksProperties s c n (checked.Done e w)
-      properties-done e h x y i w z =
-          let constraints : Passed (literal_line Witness) (all (literal most)) s q n.constraints e h = rw x at d in
-          let fits : List ℕ → Bool = all (literal n.max_variable) in
-          let same : (l : List ℕ) → all (literal most) l ≡ fits l = λ l. ap (λ (k : ℕ). all (literal k) l) m in
+      pub properties-done : (e : Cursor) (h : Bool) → PassedLiterals s n q n.constraints e h → ChecksProperties s c n (Some (record { next = e; fine = (f && g) && h }))
+      properties-done e h constraints =
+          let same : (l : List ℕ) → all_from (literals n) 0 l ≡ all (literal n.max_variable) l = λ l. all-from-all (literal n.max_variable) 0 l in
           record {
             taken = record { outputs = outputs.items; bads = bads.items; constraints = constraints.items; rest = lines_from s e };
             takes = rw (outputs.takes, bads.takes, constraints.takes);
             left = refl;
             says =
-                z
-                ∙ and_cong f y (fits outputs.items) (fits bads.items && fits constraints.items) (outputs.says ∙ same outputs.items)
-                (i ∙ and_cong g h (fits bads.items) (fits constraints.items) (bads.says ∙ same bads.items) (constraints.says ∙ same constraints.items));
+                and_left f g h
+                ∙ and_cong f (g && h) _ _ (outputs.says ∙ same outputs.items)
+                (and_cong g h _ _ (bads.says ∙ same bads.items) (constraints.says ∙ same constraints.items));
           }
 
 -- ---- all of them
@@ -138,32 +136,21 @@ numbered n d a b c e f g p q r s t u = rw (← p, ← q, ← r, ← s, ← t, �
     go true true true true false g = refl
     go true true true true true g = sym (and-true g)
 
-module _ (s : Bytes) (c : Cursor) (n : AagCounts) (r : Checked) (a : ChecksLeaves s c n r) where
-  pub leaves_bad : r ≡ checked.Bad → ChecksBody s c n checked.Bad
-  leaves_bad k = let e : leaves_of n (lines_from s c) ≡ refused 8 = rw k at a in body-split n (lines_from s c) ∙ rw e
+module _ (s : Bytes) (c : Cursor) (n : AagCounts) where
+  pub leaves_bad : leaves_of n (lines_from s c) ≡ refused 8 → ChecksBody s c n None
+  leaves_bad e = body-split n (lines_from s c) ∙ rw e
 
-  module _ (p : Cursor) (f : Bool) (k : r ≡ checked.Done p f) (t : Checked) (b : ChecksProperties s p n t) where
-    leaves : PassedAll (leaves_of n) (λ d. d.rest) (leaves_numbered n) s c p f
-    leaves = rw k at a
+  module _ (p : Cursor) (f : Bool) (leaves : PassedAll (leaves_of n) (λ d. d.rest) (leaves_numbered n) s c p f) where
+    pub properties_bad : properties_of n (lines_from s p) ≡ refused 8 → ChecksBody s c n None
+    properties_bad e = body-split n (lines_from s c) ∙ rw (leaves.takes, leaves.left, e)
 
-    pub properties_bad : t ≡ checked.Bad → ChecksBody s c n checked.Bad
-    properties_bad u =
-        let e : properties_of n (lines_from s p) ≡ refused 8 = rw u at b in
-        body-split n (lines_from s c) ∙ rw (leaves.takes, leaves.left, e)
+    module _ (q : Cursor) (g : Bool) (properties : PassedAll (properties_of n) (λ d. d.rest) (properties_numbered n) s p q g) where
+      pub gates_bad : section (gate_line Witness) n.gates (lines_from s q) ≡ refused 8 → ChecksBody s c n None
+      gates_bad e = body-split n (lines_from s c) ∙ rw (leaves.takes, leaves.left, properties.takes, properties.left, e)
 
-    module _ (q : Cursor) (g : Bool) (u : t ≡ checked.Done q g) (v : Checked)
-        (d : Checks (gate_line Witness) (all_from gate_numbered (n.inputs + n.latches + 1)) s q n.gates v) where
-      properties : PassedAll (properties_of n) (λ d. d.rest) (properties_numbered n) s p q g
-      properties = rw u at b
-
-      pub gates_bad : v ≡ checked.Bad → ChecksBody s c n checked.Bad
-      gates_bad x =
-          let e : section (gate_line Witness) n.gates (lines_from s q) ≡ refused 8 = rw x at d in
-          body-split n (lines_from s c) ∙ rw (leaves.takes, leaves.left, properties.takes, properties.left, e)
-
-      pub body-done : (e : Cursor) (h : Bool) → v ≡ checked.Done e h → (y : Bool) → y ≡ (g && h) → (w : Bool) → w ≡ (f && y) → ChecksBody s c n (checked.Done e w)
-      body-done e h x y i w z =
-          let gates : Passed (gate_line Witness) (all_from gate_numbered (n.inputs + n.latches + 1)) s q n.gates e h = rw x at d in
+      pub body-done : (e : Cursor) (h : Bool) → Passed (gate_line Witness) (all_from gate_numbered (n.inputs + n.latches + 1)) s q n.gates e h
+          → ChecksBody s c n (Some (record { next = e; fine = (f && g) && h }))
+      body-done e h gates =
           let body : Body =
           record {
             inputs = leaves.taken.inputs;
@@ -178,5 +165,5 @@ module _ (s : Bytes) (c : Cursor) (n : AagCounts) (r : Checked) (a : ChecksLeave
             taken = body;
             takes = body-split n (lines_from s c) ∙ rw (leaves.takes, leaves.left, properties.takes, properties.left, gates.takes);
             left = refl;
-            says = z ∙ and_cong f y _ _ leaves.says (i ∙ and_cong g h _ _ properties.says gates.says) ∙ numbered n body _ _ _ _ _ _ refl refl refl refl refl refl;
+            says = and_left f g h ∙ and_cong f (g && h) _ _ leaves.says (and_cong g h _ _ properties.says gates.says) ∙ numbered n body _ _ _ _ _ _ refl refl refl refl refl refl;
           }

@@ -1,4 +1,5 @@
 -- `Checking`: a section that is taken one line at a time, with what a test says of the items so far.
+use Rattle.std.specs.Prelude.{Some, None}
 use Prim.Native.Nat.{ℕ, ◌+◌, ◌≤◌, ◌<◌}
 use mathlib.Core.Bool.{Bool, true, ◌&&◌}
 use mathlib.Core.List.{List, [], ◌∷◌, ◌++◌}
@@ -7,14 +8,13 @@ use native.Mathlib.Omega.{arith}
 use lib.ListN.{length, length-append}
 use Rattle.lists.specs.Answer.{Answer, refused}
 use Rattle.lists.specs.Parts.{Bytes}
-use Rattle.lists.specs.Tests.{all, all_from}
-use Rattle.lists.proofs.TestLaws.{all_snoc, all-from_snoc}
+use Rattle.lists.specs.Tests.{all_from}
+use Rattle.lists.proofs.TestLaws.{all-from_snoc}
 use Rattle.text.specs.declared.Cursor.{Cursor}
 use Rattle.aiger.specs.Sections.{section}
 use Rattle.aiger.proofs.SectionLaws.{section_of, Taking, taking-none, taking-more, taking_bad, taking-done}
 use Rattle.circuit_lines.specs.Inner.Takes.{lines_from}
 use Rattle.witness_read.specs.Inner.Passes.{Checks}
-use Rattle.witness_read.specs.declared.Checked.TheVariants as checked
 
 -- of n items, i are taken from the lines of s between the cursors c and p, and `fine` says whether they pass the test
 pub record Checking {A : Type 0} (item : Bytes → Answer A) (test : List A → Bool) (s : Bytes) (c : Cursor) (n i : ℕ) (fine : Bool) (p : Cursor) : Type 0 where
@@ -29,10 +29,10 @@ module _ {A : Type 0} (item : Bytes → Answer A) (s : Bytes) (c : Cursor) (n : 
     checking-none e = record { done = []; count = refl; taking = taking-none item n (lines_from s c); says = e }
 
     module _ (i : ℕ) (fine : Bool) (p : Cursor) (k : Checking item test s c n i fine p) where
-      pub checking_bad : i < n → section item 1 (lines_from s p) ≡ refused 8 → Checks item test s c n checked.Bad
+      pub checking_bad : i < n → section item 1 (lines_from s p) ≡ refused 8 → Checks item test s c n None
       checking_bad h e = taking_bad item n (lines_from s c) k.done (lines_from s p) k.taking (omega (arith, k.count)) e
 
-      pub checking-done : n ≤ i → Checks item test s c n (checked.Done p fine)
+      pub checking-done : n ≤ i → Checks item test s c n (Some (record { next = p; fine = fine }))
       checking-done h =
           record {
             items = k.done;
@@ -50,12 +50,6 @@ module _ {A : Type 0} (item : Bytes → Answer A) (s : Bytes) (c : Cursor) (n : 
             taking = taking-more item n (lines_from s c) k.done (lines_from s p) k.taking (omega (arith, k.count)) a (lines_from s e) q;
             says = g;
           }
-
-  -- a test of each item
-  module _ (test : A → Bool) (i : ℕ) (fine : Bool) (p : Cursor) (k : Checking item (all test) s c n i fine p) where
-    pub all_more : i < n → (a : A) (e : Cursor) → section item 1 (lines_from s p) ≡ section_of (a ∷ []) (lines_from s e) → (f : Bool) → f ≡ (fine && test a)
-        → Checking item (all test) s c n (i + 1) f e
-    all_more h a e q f g = more (all test) i fine p k h a e q f (g ∙ rw k.says (sym (all_snoc test k.done a)))
 
   -- a test of each item by its number
   module _ (test : ℕ → A → Bool) (first i : ℕ) (fine : Bool) (p : Cursor) (k : Checking item (all_from test first) s c n i fine p) where

@@ -1,5 +1,5 @@
 -- Laws for the functions that read a text: which reason comes first, and the counts of what is accepted.
-use Rattle.std.specs.Prelude.{ℕ, Result, Ok, Err}
+use Rattle.std.specs.Prelude.{Option, Some, None}
 use mathlib.Core.Bool.{Bool, true, false, not}
 use mathlib.Core.Path.{◌≡◌, sym, ap, ◌∙◌}
 use borrow.Author.Tests.{not-true, not-false}
@@ -14,7 +14,7 @@ use Rattle.circuit_lines.specs.Inner.Takes.{lines_from}
 use Rattle.aiger.specs.declared.Refusal.{Refusal}
 use Rattle.aiger.specs.Refusals.{refusal_number}
 use Rattle.witness_text.specs.declared.AagCounts.{AagCounts}
-use Rattle.witness_text.specs.declared.WitnessHeader.{WitnessHeader}
+use Rattle.text.specs.declared.Parsed.{Parsed}
 use Rattle.witness_text.specs.Header.{header_of, counted, without_liveness}
 use Rattle.witness_text.specs.Inner.Takes.{Headed, TakesCounts}
 use Rattle.witness_read.specs.declared.Checked.{Checked}
@@ -24,16 +24,20 @@ use Rattle.witness_read.specs.Order.{body_of, well_numbered}
 use Rattle.witness_read.specs.Reading.{sections_from, sections_of, after_header, read_aag, counts_in, counts_read}
 use Rattle.witness_read.proofs.AcceptedLaws.{body-parts, parts-counts, counts_same}
 use Rattle.witness_read.specs.Inner.Passes.{PassedAll, ChecksBody, PassedSymbols}
-use Rattle.witness_text.specs.declared.WitnessHeader.TheVariants as header
-use Rattle.witness_read.specs.declared.Checked.TheVariants as checked
 
 -- ---- read_sections
 
-module _ (s : Bytes) (c : Cursor) (n : AagCounts) (witness : Bool) (r : Checked) (a : ChecksBody s c n r) where
-  pub sections_bad : r ≡ checked.Bad → refused 8 ≡ counts_read (sections_of witness n (lines_from s c))
+module _ (s : Bytes) (c : Cursor) (n : AagCounts) (witness : Bool) (r : Option Checked) (a : ChecksBody s c n r) where
+  pub sections_bad : r ≡ None → refused 8 ≡ counts_read (sections_of witness n (lines_from s c))
   sections_bad k = let e : body_of n (lines_from s c) ≡ refused 8 = rw k at a in rw e
 
-  module _ (p : Cursor) (fine : Bool) (k : r ≡ checked.Done p fine) where
+  module _ (x : Checked) (k : r ≡ Some x) where
+    abbrev p : Cursor
+    p = x.next
+
+    abbrev fine : Bool
+    fine = x.fine
+
     body : PassedAll (body_of n) (λ d. d.rest) (well_numbered n) s c p fine
     body = rw k at a
 
@@ -91,15 +95,15 @@ module _ (s : Bytes) (witness : Bool) (a : Bool) (p : a ≡ good_text limited Wi
   unfolding read_aag
   text_refused h = rw (← p, not-true a h)
 
-  module _ (h : not a ≡ false) (r : WitnessHeader) (q : TakesCounts s r) where
+  module _ (h : not a ≡ false) (r : Option (Parsed AagCounts)) (q : TakesCounts s r) where
     good : good_text limited Witness s ≡ true
     good = told_not (good_text limited Witness s) a p h
 
-    pub header_refused : r ≡ header.Refused → refused 4 ≡ counts_read (read_aag limited witness s)
+    pub header_refused : r ≡ None → refused 4 ≡ counts_read (read_aag limited witness s)
     unfolding read_aag
     header_refused k = let e : header_of (lines_of s) ≡ refused 4 = rw k at q in rw (good, e)
 
-    pub text_read_lem : (n : AagCounts) (c : Cursor) → r ≡ header.Got n c → (x : Answer AagCounts) → x ≡ counts_read (after_header limited witness (lines_from s c) n)
+    pub text_read_lem : (h : Parsed AagCounts) → r ≡ Some h → (x : Answer AagCounts) → x ≡ counts_read (after_header limited witness (lines_from s h.next) h.value)
         → x ≡ counts_read (read_aag limited witness s)
     unfolding read_aag
-    text_read_lem n c k x e = let g : Headed s n c = rw k at q in e ∙ rw (good, g.counts, g.rest)
+    text_read_lem h k x e = let g : Headed s h.value h.next = rw k at q in e ∙ rw (good, g.counts, g.rest)

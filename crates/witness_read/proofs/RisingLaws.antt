@@ -1,10 +1,10 @@
 -- Inputs and latches that are named in their order: none is named twice.
-use Rattle.std.specs.Prelude.{ℕ, ◌+◌, ◌≤◌, ◌<◌, Option, Some, None, Result, Ok, Err}
+use Rattle.std.specs.Prelude.{ℕ, ◌+◌, ◌≤◌, ◌<◌, Option, Some, None, Result, Ok}
 use Rattle.std.specs.Result.{IsErrAnd}
 use Rattle.std.proofs.Common.{◌⊎◌, inl, inr}
 use mathlib.Core.Bool.{Bool, true, false}
 use mathlib.Core.List.{List, [], ◌∷◌, ◌++◌, append-nil}
-use mathlib.Core.Path.{◌≡◌, refl, ◌∙◌, subst}
+use mathlib.Core.Path.{◌≡◌, refl, ◌∙◌}
 use native.Mathlib.Omega.{arith}
 use Rattle.lists.specs.Parts.{Bytes}
 use Rattle.lists.specs.Sets.{distinct}
@@ -22,7 +22,7 @@ use Rattle.witness_text.specs.declared.Kind.TheVariants as kind
 use Rattle.witness_text.specs.Header.{counted}
 use Rattle.witness_text.specs.Symbols.{Symbol, count_of}
 use Rattle.witness_text.proofs.CountLaws.{counts-leaves}
-use Rattle.witness_read.specs.declared.SymbolName.{SymbolName}
+use Rattle.witness_text.specs.declared.SymbolLine.{SymbolLine}
 use Rattle.witness_read.specs.Names.{is_input, is_latch, indices_of}
 use Rattle.witness_read.specs.Inner.Passes.{TakenSymbol, BadSymbol, Follows, ChecksSymbols}
 use Rattle.witness_read.proofs.SymbolSetLaws.{indices_append}
@@ -67,14 +67,14 @@ module _ (s : Bytes) (c : Cursor) (n : AagCounts) (i l : ℕ) (p : Cursor) (k : 
   pub order-bad : (m : Refusal) → BadSymbol s p n (refusal_number m) → (r : Result Cursor Refusal) → IsErrAnd r (λ j. j ≡ m) → ChecksSymbols s c n r
   order-bad m b r e = begun_bad s c n k.done p k.begun m b r e
 
-  module _ (o : Option SymbolName) (x : Cursor) (t : Follows s p n o x) where
+  module _ (o : Option SymbolLine) (x : Cursor) (t : Follows s p n o x) where
     pub order-end : o ≡ None → ChecksSymbols s c n (Ok x)
     order-end e =
         begun_end s c n k.done p k.begun
         (and_both (distinct (indices_of is_input k.done)) (distinct (indices_of is_latch k.done)) k.inputs.once k.latches.once)
         x (t.ends e)
 
-    module _ (y : SymbolName) (e : o ≡ Some y) where
+    module _ (y : SymbolLine) (e : o ≡ Some y) where
       this : TakenSymbol s p n y.kind y.index x
       this = t.taken y e
 

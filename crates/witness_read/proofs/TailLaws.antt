@@ -5,7 +5,7 @@ use Rattle.std.proofs.lemmas.Option.{none-some}
 use borrow.Author.Tests.{not-true, not-false}
 use mathlib.Core.Bool.{Bool, true, false}
 use mathlib.Core.List.{List, [], ◌∷◌, ◌++◌, append_assoc, append-nil}
-use mathlib.Core.Path.{◌≡◌, refl, sym, ap, ◌∙◌, subst}
+use mathlib.Core.Path.{◌≡◌, refl, sym, ap, ◌∙◌}
 use lib.Dec.{eqb, ltb}
 use lib.ListN.{length, take, drop}
 use Rattle.lists.specs.Answer.{Answer, got, refused, and_then}
@@ -27,12 +27,9 @@ use Rattle.witness_text.specs.declared.SymbolLine.{SymbolLine}
 use Rattle.witness_text.specs.Inner.Takes.{symbol_answer}
 use Rattle.witness_text.specs.Symbols.{ends_symbols, Symbol, kind_of, count_of, readable_index, indexed, symbol_from, before_space, symbol_of}
 use Rattle.witness_text.proofs.SymbolLaws.{symbol-below}
-use Rattle.witness_read.specs.declared.SymbolName.{SymbolName}
 use Rattle.witness_read.specs.Names.{Tail, with_symbol, tail_of, named_once, symbols_of}
 use Rattle.witness_read.specs.Inner.Passes.{TakenSymbol, BadSymbol, EndsSymbols, Follows, ChecksSymbols, Unmarked, MarksName}
 use Rattle.witness_read.proofs.SymbolSetLaws.{Named, named_none, named_once_lem, named_more, named_again, twice_append}
-use Rattle.witness_text.specs.declared.SymbolLine.TheVariants as symbol
-use Rattle.witness_read.specs.declared.NextSymbol.{NextSymbol}
 
 -- ---- what an answer of `symbol_of` says
 
@@ -103,7 +100,7 @@ module _ (s : Bytes) (n : AagCounts) (p x : Cursor) where
   follows_end : EndsSymbols s p n x → Follows s p n None x
   follows_end h = record { taken = λ y e. absurd (none-some y e); ends = λ e. h }
 
-  follows_more : (y : SymbolName) → TakenSymbol s p n y.kind y.index x → Follows s p n (Some y) x
+  follows_more : (y : SymbolLine) → TakenSymbol s p n y.kind y.index x → Follows s p n (Some y) x
   follows_more y h = record { taken = λ z e. let f : y ≡ z = cc in rw (sym f) h; ends = λ e. absurd (none-some y (sym e)) }
 
 module _ (s : Bytes) (n : AagCounts) (p : Cursor) (r : Option Line) (q : r ≡ line_at s p.at) where
@@ -114,8 +111,8 @@ module _ (s : Bytes) (n : AagCounts) (p : Cursor) (r : Option Line) (q : r ≡ l
     pub symbol-comments : b ≡ true → Follows s p n None l.next
     symbol-comments g = follows_end s n p l.next (record { takes = ap (tail_of n) (lines-some s p.at r q l u) ∙ tail-comments n (part s l.start l.end) (lines_from s l.next) (sym f ∙ g) })
 
-    module _ (g : b ≡ false) (y : SymbolLine) (v : symbol_answer (part s l.start l.end) y ≡ symbol_of n (part s l.start l.end)) where
-      pub symbol_bad : y ≡ symbol.Refused → BadSymbol s p n 9
+    module _ (g : b ≡ false) (y : Option SymbolLine) (v : symbol_answer (part s l.start l.end) y ≡ symbol_of n (part s l.start l.end)) where
+      pub symbol_bad : y ≡ None → BadSymbol s p n 9
       symbol_bad z =
           record {
             line = part s l.start l.end;
@@ -125,11 +122,11 @@ module _ (s : Bytes) (n : AagCounts) (p : Cursor) (r : Option Line) (q : r ≡ l
             is = sym v ∙ ap (symbol_answer (part s l.start l.end)) z;
           }
 
-      pub symbol-more : (kd : Kind) (i m : ℕ) → y ≡ symbol.Named kd i m → Follows s p n (Some (record { kind = kd; index = i })) l.next
-      symbol-more kd i m z =
-          follows_more s n p l.next (record { kind = kd; index = i }) (record {
+      pub symbol-more : (x : SymbolLine) → y ≡ Some x → Follows s p n (Some x) l.next
+      symbol-more x z =
+          follows_more s n p l.next x (record {
             line = part s l.start l.end;
-            name = drop m (part s l.start l.end);
+            name = drop x.name (part s l.start l.end);
             lines = lines-some s p.at r q l u;
             goes = sym f ∙ g;
             is = sym v ∙ ap (symbol_answer (part s l.start l.end)) z;
@@ -137,7 +134,7 @@ module _ (s : Bytes) (n : AagCounts) (p : Cursor) (r : Option Line) (q : r ≡ l
           })
 
 -- what a symbol that was taken says
-module _ (s : Bytes) (p : Cursor) (n : AagCounts) (o : Option SymbolName) (x : Cursor) (t : Follows s p n o x) (y : SymbolName) (e : o ≡ Some y) where
+module _ (s : Bytes) (p : Cursor) (n : AagCounts) (o : Option SymbolLine) (x : Cursor) (t : Follows s p n o x) (y : SymbolLine) (e : o ≡ Some y) where
   pub index_below : y.index < count_of n y.kind
   index_below = let d = t.taken y e in symbol-below n d.line (record { kind = y.kind; index = y.index; name = d.name }) d.is
 
@@ -203,11 +200,11 @@ module _ (s : Bytes) (c : Cursor) (n : AagCounts) (w : List ℕ) (p : Cursor) (k
   pub naming-bad : (m : Refusal) → BadSymbol s p n (refusal_number m) → (r : Result Cursor Refusal) → IsErrAnd r (λ j. j ≡ m) → ChecksSymbols s c n r
   naming-bad m b r e = begun_bad s c n k.done p k.begun m b r e
 
-  module _ (q : Option SymbolName) (x : Cursor) (t : Follows s p n q x) where
+  module _ (q : Option SymbolLine) (x : Cursor) (t : Follows s p n q x) where
     pub naming-end : q ≡ None → ChecksSymbols s c n (Ok x)
     naming-end e = begun_end s c n k.done p k.begun (named_once_lem n w k.done k.named) x (t.ends e)
 
-    module _ (y : SymbolName) (e : q ≡ Some y) (w' : List ℕ) (o : Bool) (j : MarksName n y.kind y.index w w' o) where
+    module _ (y : SymbolLine) (e : q ≡ Some y) (w' : List ℕ) (o : Bool) (j : MarksName n y.kind y.index w w' o) where
       this : TakenSymbol s p n y.kind y.index x
       this = t.taken y e
 

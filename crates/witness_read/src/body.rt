@@ -1,27 +1,49 @@
 // The sections of a text, line by line: a missing or bad line (R9.8), and whether the literals are in range and order (R9.11).
-ghost use Rattle.std.specs.Prelude.{true, ◌&&◌, ◌≡◌, ◌+◌, ◌≤◌};
-ghost use Rattle.lists.specs.Tests.{all, all_from};
+ghost use Rattle.std.specs.Prelude.{ℕ, Bool, true, ◌≡◌, ◌+◌, ◌≤◌, ◌<◌};
+ghost use Rattle.lists.specs.Tests.{all_from};
 ghost use Rattle.text.specs.Texts.{limited};
 ghost use Rattle.aiger.specs.Defined.{literal};
-ghost use Rattle.circuit_lines.specs.SectionLines.{literal_line, gate_line};
-ghost use Rattle.witness_text.specs.LatchLines.{latch_line};
 ghost use Rattle.witness_text.specs.Header.{counted};
 ghost use Rattle.witness_read.specs.Order.{defines, latch_numbered, gate_numbered};
-ghost use Rattle.witness_read.specs.Inner.Passes.{Checks, ChecksLeaves, ChecksProperties, ChecksBody};
+ghost use Rattle.witness_read.specs.Inner.Passes.{Checks, ChecksLeaves, ChecksProperties, ChecksBody, SmallNumber, SmallMost, SmallBoth};
 
 use super::Checked;
 use aiger::Gate;
+use circuit_lines::{GateLine, LiteralLine, TakeLine};
 use text::{Cursor, Reader};
-use witness_text::{AagCounts, Latch, TakenLatch};
+use witness_text::{AagCounts, Latch, LatchLine};
 
-fn both(a: bool, b: bool) -> bool
-    ensures { result ≡ (a && b) }
-{
-    if a {
-        return b;
-    }
-    false
+// What is tested of the items of a section, each by its number.
+trait Numbered<A> {
+    ghost test: { Self → ℕ → A → Bool };
+
+    // of which numbers it may be asked
+    ghost may: { Self → ℕ → Type 0 };
+
+    fn passes(self, k: usize, item: A) -> bool
+        requires { may self k }
+        ensures { result ≡ test self k item };
 }
+
+// Input k is that of variable k.
+#[derive(Clone, Copy)]
+struct Inputs {}
+
+// Latch k is that of variable k, with literals in range; `most` is M.
+#[derive(Clone, Copy)]
+struct Latches {
+    most: u64,
+}
+
+// An output, a bad or a constraint is in range; `most` is M.
+#[derive(Clone, Copy)]
+struct Literals {
+    most: u64,
+}
+
+// Gate k is that of variable k, with smaller operands.
+#[derive(Clone, Copy)]
+struct Gates {}
 
 // Whether a literal is at most 2M + 1.
 fn literal_holds(most: u64, l: u64) -> bool
@@ -32,197 +54,159 @@ fn literal_holds(most: u64, l: u64) -> bool
 }
 
 // Whether a latch is that of variable k, with literals in range.
-fn latch_numbered(most: u64, k: u64, latch: Latch) -> bool
+fn latch_numbered(most: u64, k: usize, latch: Latch) -> bool
     requires { (most ≤ 2000000) × (k ≤ 2000000) }
     ensures { result ≡ latch_numbered most k latch }
 {
-    if latch.current != 2 * k {
-        return false;
-    }
-    if literal_holds(most, latch.next) {
-        return literal_holds(most, latch.reset);
-    }
-    false
+    (latch.current == 2 * k as u64)
+        & literal_holds(most, latch.next)
+        & literal_holds(most, latch.reset)
 }
 
 // Whether a gate is that of variable k, with smaller operands.
-fn gate_numbered(k: u64, gate: Gate) -> bool
+fn gate_numbered(k: usize, gate: Gate) -> bool
     requires { k ≤ 2000000 }
     ensures { result ≡ gate_numbered k gate }
 {
-    if gate.output != 2 * k {
-        return false;
-    }
-    if k <= gate.left / 2 {
-        return false;
-    }
-    gate.right / 2 < k
+    let variable = k as u64;
+    (gate.output == 2 * variable) & (gate.left / 2 < variable) & (gate.right / 2 < variable)
 }
 
-// The inputs: n lines, from variable 1 on.
-fn check_inputs(s: &[u8], cursor: Cursor, n: usize) -> Checked
-    requires { n ≤ 2000000 }
-    ensures { Checks (literal_line Reader.Witness) (all_from defines 1) s.now cursor n result }
+impl Numbered<u64> for Inputs {
+    ghost test = { λ inputs. defines };
+
+    ghost may = { λ inputs. SmallNumber };
+
+    fn passes(self, k: usize, item: u64) -> bool {
+        item == 2 * k as u64
+    }
+}
+
+impl Numbered<Latch> for Latches {
+    ghost test = { λ latches. latch_numbered latches.most };
+
+    ghost may = { λ latches. SmallBoth latches.most };
+
+    fn passes(self, k: usize, item: Latch) -> bool {
+        latch_numbered(self.most, k, item)
+    }
+}
+
+impl Numbered<u64> for Literals {
+    ghost test = { λ literals k. literal literals.most };
+
+    ghost may = { λ literals k. SmallMost literals.most };
+
+    fn passes(self, k: usize, item: u64) -> bool {
+        literal_holds(self.most, item)
+    }
+}
+
+impl Numbered<Gate> for Gates {
+    ghost test = { λ gates. gate_numbered };
+
+    ghost may = { λ gates. SmallNumber };
+
+    fn passes(self, k: usize, item: Gate) -> bool {
+        gate_numbered(k, item)
+    }
+}
+
+// A section of n lines, whose items are numbered from `first` on.
+fn check_section<K: TakeLine, T: Numbered<K::Item> + Copy>(
+    kind: K,
+    test: T,
+    s: &[u8],
+    cursor: Cursor,
+    n: usize,
+    first: usize,
+) -> Option<Checked>
+    requires fits { first + n < 18446744073709551616 }
+    requires may { (i : ℕ) → i < n → T.may test (first + i) }
+    ensures { Checks (K.item kind) (all_from (T.test test) first) s.now cursor n result }
 {
-    let mut p = cursor;
+    let mut next = cursor;
     let mut fine = true;
-    let mut i: usize = 0;
-    while i < n {
-        let literal = text::take_literal(Reader::Witness, s, p);
-        let Some(value) = literal.value else {
-            return Checked::Bad;
-        };
-        let k = wide(1 + i);
-        fine = both(fine, value == 2 * k);
-        p = literal.next;
-        i += 1;
+    for i in 0..n {
+        let taken = kind.take(s, next)?;
+        fine &= test.passes(first + i, taken.value);
+        next = taken.next;
     }
-    Checked::Done {
-        next: p,
-        fine: fine,
-    }
-}
-
-// The latches: n lines, from variable first + 1 on.
-fn check_latches(s: &[u8], cursor: Cursor, n: usize, first: usize, most: u64) -> Checked
-    requires { (most ≤ 2000000) × (first + n ≤ 2000000) }
-    ensures { Checks latch_line (all_from (latch_numbered most) (first + 1)) s.now cursor n result }
-{
-    let mut p = cursor;
-    let mut fine = true;
-    let mut i: usize = 0;
-    while i < n {
-        let TakenLatch::Got { latch, next } = witness_text::take_latch(s, p) else {
-            return Checked::Bad;
-        };
-        let k = wide(first + 1 + i);
-        fine = both(fine, latch_numbered(most, k, latch));
-        p = next;
-        i += 1;
-    }
-    Checked::Done {
-        next: p,
-        fine: fine,
-    }
-}
-
-// Outputs, bads or constraints: n lines.
-fn check_literals(s: &[u8], cursor: Cursor, n: usize, most: u64) -> Checked
-    requires { most ≤ 2000000 }
-    ensures { Checks (literal_line Reader.Witness) (all (literal most)) s.now cursor n result }
-{
-    let mut p = cursor;
-    let mut fine = true;
-    let mut i: usize = 0;
-    while i < n {
-        let literal = text::take_literal(Reader::Witness, s, p);
-        let Some(value) = literal.value else {
-            return Checked::Bad;
-        };
-        fine = both(fine, literal_holds(most, value));
-        p = literal.next;
-        i += 1;
-    }
-    Checked::Done {
-        next: p,
-        fine: fine,
-    }
-}
-
-// The gates: n lines, from variable first + 1 on.
-fn check_gates(s: &[u8], cursor: Cursor, n: usize, first: usize) -> Checked
-    requires { first + n ≤ 2000000 }
-    ensures { Checks (gate_line Reader.Witness) (all_from gate_numbered (first + 1)) s.now cursor n result }
-{
-    let mut p = cursor;
-    let mut fine = true;
-    let mut i: usize = 0;
-    while i < n {
-        let Some(gate) = circuit_lines::take_gate(Reader::Witness, s, p) else {
-            return Checked::Bad;
-        };
-        let k = wide(first + 1 + i);
-        fine = both(fine, gate_numbered(k, gate.value));
-        p = gate.next;
-        i += 1;
-    }
-    Checked::Done {
-        next: p,
-        fine: fine,
-    }
-}
-
-fn wide(x: usize) -> u64
-    ensures { result ≡ x }
-{
-    x as u64
+    Some(Checked { next, fine })
 }
 
 // Inputs and latches.
-fn check_leaves(s: &[u8], cursor: Cursor, counts: AagCounts) -> Checked
+fn check_leaves(s: &[u8], cursor: Cursor, counts: AagCounts) -> Option<Checked>
     requires { counted limited counts ≡ true }
     ensures { ChecksLeaves s.now cursor counts result }
 {
-    let Checked::Done { next: p, fine: a } = check_inputs(s, cursor, counts.inputs) else {
-        return Checked::Bad;
+    let test = Latches {
+        most: counts.max_variable as u64,
     };
-    let Checked::Done { next: q, fine: b } = check_latches(
+    let inputs = check_section(
+        LiteralLine {
+            reader: Reader::Witness,
+        },
+        Inputs {},
         s,
-        p,
-        counts.latches,
+        cursor,
         counts.inputs,
-        wide(counts.max_variable),
-    ) else {
-        return Checked::Bad;
-    };
-    Checked::Done {
-        next: q,
-        fine: both(a, b),
-    }
+        1,
+    )?;
+    let latches = check_section(
+        LatchLine {},
+        test,
+        s,
+        inputs.next,
+        counts.latches,
+        counts.inputs + 1,
+    )?;
+    Some(Checked {
+        next: latches.next,
+        fine: inputs.fine & latches.fine,
+    })
 }
 
 // Outputs, bads and constraints.
-fn check_properties(s: &[u8], cursor: Cursor, counts: AagCounts) -> Checked
+fn check_properties(s: &[u8], cursor: Cursor, counts: AagCounts) -> Option<Checked>
     requires { counted limited counts ≡ true }
     ensures { ChecksProperties s.now cursor counts result }
 {
-    let most = wide(counts.max_variable);
-    let Checked::Done { next: p, fine: a } = check_literals(s, cursor, counts.outputs, most) else {
-        return Checked::Bad;
+    let kind = LiteralLine {
+        reader: Reader::Witness,
     };
-    let Checked::Done { next: q, fine: b } = check_literals(s, p, counts.bads, most) else {
-        return Checked::Bad;
+    let test = Literals {
+        most: counts.max_variable as u64,
     };
-    let Checked::Done { next: e, fine: d } = check_literals(s, q, counts.constraints, most) else {
-        return Checked::Bad;
-    };
-    Checked::Done {
-        next: e,
-        fine: both(a, both(b, d)),
-    }
+    let outputs = check_section(kind, test, s, cursor, counts.outputs, 0)?;
+    let bads = check_section(kind, test, s, outputs.next, counts.bads, 0)?;
+    let constraints = check_section(kind, test, s, bads.next, counts.constraints, 0)?;
+    Some(Checked {
+        next: constraints.next,
+        fine: outputs.fine & bads.fine & constraints.fine,
+    })
 }
 
 // All sections.
-pub fn check_body(s: &[u8], cursor: Cursor, counts: AagCounts) -> Checked
+pub fn check_body(s: &[u8], cursor: Cursor, counts: AagCounts) -> Option<Checked>
     requires { counted limited counts ≡ true }
     ensures { ChecksBody s.now cursor counts result }
 {
-    let Checked::Done { next: p, fine: a } = check_leaves(s, cursor, counts) else {
-        return Checked::Bad;
+    let leaves = check_leaves(s, cursor, counts)?;
+    let properties = check_properties(s, leaves.next, counts)?;
+    let kind = GateLine {
+        reader: Reader::Witness,
     };
-    let Checked::Done { next: q, fine: b } = check_properties(s, p, counts) else {
-        return Checked::Bad;
-    };
-    let Checked::Done { next: e, fine: d } = check_gates(
+    let gates = check_section(
+        kind,
+        Gates {},
         s,
-        q,
+        properties.next,
         counts.gates,
-        counts.inputs + counts.latches,
-    ) else {
-        return Checked::Bad;
-    };
-    Checked::Done {
-        next: e,
-        fine: both(a, both(b, d)),
-    }
+        counts.inputs + counts.latches + 1,
+    )?;
+    Some(Checked {
+        next: gates.next,
+        fine: leaves.fine & properties.fine & gates.fine,
+    })
 }

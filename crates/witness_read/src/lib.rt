@@ -13,27 +13,20 @@ mod tail;
 
 use aiger::Refusal;
 use text::{Cursor, Reader};
-use witness_text::{AagCounts, Kind, WitnessHeader};
+use witness_text::{AagCounts, SymbolLine};
 
-// The place after some sections and whether their literals are in range and order, or that a line is missing or bad.
+// The place after some sections, and whether their literals are in range and order.
 #[derive(Clone, Copy)]
-pub enum Checked {
-    Done { next: Cursor, fine: bool },
-    Bad,
+pub struct Checked {
+    pub next: Cursor,
+    pub fine: bool,
 }
 
 // What stands at a place among the symbols: a symbol line, unless they end there; then the place after it, where the comments begin if they end.
 #[derive(Clone, Copy)]
 pub struct NextSymbol {
-    pub symbol: Option<SymbolName>,
+    pub symbol: Option<SymbolLine>,
     pub next: Cursor,
-}
-
-// The input, latch, output, bad or constraint that a symbol line names.
-#[derive(Clone, Copy)]
-pub struct SymbolName {
-    pub kind: Kind,
-    pub index: usize,
 }
 
 // The sections from a cursor on. All lines are looked at before R9.11, since a bad line, symbol or comment counts more.
@@ -46,14 +39,14 @@ fn read_sections(
     requires { (counted limited counts ≡ true) × (without_liveness counts ≡ true) }
     ensures { answered result ≡ counts_read (sections_of witness counts (lines_from s.now cursor)) }
 {
-    let Checked::Done { next, fine } = body::check_body(s, cursor, counts) else {
+    let Some(checked) = body::check_body(s, cursor, counts) else {
         return Err(Refusal::Line);
     };
-    let comments = tail::check_tail(s, next, counts)?;
+    let comments = tail::check_tail(s, checked.next, counts)?;
     if !tail::plain_comments(s, comments, witness) {
         return Err(Refusal::Comment);
     }
-    if !fine {
+    if !checked.fine {
         return Err(Refusal::Definition);
     }
     Ok(counts)
@@ -84,8 +77,8 @@ pub fn parse_aag(s: &[u8], witness: bool) -> Result<AagCounts, Refusal>
     if !text::good_text(Reader::Witness, s) {
         return Err(Refusal::Text);
     }
-    let WitnessHeader::Got { counts, next } = witness_text::take_witness_header(s) else {
+    let Some(header) = witness_text::take_witness_header(s) else {
         return Err(Refusal::Header);
     };
-    read_body(s, next, counts, witness)
+    read_body(s, header.next, header.value, witness)
 }

@@ -1,5 +1,5 @@
 // The lines after the gates: symbols (R9.9) and comments (R9.10).
-ghost use Rattle.std.specs.Prelude.{true, ◌≡◌, ◌+◌, ◌≤◌, ◌<◌};
+ghost use Rattle.std.specs.Prelude.{true, ◌≡◌, ◌+◌, ◌*◌, ◌≤◌, ◌<◌};
 ghost use Rattle.text.specs.Texts.{limited};
 ghost use Rattle.circuit_lines.specs.Inner.Takes.{lines_from};
 ghost use Rattle.witness_text.specs.Header.{counted};
@@ -7,10 +7,17 @@ ghost use Rattle.witness_text.specs.Symbols.{count_of};
 ghost use Rattle.witness_read.specs.Comments.{plain_comment, plain_comments};
 ghost use Rattle.witness_read.specs.Inner.Passes.{MarksName, Unmarked, TakesSymbol, ChecksSymbols};
 
-use super::{NextSymbol, SymbolName};
+use super::NextSymbol;
 use aiger::Refusal;
 use text::Cursor;
-use witness_text::{AagCounts, Kind, SymbolLine};
+use witness_text::{AagCounts, Kind};
+
+// The next input and the next latch that may be named, while they are named in their order.
+#[derive(Clone, Copy)]
+struct Order {
+    inputs: usize,
+    latches: usize,
+}
 
 // Whether an input or a latch is named for the first time, which is marked; outputs, bads and constraints may be named again.
 fn name_first(counts: AagCounts, kind: Kind, index: usize, marks: &mut [u64]) -> bool
@@ -36,13 +43,16 @@ fn next_symbol(s: &[u8], cursor: Cursor, counts: AagCounts) -> Result<NextSymbol
     };
     let l = &s[line.start..line.end];
     if witness_text::ends_symbols(l) {
-        return Ok(NextSymbol { symbol: None, next: line.next });
+        return Ok(NextSymbol {
+            symbol: None,
+            next: line.next,
+        });
     }
-    let SymbolLine::Named { kind, index, name } = witness_text::symbol_line(l, counts) else {
+    let Some(symbol) = witness_text::symbol_line(l, counts) else {
         return Err(Refusal::Symbol);
     };
     Ok(NextSymbol {
-        symbol: Some(SymbolName { kind, index }),
+        symbol: Some(symbol),
         next: line.next,
     })
 }
@@ -60,38 +70,27 @@ fn check_symbols(
     let mut p = cursor;
     loop {
         let NextSymbol { symbol, next } = next_symbol(s, p, counts)?;
-        let Some(SymbolName { kind, index }) = symbol else {
+        let Some(symbol) = symbol else {
             return Ok(next);
         };
-        if !name_first(counts, kind, index, marks) {
+        if !name_first(counts, symbol.kind, symbol.index, marks) {
             return Err(Refusal::Symbol);
         }
         p = next;
     }
 }
 
-// The symbols where there are at most 4,096 inputs and latches: clearing more marks would cost more than a short text.
-fn check_few(s: &[u8], cursor: Cursor, counts: AagCounts) -> Result<Cursor, Refusal>
-    requires { counts.inputs + counts.latches ≤ 4096 }
+// The symbols with N words of marks, which stand in this frame alone: clearing many marks would cost more than a short text.
+fn check_with<const N: usize>(
+    s: &[u8],
+    cursor: Cursor,
+    counts: AagCounts,
+) -> Result<Cursor, Refusal>
+    requires few { N ≤ 31250 }
+    requires room { (counts.inputs + counts.latches ≤ 2000000) × (counts.inputs + counts.latches ≤ 64 * N) }
     ensures { ChecksSymbols s.now cursor counts result }
 {
-    let mut marks: [u64; 64] = [0; 64];
-    check_symbols(s, cursor, counts, &mut marks)
-}
-
-fn check_more(s: &[u8], cursor: Cursor, counts: AagCounts) -> Result<Cursor, Refusal>
-    requires { counts.inputs + counts.latches ≤ 65536 }
-    ensures { ChecksSymbols s.now cursor counts result }
-{
-    let mut marks: [u64; 1024] = [0; 1024];
-    check_symbols(s, cursor, counts, &mut marks)
-}
-
-fn check_many(s: &[u8], cursor: Cursor, counts: AagCounts) -> Result<Cursor, Refusal>
-    requires { counts.inputs + counts.latches ≤ 2000000 }
-    ensures { ChecksSymbols s.now cursor counts result }
-{
-    let mut marks: [u64; 31250] = [0; 31250];
+    let mut marks: [u64; N] = [0; N];
     check_symbols(s, cursor, counts, &mut marks)
 }
 
@@ -102,12 +101,12 @@ fn check_marked(s: &[u8], cursor: Cursor, counts: AagCounts) -> Result<Cursor, R
 {
     let leaves = counts.inputs + counts.latches;
     if leaves <= 4096 {
-        return check_few(s, cursor, counts);
+        return check_with::<64>(s, cursor, counts);
     }
     if leaves <= 65536 {
-        return check_more(s, cursor, counts);
+        return check_with::<1024>(s, cursor, counts);
     }
-    check_many(s, cursor, counts)
+    check_with::<31250>(s, cursor, counts)
 }
 
 // The symbols from a cursor on. Inputs and latches that are named in their order need no marks; where that order is first broken, the symbols
@@ -117,25 +116,27 @@ pub fn check_tail(s: &[u8], cursor: Cursor, counts: AagCounts) -> Result<Cursor,
     ensures { ChecksSymbols s.now cursor counts result }
 {
     let mut p = cursor;
-    let mut inputs: usize = 0;
-    let mut latches: usize = 0;
+    let mut order = Order {
+        inputs: 0,
+        latches: 0,
+    };
     loop {
         let NextSymbol { symbol, next } = next_symbol(s, p, counts)?;
-        let Some(SymbolName { kind, index }) = symbol else {
+        let Some(symbol) = symbol else {
             return Ok(next);
         };
-        match kind {
+        match symbol.kind {
             Kind::Input => {
-                if index < inputs {
+                if symbol.index < order.inputs {
                     return check_marked(s, cursor, counts);
                 }
-                inputs = index + 1;
+                order.inputs = symbol.index + 1;
             }
             Kind::Latch => {
-                if index < latches {
+                if symbol.index < order.latches {
                     return check_marked(s, cursor, counts);
                 }
-                latches = index + 1;
+                order.latches = symbol.index + 1;
             }
             Kind::Output | Kind::Bad | Kind::Constraint => {}
         }

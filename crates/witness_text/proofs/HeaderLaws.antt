@@ -11,7 +11,6 @@ use borrow.Author.Tests.{le-leb, lt-leb}
 use Rattle.lists.specs.Answer.{got, refused, unless}
 use Rattle.lists.specs.Parts.{Bytes, zeros, front}
 use Rattle.lists.proofs.ZeroLaws.{front-zeros}
-use Rattle.text.specs.declared.Cursor.{Cursor}
 use Rattle.text.specs.declared.Reader.TheVariants.{Witness}
 use Rattle.text.specs.Lines.{lines_of}
 use Rattle.text.specs.declared.Parsed.{Parsed}
@@ -21,7 +20,6 @@ use Rattle.circuit_lines.specs.Inner.Takes.{Headed, TakesHeaderNumbers}
 use Rattle.witness_text.specs.declared.AagCounts.{AagCounts}
 use Rattle.witness_text.specs.Header.{counts_from, five_to_nine}
 use Rattle.witness_text.specs.Inner.Takes.{TakesCounts}
-use Rattle.witness_text.specs.declared.WitnessHeader.TheVariants as header
 
 -- ---- counts_of_lem
 
@@ -63,17 +61,17 @@ counts-front ns h =
     )
 
 module _ (s : Bytes) (ns : List ℕ) (r : Option (Parsed ℕ)) (q : TakesHeaderNumbers Witness s (zeros 9) ns r) where
-  pub header_bad : r ≡ None → TakesCounts s header.Refused
+  pub header_bad : r ≡ None → TakesCounts s None
   header_bad k = over_nine (first_numbers Witness (lines_of s)) (rw k at q)
 
   module _ (x : Parsed ℕ) (k : r ≡ Some x) where
     headed : Headed Witness s (zeros 9) ns x.value x.next
     headed = rw k at q
 
-    pub header_few : x.value < 5 → TakesCounts s header.Refused
+    pub header_few : x.value < 5 → TakesCounts s None
     header_few h = ap five_to_nine headed.stored.are ∙ few headed.stored.numbers (omega (arith, headed.stored.count))
 
-    pub header_got : 5 ≤ x.value → (n : AagCounts) → n ≡ counts_from ns → TakesCounts s (header.Got n x.next)
+    pub header_got : 5 ≤ x.value → (n : AagCounts) → n ≡ counts_from ns → TakesCounts s (Some (record { value = n; next = x.next }))
     header_got h n p =
         let ms : List ℕ = headed.stored.numbers in
         let most : length ms ≤ 9 = omega (arith, headed.stored.count, headed.stored.fits) in

@@ -6,20 +6,11 @@ use mathlib.Core.Path.{◌≡◌, refl, ap, sym, ◌∙◌}
 use native.Mathlib.Omega.{arith}
 use lib.ListN.{length, get_or}
 use Rattle.lists.specs.Answer.{got, refused}
-use Rattle.lists.specs.Parts.{Bytes, part, zeros, front}
-use Rattle.text.specs.declared.Cursor.{Cursor}
-use Rattle.text.specs.declared.Line.{Line}
+use Rattle.lists.specs.Parts.{Bytes, zeros, front}
 use Rattle.text.specs.declared.Reader.TheVariants.{Witness}
-use Rattle.text.specs.Lines.{line_at}
 use Rattle.text.proofs.LiteralLaws.{numbers_from}
 use Rattle.circuit_lines.specs.Inner.OneLine.{at_most, Stored, Stores}
-use Rattle.circuit_lines.proofs.PlaceLaws.{one_none, one_bad, one_got}
-use Rattle.witness_text.specs.declared.Latch.{Latch}
-use Rattle.witness_text.specs.declared.ReadLatch.{ReadLatch}
 use Rattle.witness_text.specs.LatchLines.{latch_from, latch_numbers, latch_line}
-use Rattle.witness_text.specs.Inner.Takes.{latch_answer, TakesLatch}
-use Rattle.witness_text.specs.declared.ReadLatch.TheVariants as read
-use Rattle.witness_text.specs.declared.TakenLatch.TheVariants as latch
 
 -- ---- latch_line
 
@@ -46,31 +37,18 @@ over_three (Some (c ∷ n ∷ r ∷ [])) h = let z : ◌≡◌ {A = ℕ} 0 1 = c
 over_three (Some (c ∷ n ∷ r ∷ m ∷ ms)) h = refl
 
 module _ (l : Bytes) (ns : List ℕ) (r : Option ℕ) (q : Stores (zeros 3) ns (numbers_from Witness l 0) r) where
-  pub latch_refused : r ≡ None → latch_answer read.Bad ≡ latch_line l
+  pub latch_refused : r ≡ None → refused 8 ≡ latch_line l
   latch_refused k = over_three (numbers_from Witness l 0) (rw k at q)
 
   module _ (n : ℕ) (k : r ≡ Some n) where
     stored : Stored (zeros 3) ns (numbers_from Witness l 0) n
     stored = rw k at q
 
-    pub latch_short : n < 2 → latch_answer read.Bad ≡ latch_line l
+    pub latch_short : n < 2 → refused 8 ≡ latch_line l
     latch_short h = one_at_most stored.numbers (omega (arith, stored.count)) ∙ ap latch_numbers (sym stored.are)
 
-    pub latch_some : 2 ≤ n → latch_answer (read.Got (latch_from (get_or ns 0 0) (get_or ns 1 0) (get_or ns 2 0))) ≡ latch_line l
+    pub latch_some : 2 ≤ n → got (latch_from (get_or ns 0 0) (get_or ns 1 0) (get_or ns 2 0)) ≡ latch_line l
     latch_some h =
         ap (λ (o : List ℕ). got (latch_from (get_or o 0 0) (get_or o 1 0) (get_or o 2 0))) stored.stand
         ∙ latch_of stored.numbers (omega (arith, stored.count)) (omega (arith, stored.count, stored.fits))
         ∙ ap latch_numbers (sym stored.are)
-
--- ---- take_latch
-
-module _ (s : Bytes) (c : Cursor) (r : Option Line) (q : r ≡ line_at s c.at) where
-  pub latch_missing : r ≡ None → TakesLatch s c latch.Bad
-  latch_missing k = one_none latch_line s c r q k
-
-  module _ (l : Line) (k : r ≡ Some l) (x : ReadLatch) (p : latch_answer x ≡ latch_line (part s l.start l.end)) where
-    pub latch_bad : x ≡ read.Bad → TakesLatch s c latch.Bad
-    latch_bad u = one_bad latch_line s c r q l k (sym p ∙ ap latch_answer u)
-
-    pub latch_got : (g : Latch) → x ≡ read.Got g → TakesLatch s c (latch.Got g l.next)
-    latch_got g u = one_got latch_line s c r q l k g (sym p ∙ ap latch_answer u)

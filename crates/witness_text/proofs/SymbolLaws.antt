@@ -1,4 +1,5 @@
 -- Laws of `kind_of`, `before_space` and `symbol_of`, for the code that takes a symbol line apart, and for its callers.
+use Rattle.std.proofs.Common.{◌⊎◌, inl, inr}
 use Rattle.std.specs.Prelude.{Option, Some, None}
 use Prim.Native.Nat.{ℕ, zero, suc, ◌+◌, ◌-◌, ◌≤◌, ◌<◌}
 use mathlib.Core.Bool.{true, false}
@@ -14,33 +15,31 @@ use Rattle.lists.specs.Parts.{Bytes, part}
 use Rattle.lists.proofs.AnswerLaws.{and_then-got, unless_test, unless-got, got_same, got-refused}
 use Rattle.text.specs.declared.Reader.TheVariants.{Witness}
 use Rattle.text.specs.Numbers.{number_of}
+use Rattle.circuit_lines.specs.Inner.OneLine.{answer_or}
 use Rattle.witness_text.specs.declared.AagCounts.{AagCounts}
 use Rattle.witness_text.specs.declared.Kind.{Kind}
-use Rattle.witness_text.specs.declared.KnownKind.{KnownKind}
 use Rattle.witness_text.specs.Symbols.{Symbol, kind_of, count_of, readable_index, indexed, symbol_from, not_space, before_space, symbol_of}
-use Rattle.witness_text.specs.Inner.Takes.{kind_answer, symbol_answer}
+use Rattle.witness_text.specs.Inner.Takes.{symbol_answer}
 use Rattle.witness_text.specs.declared.Kind.TheVariants as kind
-use Rattle.witness_text.specs.declared.KnownKind.TheVariants as known
-use Rattle.witness_text.specs.declared.SymbolLine.TheVariants as symbol
 
 -- ---- kind_of
 
-pub kind-input : (b : ℕ) → b ≡ 105 → kind_answer (known.Is kind.Input) ≡ kind_of b
+pub kind-input : (b : ℕ) → b ≡ 105 → got kind.Input ≡ kind_of b
 kind-input b e = rw e
 
-pub kind_latch : (b : ℕ) → b ≡ 108 → kind_answer (known.Is kind.Latch) ≡ kind_of b
+pub kind_latch : (b : ℕ) → b ≡ 108 → got kind.Latch ≡ kind_of b
 kind_latch b e = rw e
 
-pub kind-output : (b : ℕ) → b ≡ 111 → kind_answer (known.Is kind.Output) ≡ kind_of b
+pub kind-output : (b : ℕ) → b ≡ 111 → got kind.Output ≡ kind_of b
 kind-output b e = rw e
 
-pub kind_bad : (b : ℕ) → b ≡ 98 → kind_answer (known.Is kind.Bad) ≡ kind_of b
+pub kind_bad : (b : ℕ) → b ≡ 98 → got kind.Bad ≡ kind_of b
 kind_bad b e = rw e
 
-pub kind_constraint : (b : ℕ) → b ≡ 99 → kind_answer (known.Is kind.Constraint) ≡ kind_of b
+pub kind_constraint : (b : ℕ) → b ≡ 99 → got kind.Constraint ≡ kind_of b
 kind_constraint b e = rw e
 
-pub kind-other : (b : ℕ) → (b ≡ 105 → ⊥) → (b ≡ 108 → ⊥) → (b ≡ 111 → ⊥) → (b ≡ 98 → ⊥) → (b ≡ 99 → ⊥) → kind_answer known.Unknown ≡ kind_of b
+pub kind-other : (b : ℕ) → (b ≡ 105 → ⊥) → (b ≡ 108 → ⊥) → (b ≡ 111 → ⊥) → (b ≡ 98 → ⊥) → (b ≡ 99 → ⊥) → refused 9 ≡ kind_of b
 kind-other b i l o d c = rw (ne_eqb b 105 i, ne_eqb b 108 l, ne_eqb b 111 o, ne_eqb b 98 d, ne_eqb b 99 c)
 
 -- ---- first_space
@@ -54,7 +53,7 @@ space-goes b h = rw (ne_eqb b 32 h)
 -- ---- symbol_line
 
 module _ (l : Bytes) (n : AagCounts) (end : ℕ) (q : end ≡ before_space l) where
-  pub no_space : length l ≤ end → symbol_answer l symbol.Refused ≡ symbol_of n l
+  no_space : length l ≤ end → refused 9 ≡ symbol_of n l
   unfolding symbol_of
   no_space h = rw (← q, le-ltb end (length l) h)
 
@@ -63,7 +62,7 @@ module _ (l : Bytes) (n : AagCounts) (end : ℕ) (q : end ≡ before_space l) wh
     unfolding symbol_of
     from_front = rw (← q, lt-ltb end (length l) h)
 
-    pub no_kind : end ≡ 0 → symbol_answer l symbol.Refused ≡ symbol_of n l
+    no_kind : end ≡ 0 → refused 9 ≡ symbol_of n l
     no_kind e = sym (from_front ∙ rw e)
 
     module _ (g : end ≡ 0 → ⊥) where
@@ -75,33 +74,37 @@ module _ (l : Bytes) (n : AagCounts) (end : ℕ) (q : end ≡ before_space l) wh
       front : take end l ≡ get_or l 0 0 ∷ part l 1 end
       front = fronts l refl end refl
 
-      module _ (x : KnownKind) (p : kind_answer x ≡ kind_of (get_or l 0 0)) where
-        from-kind : (y : Answer Kind) → kind_answer x ≡ y
+      module _ (x : Option Kind) (p : answer_or 9 x ≡ kind_of (get_or l 0 0)) where
+        from-kind : (y : Answer Kind) → answer_or 9 x ≡ y
             → symbol_of n l ≡ and_then y (λ k. and_then (readable_index (number_of Witness (part l 1 end))) (indexed n (drop (suc end) l) k))
         from-kind y e =
             from_front
             ∙ ap (λ (f : Bytes). symbol_from n f (drop (suc end) l)) front
             ∙ ap (λ (z : Answer Kind). and_then z (λ k. and_then (readable_index (number_of Witness (part l 1 end))) (indexed n (drop (suc end) l) k))) (sym p ∙ e)
 
-        pub unknown_kind : x ≡ known.Unknown → symbol_answer l symbol.Refused ≡ symbol_of n l
-        unknown_kind e = sym (from-kind (refused 9) (ap kind_answer e))
+        pub unknown_kind : x ≡ None → refused 9 ≡ symbol_of n l
+        unknown_kind e = sym (from-kind (refused 9) (ap (answer_or 9) e))
 
-        module _ (k : Kind) (e : x ≡ known.Is k) (v : Option ℕ) (u : v ≡ number_of Witness (part l 1 end)) where
+        module _ (k : Kind) (e : x ≡ Some k) (v : Option ℕ) (u : v ≡ number_of Witness (part l 1 end)) where
           from-index : (w : Option ℕ) → v ≡ w → symbol_of n l ≡ and_then (readable_index w) (indexed n (drop (suc end) l) k)
           from-index w a =
-              from-kind (got k) (ap kind_answer e) ∙ ap (λ (z : Option ℕ). and_then (readable_index z) (indexed n (drop (suc end) l) k)) (sym u ∙ a)
+              from-kind (got k) (ap (answer_or 9) e) ∙ ap (λ (z : Option ℕ). and_then (readable_index z) (indexed n (drop (suc end) l) k)) (sym u ∙ a)
 
-          pub unreadable_index : v ≡ None → symbol_answer l symbol.Refused ≡ symbol_of n l
+          pub unreadable_index : v ≡ None → refused 9 ≡ symbol_of n l
           unreadable_index a = sym (from-index None a)
 
           module _ (i : ℕ) (a : v ≡ Some i) (j : ℕ) (b : j ≡ i) (m : ℕ) (c : m ≡ count_of n k) where
-            pub index_below : j < m → symbol_answer l (symbol.Named k j (end + 1)) ≡ symbol_of n l
+            pub index_below : j < m → symbol_answer l (Some (record { kind = k; index = j; name = end + 1 })) ≡ symbol_of n l
             index_below d =
                 let f : i < count_of n k = omega arith in
                 sym (from-index (Some i) a ∙ rw (lt-ltb i (count_of n k) f, add-one end, b))
 
-            pub index_past : m ≤ j → symbol_answer l symbol.Refused ≡ symbol_of n l
+            pub index_past : m ≤ j → refused 9 ≡ symbol_of n l
             index_past d = let f : count_of n k ≤ i = omega arith in sym (from-index (Some i) a ∙ rw (le-ltb i (count_of n k) f))
+
+pub no_front : (l : Bytes) (n : AagCounts) (end : ℕ) → end ≡ before_space l → (length l ≤ end) ⊎ ((end < length l) × (end ≡ 0)) → refused 9 ≡ symbol_of n l
+no_front l n end q (inl h) = no_space l n end q h
+no_front l n end q (inr (h, e)) = no_kind l n end q h e
 
 -- ---- a symbol
 

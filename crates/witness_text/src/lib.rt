@@ -2,13 +2,15 @@
 #![tactic(auto)]
 
 ghost use Rattle.std.specs.Prelude.{◌≡◌};
+ghost use Rattle.circuit_lines.specs.Inner.OneLine.{answer_or};
 ghost use Rattle.text.specs.Texts.{limited};
 ghost use Rattle.witness_text.specs.Header.{counts_from, counted, without_liveness};
 ghost use Rattle.witness_text.specs.LatchLines.{latch_line};
 ghost use Rattle.witness_text.specs.Symbols.{ends_symbols, count_of, kind_of, before_space, symbol_of};
-ghost use Rattle.witness_text.specs.Inner.Takes.{TakesCounts, latch_answer, kind_answer, symbol_answer, TakesLatch};
+ghost use Rattle.witness_text.specs.Inner.Takes.{TakesCounts, symbol_answer};
 
-use text::{Cursor, Reader};
+use circuit_lines::{LineKind, TakeLine};
+use text::{Parsed, Reader};
 
 // The counts of a header: M I L O A B C J F.
 #[derive(Clone, Copy)]
@@ -25,26 +27,14 @@ pub struct AagCounts {
 }
 
 #[derive(Clone, Copy)]
-pub enum WitnessHeader {
-    Got { counts: AagCounts, next: Cursor },
-    Refused,
-}
-
-#[derive(Clone, Copy)]
 pub struct Latch {
     pub current: u64,
     pub next: u64,
     pub reset: u64,
 }
 
-#[derive(Clone, Copy)]
-pub enum TakenLatch {
-    Got { latch: Latch, next: Cursor },
-    Bad,
-}
-
 // What a symbol line names.
-#[derive(Clone, Copy)]
+#[derive(Clone, Copy, Debug, PartialEq, Eq)]
 pub enum Kind {
     Input,
     Latch,
@@ -55,59 +45,41 @@ pub enum Kind {
 
 // A symbol line taken apart: what it names, and the place in the line where the name begins.
 #[derive(Clone, Copy)]
-pub enum SymbolLine {
-    Named {
-        kind: Kind,
-        index: usize,
-        name: usize,
-    },
-    Refused,
-}
-
-// What one line has.
-#[derive(Clone, Copy)]
-enum ReadLatch {
-    Got(Latch),
-    Bad,
-}
-
-#[derive(Clone, Copy)]
-enum KnownKind {
-    Is(Kind),
-    Unknown,
+pub struct SymbolLine {
+    pub kind: Kind,
+    pub index: usize,
+    pub name: usize,
 }
 
 fn counts_of(ns: [u64; 9]) -> AagCounts
     ensures { result ≡ counts_from ns }
 {
     AagCounts {
-        max_variable: lists::index(ns[0]),
-        inputs: lists::index(ns[1]),
-        latches: lists::index(ns[2]),
-        outputs: lists::index(ns[3]),
-        gates: lists::index(ns[4]),
-        bads: lists::index(ns[5]),
-        constraints: lists::index(ns[6]),
-        justice: lists::index(ns[7]),
-        fairness: lists::index(ns[8]),
+        max_variable: ns[0] as usize,
+        inputs: ns[1] as usize,
+        latches: ns[2] as usize,
+        outputs: ns[3] as usize,
+        gates: ns[4] as usize,
+        bads: ns[5] as usize,
+        constraints: ns[6] as usize,
+        justice: ns[7] as usize,
+        fairness: ns[8] as usize,
     }
 }
 
 // The counts of a text's header, its first line; those that are absent stay 0.
-pub fn take_witness_header(s: &[u8]) -> WitnessHeader
+pub fn take_witness_header(s: &[u8]) -> Option<Parsed<AagCounts>>
     ensures { TakesCounts s.now result }
 {
     let mut ns: [u64; 9] = [0; 9];
-    let Some(numbers) = circuit_lines::take_header_numbers(Reader::Witness, s, &mut ns) else {
-        return WitnessHeader::Refused;
-    };
+    let numbers = circuit_lines::take_header_numbers(Reader::Witness, s, &mut ns)?;
     if numbers.value < 5 {
-        return WitnessHeader::Refused;
+        return None;
     }
-    WitnessHeader::Got {
-        counts: counts_of(ns),
+    Some(Parsed {
+        value: counts_of(ns),
         next: numbers.next,
-    }
+    })
 }
 
 // Whether the counts keep the limits of R9.5. The sum of I, L and A is never made, since it may pass 2^64.
@@ -131,44 +103,39 @@ pub fn counts_hold(counts: AagCounts) -> bool
 pub fn no_liveness(counts: AagCounts) -> bool
     ensures { result ≡ without_liveness counts }
 {
-    if counts.justice == 0 {
-        return counts.fairness == 0;
-    }
-    false
+    counts.justice == 0 && counts.fairness == 0
 }
 
-fn latch_line(l: &[u8]) -> ReadLatch
-    ensures { latch_answer result ≡ latch_line l.now }
+fn latch_line(l: &[u8]) -> Option<Latch>
+    ensures { answer_or 8 result ≡ latch_line l.now }
 {
     let mut ns: [u64; 3] = [0; 3];
-    let Some(count) = circuit_lines::take_numbers(Reader::Witness, l, 0, &mut ns) else {
-        return ReadLatch::Bad;
-    };
+    let count = circuit_lines::take_numbers(Reader::Witness, l, 0, &mut ns)?;
     if count < 2 {
-        return ReadLatch::Bad;
+        return None;
     }
-    ReadLatch::Got(Latch {
+    Some(Latch {
         current: ns[0],
         next: ns[1],
         reset: ns[2],
     })
 }
 
-// The latch of the line at a cursor.
-pub fn take_latch(s: &[u8], cursor: Cursor) -> TakenLatch
-    ensures { TakesLatch s.now cursor result }
-{
-    let Some(line) = text::next_line(s, cursor) else {
-        return TakenLatch::Bad;
-    };
-    let ReadLatch::Got(latch) = latch_line(&s[line.start..line.end]) else {
-        return TakenLatch::Bad;
-    };
-    TakenLatch::Got {
-        latch: latch,
-        next: line.next,
+// Lines with a latch.
+#[derive(Clone, Copy)]
+pub struct LatchLine {}
+
+impl LineKind for LatchLine {
+    type Item = Latch;
+
+    ghost item = { λ kind. latch_line };
+
+    fn read(self, line: &[u8]) -> Option<Latch> {
+        latch_line(line)
     }
 }
+
+impl TakeLine for LatchLine {}
 
 // Whether a line is `c` and nothing else, after which come comments.
 pub fn ends_symbols(l: &[u8]) -> bool
@@ -190,16 +157,16 @@ fn count_of(counts: AagCounts, kind: Kind) -> usize
     }
 }
 
-fn kind_of(b: u8) -> KnownKind
-    ensures { kind_answer result ≡ kind_of b }
+fn kind_of(b: u8) -> Option<Kind>
+    ensures { answer_or 9 result ≡ kind_of b }
 {
     match b {
-        b'i' => KnownKind::Is(Kind::Input),
-        b'l' => KnownKind::Is(Kind::Latch),
-        b'o' => KnownKind::Is(Kind::Output),
-        b'b' => KnownKind::Is(Kind::Bad),
-        b'c' => KnownKind::Is(Kind::Constraint),
-        _ => KnownKind::Unknown,
+        b'i' => Some(Kind::Input),
+        b'l' => Some(Kind::Latch),
+        b'o' => Some(Kind::Output),
+        b'b' => Some(Kind::Bad),
+        b'c' => Some(Kind::Constraint),
+        _ => None,
     }
 }
 
@@ -207,40 +174,30 @@ fn kind_of(b: u8) -> KnownKind
 fn first_space(l: &[u8]) -> usize
     ensures { result ≡ before_space l.now }
 {
-    let mut i = 0;
-    while i < l.len() {
+    for i in 0..l.len() {
         if l[i] == 32 {
             return i;
         }
-        i += 1;
     }
-    i
+    l.len()
 }
 
 // The kind, the index and the place of the name of a symbol line, or that it has none (R4.9).
-pub fn symbol_line(l: &[u8], counts: AagCounts) -> SymbolLine
+pub fn symbol_line(l: &[u8], counts: AagCounts) -> Option<SymbolLine>
     ensures { symbol_answer l.now result ≡ symbol_of counts l.now }
 {
     let end = first_space(l);
-    if l.len() <= end {
-        return SymbolLine::Refused;
+    if l.len() <= end || end == 0 {
+        return None;
     }
-    if end == 0 {
-        return SymbolLine::Refused;
+    let kind = kind_of(l[0])?;
+    let index = text::numbers::parse_number(&l[1..end])? as usize;
+    if count_of(counts, kind) <= index {
+        return None;
     }
-    let KnownKind::Is(kind) = kind_of(l[0]) else {
-        return SymbolLine::Refused;
-    };
-    let Some(v) = text::numbers::parse_number(&l[1..end]) else {
-        return SymbolLine::Refused;
-    };
-    let index = lists::index(v);
-    if index < count_of(counts, kind) {
-        return SymbolLine::Named {
-            kind: kind,
-            index: index,
-            name: end + 1,
-        };
-    }
-    SymbolLine::Refused
+    Some(SymbolLine {
+        kind,
+        index,
+        name: end + 1,
+    })
 }

@@ -7,7 +7,7 @@ use lib.Seq.{length-take-le, length_front}
 use borrow.Author.Rules.{rules}
 use Rattle.std.proofs.lemmas.Result.{err_from_is_err_and}
 use Rattle.lists.specs.Parts.{zeros}
-use Rattle.model.specs.Lent.{lent_record}
+use Rattle.model.specs.Inner.Lent.{lent_record}
 use Rattle.model_step.proofs.EvaluateLaws.{step_invalid, step_room, step_words, step-state, step-word, step-done, inputs-few}
 use Rattle.model_step.proofs.RunnableLaws.{IsModel, is-model, runnable}
 use Rattle.model_step.proofs.evaluate.Given.{Over}

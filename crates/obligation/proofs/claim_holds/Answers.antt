@@ -6,7 +6,7 @@ use Rattle.model.proofs.ValueLaws.{Sized}
 use Rattle.obligation_spec.specs.Lists.{outcomes_of}
 use Rattle.obligation_spec.specs.Limits.{states_claimed, outcomes_claimed}
 use Rattle.obligation_spec.specs.Calls.{Asked, circuit}
-use Rattle.obligation_check.specs.Questions.{asked_in}
+use Rattle.obligation_check.specs.Inner.Questions.{asked_in}
 use Rattle.obligation.proofs.ClaimLaws.{both-second, both-first, state_test, states_test, outcomes_test, output_inside, output_outside}
 use Rattle.obligation.proofs.ReadyLaws.{few-latches, few-outputs}
 use Rattle.obligation.proofs.claim_holds.Goals as goal

@@ -3,7 +3,7 @@ use borrow.Author.Rules.{rules}
 use Rattle.std.proofs.lemmas.Result.{err_from_is_err_and}
 use Rattle.model.proofs.ValueLaws.{Sized}
 use Rattle.obligation_spec.specs.Calls.{Asked}
-use Rattle.obligation_check.specs.Questions.{asked_in}
+use Rattle.obligation_check.specs.Inner.Questions.{asked_in}
 use Rattle.obligation.proofs.CallLaws.{asks, call_refused, call_unclaimed, call_made}
 use Rattle.obligation.proofs.make.Goals as goal
 use Rattle.obligation.proofs.make.Goals.{Start}

@@ -9,7 +9,7 @@ use Rattle.model.proofs.ValueLaws.{Sized}
 use Rattle.obligation_spec.specs.Lists.{outcomes_of}
 use Rattle.obligation_spec.specs.Limits.{is_state, states_claimed, outcomes_claimed}
 use Rattle.obligation_spec.specs.Calls.{Asked, circuit}
-use Rattle.obligation_check.specs.Questions.{asked_in}
+use Rattle.obligation_check.specs.Inner.Questions.{asked_in}
 use Rattle.obligation.proofs.AssembleLaws.{in_order_lem, currents_list, nexts_list, bad_output, low_list, few_list, low_list_now, few_list_now, low_list_out, relation_ready, relation_made, transducer_ready, transducer_made, terminal_list_ready, terminal_made, output-low}
 use Rattle.obligation.proofs.ReadyLaws.{few-observed}
 use Rattle.obligation.proofs.make_accepted.Goals as goal

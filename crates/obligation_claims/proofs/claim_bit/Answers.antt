@@ -1,6 +1,5 @@
-use Rattle.obligation_claims.proofs.FillLaws.{bit-inside}
+use Rattle.obligation_claims.proofs.FillLaws.{bit-is}
 use Rattle.obligation_claims.proofs.claim_bit.Goals as goal
-use borrow.Author.Rules.{rules}
 
 pub returns : goal.returns
-returns c = search (rules, bit-inside)
+returns c = rw c.word.ensures (bit-is c.args.claim.now c.args.place)

@@ -1,6 +1,7 @@
-use Rattle.obligation_claims.specs.Inner.Filling.{Claims}
-use Rattle.obligation_claims.proofs.PushLaws.{Pushing}
+use lib.ListN.{take}
+use Rattle.cnf.specs.Inner.Appending.{Appends}
+use Rattle.obligation_claims.specs.Inner.Kinds.{lists_of}
 use Rattle.obligation_claims.proofs.push_claims.Given as goal
 
 abbrev pub invariant-loop-i : goal.invariant-loop-i
-invariant-loop-i l = (claims : Claims l.keys l.words l.size) → Pushing claims.lists l.initial.appended l.initial.list l.initial.pairs l.initial.literals l.appended l.list l.pairs l.literals l.i
+invariant-loop-i l = Appends (take l.i (lists_of l.keys l.claims)) l.initial.appended l.initial.pairs l.initial.literals l.appended l.pairs l.literals

@@ -1,10 +1,9 @@
 -- For the contracts of the functions that put keys in order and fill a clause's list.
-use Rattle.std.specs.Prelude.{ℕ, ◌+◌, ◌*◌, ◌/◌, ◌≤◌, ◌<◌, true, ◌⊎◌, List, [], ◌≡◌, length, get_or, take, Option, Some, None}
-use Rattle.lists.specs.Parts.{part}
+use Rattle.std.specs.Prelude.{ℕ, ◌≤◌, ◌<◌, true, List, Option, Some, None, ◌≡◌, length, take}
 use Rattle.lists.specs.Sets.{member}
 use Rattle.word_sort.specs.Inner.Sorted.{sorted}
 use Rattle.cnf.specs.Inner.Appending.{Filled}
-use Rattle.obligation_claims.specs.Inner.Claims.{claim_list, LowKeys}
+use Rattle.obligation_claims.specs.Inner.Claims.{LowKeys}
 
 -- the first n words are these keys, in order
 pub record InOrder (keys : List ℕ) (n : ℕ) (words : List ℕ) : Type 0 where
@@ -17,15 +16,8 @@ pub record Fills (ls : List ℕ) (r : Option ℕ) (list : List ℕ) : Type 0 whe
   pub when_true : r ≡ None → member 1 ls ≡ true
   pub when_words : (n : ℕ) → r ≡ Some n → Filled ls list n
 
--- keys whose clauses can be made in a list of this length, filled and sorted there. One of at most three literals needs none.
+-- keys whose clauses can be made in a list of this length. One of at most three literals needs none.
 pub record Fits (keys : List ℕ) (list : ℕ) : Type 0 where
   pub low : LowKeys keys
   pub short : length keys ≤ 1024
   pub list_fits : 3 < length keys → length keys ≤ list
-
--- the clauses of claims of one word each, or of three; words that are left over at the end are not read
-pub record Claims (keys words : List ℕ) (size : ℕ) : Type 0 where
-  pub sizes : (size ≡ 1) ⊎ (size ≡ 3)
-  pub lists : List (List ℕ)
-  pub count : length lists ≡ length words / size
-  pub each : (i : ℕ) → i < length words / size → get_or lists i [] ≡ claim_list keys (part words (size * i) (size * i + size))

@@ -1,14 +1,9 @@
-use borrow.Author.Rules.{rules}
 use native.Mathlib.Omega.{arith}
 use Rattle.obligation_gates.proofs.SourceLaws.{source-next, source-end}
 use Rattle.obligation_gates.proofs.append_sources.Goals as goal
 
 pub loop-i-preserved : goal.loop-i-preserved
-loop-i-preserved c = (
-  search rules,
-  search rules,
-  source-next c.args.currents.now c.args.source c.loop-i.i _ (omega arith) c.source_literal-literal.ensures _ _ _ _ _ _ c.loop-i.invariant.2 _ _ _ c.push_literal-appended.ensures,
-)
+loop-i-preserved c = source-next c.args.currents.now c.args.source c.loop-i.i _ (omega arith) c.source_literal-literal.ensures _ _ _ _ _ _ c.loop-i.invariant _ _ _ c.push_literal-appended.ensures
 
 pub returns : goal.returns
-returns c = source-end c.args.currents.now c.args.source c.loop-i.i _ _ _ _ _ _ (omega arith) c.loop-i.invariant.2
+returns c = source-end c.args.currents.now c.args.source c.loop-i.i _ _ _ _ _ _ (omega arith) c.loop-i.invariant

@@ -1,8 +1,7 @@
-use mathlib.Core.Path.{◌≡◌}
-use lib.ListN.{length, take}
+use lib.ListN.{take}
 use Rattle.cnf.specs.Inner.Appending.{Appends}
 use Rattle.obligation_gates.proofs.SourceLaws.{sources}
 use Rattle.obligation_gates.proofs.append_sources.Given as goal
 
 abbrev pub invariant-loop-i : goal.invariant-loop-i
-invariant-loop-i l = (length l.pairs ≡ length l.initial.pairs) × (length l.literals ≡ length l.initial.literals) × Appends (take l.i (sources l.currents l.source)) l.initial.appended l.initial.pairs l.initial.literals l.appended l.pairs l.literals
+invariant-loop-i l = Appends (take l.i (sources l.currents l.source)) l.initial.appended l.initial.pairs l.initial.literals l.appended l.pairs l.literals

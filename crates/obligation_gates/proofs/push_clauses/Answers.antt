@@ -1,7 +1,7 @@
-use borrow.Author.Rules.{rules}
 use mathlib.Core.Path.{refl}
 use native.Mathlib.Omega.{arith}
-use Rattle.obligation_gates.proofs.ClauseLaws.{clause-inside, clause-short, clause-clausal, clause-space, clause-next, clauses-end}
+use borrow.Author.Rules.{rules}
+use Rattle.obligation_gates.proofs.ClauseLaws.{clause-inside, clause-clausal, clause-short, clause-space, clause-next, clauses-end}
 use Rattle.obligation_gates.proofs.push_clauses.Goals as goal
 
 pub overflow_add-end-in-loop-i : goal.overflow_add-end-in-loop-i
@@ -23,17 +23,13 @@ pub push_clause-appended-requires : goal.push_clause-appended-requires
 push_clause-appended-requires c = (
   clause-clausal c.args.inputs.now c.args.relevant.now c.args.predicate_pairs.now c.args.predicate_literals.now c.loop-i.i _ _ (omega arith) refl refl c.requires.0,
   clause-short c.args.inputs.now c.args.relevant.now c.args.predicate_pairs.now c.args.predicate_literals.now c.loop-i.i _ _ (omega arith) refl refl c.requires.0,
-  omega (arith, c.loop-i.invariant.0, c.requires.1),
-  clause-space c.args.inputs.now c.args.relevant.now c.args.predicate_pairs.now c.args.predicate_literals.now c.loop-i.i _ _ (omega arith) refl refl _ _ _ _ _ _ c.loop-i.invariant.3 c.requires.2,
+  search rules,
+  clause-space c.args.inputs.now c.args.relevant.now c.args.predicate_pairs.now c.args.predicate_literals.now c.loop-i.i _ _ (omega arith) refl refl _ _ _ _ _ _ c.loop-i.invariant c.requires.2,
 )
 
 pub loop-i-preserved : goal.loop-i-preserved
-loop-i-preserved c = (
-  search rules,
-  search rules,
-  search rules,
-  clause-next c.args.inputs.now c.args.relevant.now c.args.predicate_pairs.now c.args.predicate_literals.now c.loop-i.i _ _ (omega arith) refl refl _ _ _ _ _ _ c.loop-i.invariant.3 _ _ _ c.push_clause-appended.ensures,
-)
+loop-i-preserved c =
+    clause-next c.args.inputs.now c.args.relevant.now c.args.predicate_pairs.now c.args.predicate_literals.now c.loop-i.i _ _ (omega arith) refl refl _ _ _ _ _ _ c.loop-i.invariant _ _ _ c.push_clause-appended.ensures
 
 pub returns : goal.returns
-returns c = clauses-end c.args.inputs.now c.args.relevant.now c.args.predicate_pairs.now c.args.predicate_literals.now c.loop-i.i _ _ _ _ _ _ (omega arith) c.loop-i.invariant.3
+returns c = clauses-end c.args.inputs.now c.args.relevant.now c.args.predicate_pairs.now c.args.predicate_literals.now c.loop-i.i _ _ _ _ _ _ (omega arith) c.loop-i.invariant

@@ -1,9 +1,7 @@
-use mathlib.Core.Path.{◌≡◌}
-use lib.ListN.{length, take}
+use lib.ListN.{take}
 use Rattle.cnf.specs.Inner.Appending.{Appends}
 use Rattle.obligation_gates.proofs.ClauseLaws.{clause_lists}
 use Rattle.obligation_gates.proofs.push_clauses.Given as goal
 
 abbrev pub invariant-loop-i : goal.invariant-loop-i
-invariant-loop-i l = (length l.list ≡ length l.initial.list) × (length l.pairs ≡ length l.initial.pairs) × (length l.literals ≡ length l.initial.literals)
-    × Appends (take l.i (clause_lists l.inputs l.relevant l.predicate_pairs l.predicate_literals)) l.initial.appended l.initial.pairs l.initial.literals l.appended l.pairs l.literals
+invariant-loop-i l = Appends (take l.i (clause_lists l.inputs l.relevant l.predicate_pairs l.predicate_literals)) l.initial.appended l.initial.pairs l.initial.literals l.appended l.pairs l.literals

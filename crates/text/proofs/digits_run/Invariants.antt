@@ -3,7 +3,5 @@ use Rattle.text.proofs.PlainLaws.{Running}
 use Rattle.text.proofs.digits_run.Given as goal
 
 abbrev pub invariant-loop-i : goal.invariant-loop-i
-invariant-loop-i l = Running l.l l.at l.last l.i l.v
+invariant-loop-i l = Running l.l l.at l.last l.i l.value
 
-abbrev pub decreases-loop-i : goal.decreases-loop-i
-decreases-loop-i l = l.last - l.i

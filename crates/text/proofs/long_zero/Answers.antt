@@ -7,5 +7,5 @@ returns-then-l-at c = search zero_past
 pub returns-then-l-at-eq48 : goal.returns-then-l-at-eq48
 returns-then-l-at-eq48 c = search zero-alone
 
-pub returns : goal.returns
-returns c = search zero-other
+pub returns-else-l-at-eq48 : goal.returns-else-l-at-eq48
+returns-else-l-at-eq48 c = search zero-other

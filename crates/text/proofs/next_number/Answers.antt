@@ -8,8 +8,5 @@ returns-then-l-start c = search taken_missing
 pub returns-then-long_zero : goal.returns-then-long_zero
 returns-then-long_zero c = search taken-from
 
-pub returns-then-ends_field : goal.returns-then-ends_field
-returns-then-ends_field c = search taken_run
-
 pub returns : goal.returns
-returns c = search taken-from
+returns c = search taken_run

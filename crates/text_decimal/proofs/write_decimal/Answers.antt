@@ -1,19 +1,18 @@
 use native.Mathlib.Omega.{arith}
-use Rattle.text_decimal.proofs.WritingLaws.{no_room, room, writing-none, writing_more, writing-done}
 use borrow.Author.Rules.{rules}
+use Rattle.text_decimal.proofs.WritingLaws.{no_room, room, writing-none, writing_more, writing-done}
 use Rattle.text_decimal.proofs.write_decimal.Goals as goal
 
-pub returns-then-out-at : goal.returns-then-out-at
-returns-then-out-at c = no_room _ _ _ (omega arith)
+pub returns-in_err-end : goal.returns-in_err-end
+returns-in_err-end c = rw c.from_residual.ensures (no_room _ _ _ (λ h. c.in_err-end.ensures (omega (arith, h, c.decimal_length-size.ensures))))
 
-pub returns-then-out-at-2 : goal.returns-then-out-at-2
-returns-then-out-at-2 c = no_room _ _ _ (omega arith)
+pub loop-i-init : goal.loop-i-init
+loop-i-init c = writing-none _ _ _ _ (omega (arith, c.decimal_length-size.ensures)) (omega (arith, c.in_ok-end.ensures))
 
-pub loop-left-init : goal.loop-left-init
-loop-left-init c = writing-none _ _ _ _ (search rules) (omega arith)
-
-pub loop-left-preserved : goal.loop-left-preserved
-loop-left-preserved c = search writing_more
+pub loop-i-preserved : goal.loop-i-preserved
+loop-i-preserved c = writing_more _ _ _ _ _ _ c.loop-i.invariant (omega arith) _ (omega (arith, c.in_ok-end.ensures)) _ (omega arith)
 
 pub returns : goal.returns
-returns c = room _ _ _ _ _ (search rules) (omega arith) (search writing-done)
+returns c =
+    room _ _ _ _ _ (omega (arith, c.in_ok-end.ensures, c.decimal_length-size.ensures)) (omega (arith, c.in_ok-end.ensures))
+    (writing-done _ _ _ _ _ _ c.loop-i.invariant (omega arith))

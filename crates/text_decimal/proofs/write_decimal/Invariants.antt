@@ -1,8 +1,6 @@
+use Prim.Native.Nat.{◌-◌}
 use Rattle.text_decimal.proofs.WritingLaws.{Writing}
 use Rattle.text_decimal.proofs.write_decimal.Given as goal
 
-abbrev pub invariant-loop-left : goal.invariant-loop-left
-invariant-loop-left l = Writing l.initial.out l.at l.n l.out l.left l.rest
-
-abbrev pub decreases-loop-left : goal.decreases-loop-left
-decreases-loop-left l = l.left
+abbrev pub invariant-loop-i : goal.invariant-loop-i
+invariant-loop-i l = Writing l.initial.out l.at l.n l.out (l.size - l.i) l.rest

@@ -1,20 +1,12 @@
-use mathlib.Core.Path.{refl}
 use native.Mathlib.Omega.{arith}
-use Rattle.text_print.specs.Inner.DigitPairs.{digit_pairs}
 use Rattle.text_print.proofs.PrintsLaws.{prints_measured, prints-put}
 use Rattle.text_print.proofs.WriteLaws.{line-length}
-use borrow.Author.Rules.{rules}
 use Rattle.text_print.proofs.print_literal_line.Goals as goal
 
-pub returns-then-out-at : goal.returns-then-out-at
-returns-then-out-at c = prints_measured _ _ _ _ (line-length _ _ c.digit_count-size.ensures.0) _ (omega arith) (search rules)
-
-pub returns-then-out-at-2 : goal.returns-then-out-at-2
-returns-then-out-at-2 c = prints_measured _ _ _ _ (line-length _ _ c.digit_count-size.ensures.0) _ (omega arith) (search rules)
-
-pub write_field-requires : goal.write_field-requires
-unfolding digit_pairs
-write_field-requires c = (search rules, (omega arith, refl))
+pub returns-in_default : goal.returns-in_default
+returns-in_default c = prints_measured _ _ _ _ (line-length _ _ c.digit_count-size.ensures.0) _ (λ h. c.in_default.ensures h) c.advance.ensures
 
 pub returns : goal.returns
-returns c = prints-put _ _ _ _ (line-length _ _ (search rules)) _ (omega arith) (search rules)
+returns c =
+    prints-put _ _ _ _ (line-length _ _ c.digit_count-size.ensures.0) _ _ (omega (arith, c.in-Some.ensures)) (omega (arith, c.in-Some.ensures))
+    c.write_field.ensures

@@ -1,8 +1,14 @@
-use mathlib.Core.Path.{refl}
-use Rattle.text_print.specs.Inner.DigitPairs.{digit_pairs}
-use borrow.Author.Rules.{rules}
+use Prim.Native.Nat.{◌+◌, ◌*◌}
+use native.Mathlib.Omega.{arith}
+use Rattle.text_print.proofs.PrintsLaws.{printing-more, printing-done}
+use Rattle.text_print.proofs.LineLaws.{gates-more, gates-end}
 use Rattle.text_print.proofs.print_pairs.Goals as goal
 
-pub print_gates_with-requires : goal.print_gates_with-requires
-unfolding digit_pairs
-print_gates_with-requires c = (search rules, refl)
+pub loop-i-preserved : goal.loop-i-preserved
+loop-i-preserved c =
+    printing-more _ _ _ _ _ _ c.loop-i.invariant _ _ _ _ (omega arith)
+    (gates-more (c.args.first + c.loop-i.i) c.args.words.now (2 * c.loop-i.i) (omega arith) _ _ (omega arith) (omega arith))
+    (omega (arith, c.print_three-to.auto.out)) c.print_three-to.ensures
+
+pub returns : goal.returns
+returns c = printing-done _ _ _ _ _ _ c.loop-i.invariant (gates-end (c.args.first + c.loop-i.i) c.args.words.now (2 * c.loop-i.i) (omega arith))

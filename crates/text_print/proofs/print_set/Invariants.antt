@@ -7,6 +7,3 @@ use Rattle.text_print.proofs.print_set.Given as goal
 
 abbrev pub invariant-loop-j : goal.invariant-loop-j
 invariant-loop-j l = Printing l.initial.out l.at (lines_of (elements l.words)) l.out l.to (lines_of (elements_from l.words l.j))
-
-abbrev pub decreases-loop-j : goal.decreases-loop-j
-decreases-loop-j l = length l.words - l.j

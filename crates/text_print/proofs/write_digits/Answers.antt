@@ -1,4 +1,5 @@
 use native.Mathlib.Omega.{arith}
+use mathlib.Core.Path.{refl}
 use lib.ListN.{length-set}
 use Rattle.text_decimal.proofs.WritingLaws.{writing-none, writing-done}
 use Rattle.text_print.proofs.WriteLaws.{writing_two, writing-first}
@@ -10,31 +11,19 @@ pub loop-left-init : goal.loop-left-init
 loop-left-init c = writing-none _ _ _ _ (search rules) (omega arith)
 
 pub bounds-pairs-two : goal.bounds-pairs-two
-bounds-pairs-two c = omega (arith, pairs-length c.args.pairs.now (search rules))
+bounds-pairs-two c = omega (arith, pairs-length _ c.digit_pairs-pairs.ensures)
 
 pub bounds-pairs-two-in-loop-left : goal.bounds-pairs-two-in-loop-left
-bounds-pairs-two-in-loop-left c = omega (arith, pairs-length c.args.pairs.now (search rules))
+bounds-pairs-two-in-loop-left c = omega (arith, pairs-length _ c.digit_pairs-pairs.ensures)
 
 pub bounds-out-at-in-loop-left : goal.bounds-out-at-in-loop-left
 bounds-out-at-in-loop-left c = simp length-set (omega arith)
 
 pub loop-left-preserved : goal.loop-left-preserved
 loop-left-preserved c =
-    writing_two
-    _
-    _
-    _
-    _
-    c.loop-left.left
-    c.loop-left.rest
-    c.loop-left.invariant
-    c.index-two.result
-    _
-    _
-    (omega arith)
-    c.index-two.ensures
-    (ones_in c.args.pairs.now (search rules) c.index-two.result (omega arith))
-    (tens_in c.args.pairs.now (search rules) c.index-two.result (omega arith))
+    writing_two _ _ _ _ c.loop-left.left c.loop-left.rest c.loop-left.invariant _ _ _ (omega arith) refl
+    (ones_in _ c.digit_pairs-pairs.ensures _ (omega arith))
+    (tens_in _ c.digit_pairs-pairs.ensures _ (omega arith))
 
 pub returns-then-left-eq1 : goal.returns-then-left-eq1
 returns-then-left-eq1 c = search writing-first

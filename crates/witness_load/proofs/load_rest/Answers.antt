@@ -4,8 +4,8 @@ use Rattle.witness_load.proofs.load_rest.Goals as goal
 pub returns-in_default : goal.returns-in_default
 returns-in_default c = search rest_no_literals
 
-pub returns-in_default-load_gates : goal.returns-in_default-load_gates
-returns-in_default-load_gates c = search rest_no_gates
+pub returns-in_default-load_pairs : goal.returns-in_default-load_pairs
+returns-in_default-load_pairs c = search rest_no_gates
 
 pub returns : goal.returns
 returns c = search rest-loaded

@@ -31,5 +31,5 @@ loop-line-smaller c = search line-less
 pub loop-line-preserved : goal.loop-line-preserved
 loop-line-preserved c = (search rules, search names_more)
 
-pub returns-else-name_line : goal.returns-else-name_line
-returns-else-name_line c = search names-refused
+pub returns-then-not-name_line : goal.returns-then-not-name_line
+returns-then-not-name_line c = search names-refused

@@ -1,7 +1,7 @@
 use Prim.Native.Nat.{◌+◌, ◌*◌, ◌<◌}
 use native.Mathlib.Omega.{arith}
 use lib.ListN.{length}
-use Rattle.witness_load.proofs.StoreLaws.{input-fits, latch_fits, input-stored, latch_stored, output-stays, bad_stays, constraint_stays}
+use Rattle.witness_load.proofs.StoreLaws.{input-fits, latch_fits, input-stored, latch_stored, others-stay}
 use Rattle.witness_load.proofs.store_leaf.Goals as goal
 
 pub overflow_mul-index : goal.overflow_mul-index
@@ -26,10 +26,4 @@ pub returns-in-Latch : goal.returns-in-Latch
 returns-in-Latch c = search latch_stored
 
 pub returns-in-Output : goal.returns-in-Output
-returns-in-Output c = search output-stays
-
-pub returns-in-Bad : goal.returns-in-Bad
-returns-in-Bad c = search bad_stays
-
-pub returns-in-Constraint : goal.returns-in-Constraint
-returns-in-Constraint c = search constraint_stays
+returns-in-Output c = search others-stay

@@ -12,8 +12,8 @@ returns-in_err-comments c = answered-err _ _ c.from_residual.ensures.1 ∙ searc
 pub returns-then-not-plain_comments : goal.returns-then-not-plain_comments
 returns-then-not-plain_comments c = search (comments-refused, c.in_ok-comments.ensures)
 
-pub returns-then-not-fine : goal.returns-then-not-fine
-returns-then-not-fine c = search (order-refused, c.in_ok-comments.ensures)
+pub returns-then-not-checked : goal.returns-then-not-checked
+returns-then-not-checked c = search (order-refused, c.in_ok-comments.ensures)
 
 pub returns : goal.returns
 returns c = search (sections_read, c.in_ok-comments.ensures)

@@ -19,11 +19,21 @@ use Rattle.witness_text.specs.declared.Latch.{Latch}
 use Rattle.witness_text.specs.LatchLines.{latch_line}
 use Rattle.witness_text.specs.Symbols.{ends_symbols, Symbol, symbol_of}
 use Rattle.witness_read.specs.declared.Checked.{Checked}
-use Rattle.witness_read.specs.declared.Checked.TheVariants as checked
 use Rattle.witness_read.specs.declared.NextSymbol.{NextSymbol}
-use Rattle.witness_read.specs.declared.SymbolName.{SymbolName}
+use Rattle.witness_text.specs.declared.SymbolLine.{SymbolLine}
 use Rattle.witness_read.specs.Names.{tail_of, symbols_of}
 use Rattle.witness_read.specs.Order.{body_of, defines, latch_numbered, well_numbered}
+
+-- numbers of variables, so small that literals of them are words
+pub record SmallNumber (k : ℕ) : Type 0 where
+  pub number : k ≤ 2000000
+
+pub record SmallMost (most : ℕ) : Type 0 where
+  pub largest : most ≤ 2000000
+
+pub record SmallBoth (most k : ℕ) : Type 0 where
+  pub largest : most ≤ 2000000
+  pub number : k ≤ 2000000
 
 module _ {A : Type 0} (item : Bytes → Answer A) (test : List A → Bool) (s : Bytes) (c : Cursor) (n : ℕ) where
   -- the section of n lines from the cursor c on was taken up to the cursor e, and f says whether its items pass the test
@@ -32,9 +42,9 @@ module _ {A : Type 0} (item : Bytes → Answer A) (test : List A → Bool) (s : 
     pub takes : section item n (lines_from s c) ≡ got (record { items = items; rest = lines_from s e })
     pub says : f ≡ test items
 
-  abbrev pub Checks : Checked → Type 0
-  Checks (checked.Done e f) = Passed e f
-  Checks checked.Bad = section item n (lines_from s c) ≡ refused 8
+  abbrev pub Checks : Option Checked → Type 0
+  Checks (Some r) = Passed r.next r.fine
+  Checks None = section item n (lines_from s c) ≡ refused 8
 
 -- inputs and latches
 pub record Leaves : Type 0 where
@@ -77,17 +87,17 @@ module _ {A : Type 0} (read : List Bytes → Answer A) (rest : A → List Bytes)
     pub left : rest taken ≡ lines_from s e
     pub says : f ≡ test taken
 
-  abbrev pub ChecksAll : Checked → Type 0
-  ChecksAll (checked.Done e f) = PassedAll e f
-  ChecksAll checked.Bad = read (lines_from s c) ≡ refused 8
+  abbrev pub ChecksAll : Option Checked → Type 0
+  ChecksAll (Some r) = PassedAll r.next r.fine
+  ChecksAll None = read (lines_from s c) ≡ refused 8
 
-abbrev pub ChecksLeaves : Bytes → Cursor → AagCounts → Checked → Type 0
+abbrev pub ChecksLeaves : Bytes → Cursor → AagCounts → Option Checked → Type 0
 ChecksLeaves s c n r = ChecksAll (leaves_of n) (λ d. d.rest) (leaves_numbered n) s c r
 
-abbrev pub ChecksProperties : Bytes → Cursor → AagCounts → Checked → Type 0
+abbrev pub ChecksProperties : Bytes → Cursor → AagCounts → Option Checked → Type 0
 ChecksProperties s c n r = ChecksAll (properties_of n) (λ d. d.rest) (properties_numbered n) s c r
 
-abbrev pub ChecksBody : Bytes → Cursor → AagCounts → Checked → Type 0
+abbrev pub ChecksBody : Bytes → Cursor → AagCounts → Option Checked → Type 0
 ChecksBody s c n r = ChecksAll (body_of n) (λ d. d.rest) (well_numbered n) s c r
 
 module _ (s : Bytes) (p : Cursor) (n : AagCounts) where
@@ -113,8 +123,8 @@ module _ (s : Bytes) (p : Cursor) (n : AagCounts) where
     pub takes : tail_of n (lines_from s p) ≡ got (record { symbols = []; comments = lines_from s e })
 
   -- a symbol, or the end of the symbols
-  pub record Follows (o : Option SymbolName) (e : Cursor) : Type 0 where
-    pub taken : (x : SymbolName) → o ≡ Some x → TakenSymbol x.kind x.index e
+  pub record Follows (o : Option SymbolLine) (e : Cursor) : Type 0 where
+    pub taken : (x : SymbolLine) → o ≡ Some x → TakenSymbol x.kind x.index e
     pub ends : o ≡ None → EndsSymbols e
 
   abbrev pub TakesSymbol : Result NextSymbol Refusal → Type 0

@@ -1,3 +1,5 @@
+use Rattle.std.proofs.Common.{◌≡◌, ◌∙◌, length, arith}
+use Rattle.witness_text.specs.Symbols.{before_space}
 use mathlib.Core.Path.{sym}
 use native.Mathlib.Nat.{zero-add}
 use Rattle.scan.proofs.SpanLaws.{span-again, span-stop, span-over}
@@ -14,4 +16,7 @@ pub loop-i-preserved : goal.loop-i-preserved
 loop-i-preserved c = search (span-again, space-goes)
 
 pub returns : goal.returns
-returns c = search span-over
+returns c =
+    let i : c.loop-i.i ≡ before_space c.args.l.now = search span-over in
+    let e : length c.args.l.now ≡ c.loop-i.i = omega (arith, c.loop-i-test.false, c.loop-i.auto.i-end) in
+    e ∙ i

@@ -1,11 +1,11 @@
 use Rattle.witness_text.proofs.LatchLaws.{latch_refused, latch_short, latch_some}
 use Rattle.witness_text.proofs.latch_line.Goals as goal
 
-pub returns-in_default : goal.returns-in_default
-returns-in_default c = search latch_refused
+pub returns-in_err-count : goal.returns-in_err-count
+returns-in_err-count c = rw c.from_residual.ensures (search (latch_refused, c.in_err-count.was))
 
 pub returns-then-count-lt2 : goal.returns-then-count-lt2
-returns-then-count-lt2 c = search latch_short
+returns-then-count-lt2 c = search (latch_short, c.in_ok-count.was)
 
 pub returns : goal.returns
-returns c = search latch_some
+returns c = search (latch_some, c.in_ok-count.was)

@@ -1,20 +1,17 @@
-use Rattle.witness_text.proofs.SymbolLaws.{no_space, no_kind, unknown_kind, unreadable_index, index_below, index_past}
+use Rattle.witness_text.proofs.SymbolLaws.{no_front, unknown_kind, unreadable_index, index_below, index_past}
 use Rattle.witness_text.proofs.symbol_line.Goals as goal
 
 pub returns-then-l-end : goal.returns-then-l-end
-returns-then-l-end c = search no_space
+returns-then-l-end c = search (no_front, c.then-l-end.either)
 
-pub returns-then-end-eq0 : goal.returns-then-end-eq0
-returns-then-end-eq0 c = search no_kind
+pub returns-in_err-kind : goal.returns-in_err-kind
+returns-in_err-kind c = rw c.from_residual.ensures (search (unknown_kind, c.in_err-kind.was))
 
-pub returns-in_default : goal.returns-in_default
-returns-in_default c = search unknown_kind
+pub returns-in_err-index : goal.returns-in_err-index
+returns-in_err-index c = rw c.from_residual-in_err-index.ensures (search (unreadable_index, c.in_ok-kind.was, c.in_err-index.was))
 
-pub returns-in_default-parse_number : goal.returns-in_default-parse_number
-returns-in_default-parse_number c = search unreadable_index
-
-pub returns-then-index-count_of : goal.returns-then-index-count_of
-returns-then-index-count_of c = search index_below
+pub returns-then-count_of-index : goal.returns-then-count_of-index
+returns-then-count_of-index c = search (index_past, c.in_ok-kind.was, c.in_ok-index.was)
 
 pub returns : goal.returns
-returns c = search index_past
+returns c = search (index_below, c.in_ok-kind.was, c.in_ok-index.was)

@@ -1,6 +1,6 @@
 use mathlib.Core.Path.{subst}
 use Rattle.obligation_spec.specs.Calls.{Asked}
-use Rattle.obligation_check.specs.Questions.{asked_in}
+use Rattle.obligation_check.specs.Inner.Questions.{asked_in}
 use Rattle.obligation.specs.Promise.{buffers_of}
 use Rattle.nitrasovy.specs.FlatObligations.{TerminalFlat}
 use Rattle.nitrasovy.proofs.MadeLaws.{terminal_flat}

@@ -4,9 +4,9 @@ use Rattle.obligation.proofs.RoomLaws.{roomy-asks, made_roomy}
 use Rattle.obligation.proofs.making.make.Goals as goal
 
 pub roomy-requires : goal.roomy-requires
-roomy-requires c = roomy-asks _ _ _ c.requires _ (c.claim_count.ensures ∙ count_same _)
+roomy-requires c = roomy-asks _ _ _ c.requires _ (c.count.ensures ∙ count_same _)
 
 pub returns-then-roomy : goal.returns-then-roomy
 returns-then-roomy c =
-    made_roomy _ _ _ c.requires _ _ _ (c.claim_count.ensures ∙ count_same _)
+    made_roomy _ _ _ c.requires _ _ _ (c.count.ensures ∙ count_same _)
     (c.roomy.ensures c.if-roomy.true) _ _ _ c.append_all.ensures

@@ -1,4 +1,4 @@
-use Rattle.model.specs.Lent.{lent_record}
+use Rattle.model.specs.Inner.Lent.{lent_record}
 use Rattle.model.specs.RecordWords.{record_in}
 use Rattle.probe.proofs.FlatLaws.{validated, invalidated}
 use Rattle.probe.proofs.models.probe_validate.Goals as goal

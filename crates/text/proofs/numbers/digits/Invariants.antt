@@ -1,11 +1,8 @@
-use Prim.Native.Nat.{◌-◌, ◌<◌, ◌^◌}
+use Prim.Native.Nat.{◌<◌, ◌^◌}
 use mathlib.Core.Path.{◌≡◌}
-use lib.ListN.{length, drop}
+use lib.ListN.{drop}
 use Rattle.text.specs.Numbers.{digits_of, digits_after}
 use Rattle.text.proofs.numbers.digits.Given as goal
 
-abbrev pub invariant-loop-i : goal.invariant-loop-i
-invariant-loop-i l = (l.v < 2 ^ 64) × (digits_of (drop l.at l.f) ≡ digits_after l.v (drop l.i l.f))
-
-abbrev pub decreases-loop-i : goal.decreases-loop-i
-decreases-loop-i l = length l.f - l.i
+abbrev pub invariant-loop-b : goal.invariant-loop-b
+invariant-loop-b l = (l.value < 2 ^ 64) × (digits_of l.f ≡ digits_after l.value (drop l.b-index l.bytes))

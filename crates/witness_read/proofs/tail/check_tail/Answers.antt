@@ -11,26 +11,26 @@ returns-in_err-symbol c = order-bad _ _ _ _ _ _ c.loop-symbol.invariant _ c.in_e
 pub returns-in_default : goal.returns-in_default
 returns-in_default c = search (order-end, c.in_ok-symbol.ensures)
 
-pub overflow_add-inputs : goal.overflow_add-inputs
-overflow_add-inputs c = search (input-fits, c.in_ok-symbol.ensures)
+pub overflow_add-order : goal.overflow_add-order
+overflow_add-order c = search (input-fits, c.in_ok-symbol.ensures)
 
-pub overflow_add-latches : goal.overflow_add-latches
-overflow_add-latches c = search (latch_fits, c.in_ok-symbol.ensures)
+pub overflow_add-order-in-Latch : goal.overflow_add-order-in-Latch
+overflow_add-order-in-Latch c = search (latch_fits, c.in_ok-symbol.ensures)
 
-pub loop-symbol-preserved-else-index-inputs : goal.loop-symbol-preserved-else-index-inputs
-loop-symbol-preserved-else-index-inputs c = search (order-input, c.in_ok-symbol.ensures)
+pub loop-symbol-preserved-else-symbol-order : goal.loop-symbol-preserved-else-symbol-order
+loop-symbol-preserved-else-symbol-order c = search (order-input, c.in_ok-symbol.ensures)
 
-pub loop-symbol-preserved-else-index-latches : goal.loop-symbol-preserved-else-index-latches
-loop-symbol-preserved-else-index-latches c = search (order_latch, c.in_ok-symbol.ensures)
+pub loop-symbol-preserved-else-symbol-order-2 : goal.loop-symbol-preserved-else-symbol-order-2
+loop-symbol-preserved-else-symbol-order-2 c = search (order_latch, c.in_ok-symbol.ensures)
 
 pub loop-symbol-preserved : goal.loop-symbol-preserved
 loop-symbol-preserved c = search (order-others, c.in_ok-symbol.ensures)
 
-pub loop-symbol-smaller-else-index-inputs : goal.loop-symbol-smaller-else-index-inputs
-loop-symbol-smaller-else-index-inputs c = search (symbol-less, c.in_ok-symbol.ensures)
+pub loop-symbol-smaller-else-symbol-order : goal.loop-symbol-smaller-else-symbol-order
+loop-symbol-smaller-else-symbol-order c = search (symbol-less, c.in_ok-symbol.ensures)
 
-pub loop-symbol-smaller-else-index-latches : goal.loop-symbol-smaller-else-index-latches
-loop-symbol-smaller-else-index-latches c = search (symbol-less, c.in_ok-symbol.ensures)
+pub loop-symbol-smaller-else-symbol-order-2 : goal.loop-symbol-smaller-else-symbol-order-2
+loop-symbol-smaller-else-symbol-order-2 c = search (symbol-less, c.in_ok-symbol.ensures)
 
 pub loop-symbol-smaller : goal.loop-symbol-smaller
 loop-symbol-smaller c = search (symbol-less, c.in_ok-symbol.ensures)

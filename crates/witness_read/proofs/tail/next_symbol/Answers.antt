@@ -1,4 +1,4 @@
-use Rattle.text.proofs.LineLaws.{line-ordered, line-within}
+use Rattle.text.proofs.LineLaws.{line-within}
 use Rattle.witness_read.proofs.TailLaws.{symbol-none, symbol-comments, symbol_bad, symbol-more}
 use Rattle.witness_read.proofs.tail.next_symbol.Goals as goal
 

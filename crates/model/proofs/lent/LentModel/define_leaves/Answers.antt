@@ -1,4 +1,4 @@
-use Rattle.model.specs.Lent.{lent_record}
+use Rattle.model.specs.Inner.Lent.{lent_record}
 use Rattle.model.proofs.CheckedLaws.{leaves-both, leaves_lost}
 use Rattle.model.proofs.lent.LentModel.define_leaves.Goals as goal
 

@@ -1,7 +1,7 @@
 use native.Mathlib.Omega.{arith}
 use mathlib.Core.Path.{◌∙◌}
 use borrow.Author.Rules.{rules}
-use Rattle.model.specs.Lent.{lent_record}
+use Rattle.model.specs.Inner.Lent.{lent_record}
 use Rattle.model.proofs.CheckedLaws.{limited_fails, limited-left}
 use Rattle.model.proofs.lent.LentModel.limits_hold.Goals as goal
 use Rattle.model.proofs.lent.LentModel.limits_hold.Goals.{then-not-hold-via-then-not-hold, then-not-hold-via-else-not-hold+then-gates-counts, then-self-counts-via-then-self-counts, then-self-counts-via-else-self-counts+then-self-counts-2}

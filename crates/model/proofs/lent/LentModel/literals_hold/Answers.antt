@@ -1,4 +1,4 @@
-use Rattle.model.specs.Lent.{lent_record}
+use Rattle.model.specs.Inner.Lent.{lent_record}
 use Rattle.model.proofs.CheckedLaws.{literals-both, literals_lost}
 use Rattle.model.proofs.lent.LentModel.literals_hold.Goals as goal
 

@@ -4,7 +4,7 @@ use native.Mathlib.Omega.{arith}
 use lib.ListN.{length}
 use borrow.Author.Rules.{rules}
 use Rattle.lists.specs.Parts.{zeros}
-use Rattle.model.specs.Lent.{lent_record}
+use Rattle.model.specs.Inner.Lent.{lent_record}
 use Rattle.model.proofs.CheckedLaws.{checkable, check_room, check_limits, check_fails, check_holds}
 use Rattle.model.proofs.lent.LentModel.validate.Goals as goal
 use Rattle.model.proofs.lent.LentModel.validate.Goals.{then-not-limits_hold-via-then-not-limits_hold, then-not-limits_hold-via-else-not-limits_hold+then-not-definitions_hold}
