@@ -1,8 +1,8 @@
 -- What `?` hands on, and which result an answer is of.
 use Rattle.std.specs.Prelude.{◌≡◌, Result, Ok, Err}
 use Rattle.std.specs.Result.{IsErrAnd}
-use Rattle.std.proofs.Common.{refl, sym, ap}
-use Rattle.lists.specs.Answer.{Answer, got, refused}
+use Rattle.std.proofs.Common.{refl, ap}
+use Rattle.lists.specs.Answer.{got, refused}
 use Rattle.lists.proofs.AnswerLaws.{got_same, got-refused}
 use Rattle.aiger.specs.declared.Refusal.{Refusal}
 use Rattle.aiger.specs.Refusals.{refusal_number, answered, answered_as}
