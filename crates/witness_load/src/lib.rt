@@ -158,7 +158,14 @@ fn name_line(s: &[u8], start: usize, end: usize, counts: AagCounts, out: &mut [u
         return false;
     };
     let at = scan::block_end(end, start, symbol.name);
-    store_leaf(counts, symbol.kind, symbol.index, at as u64, (end - at) as u64, out);
+    store_leaf(
+        counts,
+        symbol.kind,
+        symbol.index,
+        at as u64,
+        (end - at) as u64,
+        out,
+    );
     true
 }
 
@@ -168,10 +175,7 @@ fn name_leaves(s: &[u8], cursor: Cursor, counts: AagCounts, out: &mut [u64])
     ensures { LoadsNames s.now cursor counts out.new }
 {
     let mut p = cursor;
-    loop {
-        let Some(line) = text::next_line(s, p) else {
-            return;
-        };
+    while let Some(line) = text::next_line(s, p) {
         if witness_text::ends_symbols(&s[line.start..line.end]) {
             return;
         }

@@ -34,8 +34,8 @@ module _ (s : Bytes) (c p : Cursor) (witness : Bool) (h : not witness ≡ false)
   comments-end k = so true (ap (all plain_comment) (lines_none s p.at r q k))
 
   module _ (l : Line) (k : r ≡ Some l) (b : Bool) (f : b ≡ plain_comment (part s l.start l.end)) where
-    pub comments-stop : b ≡ false → false ≡ plain_comments witness (lines_from s c)
-    comments-stop g = so false (ap (all plain_comment) (lines-some s p.at r q l k) ∙ rw (sym f ∙ g))
+    pub comments-stop : not b ≡ true → false ≡ plain_comments witness (lines_from s c)
+    comments-stop g = so false (ap (all plain_comment) (lines-some s p.at r q l k) ∙ rw (sym f ∙ not-true b g))
 
-    pub comments-more : b ≡ true → all plain_comment (lines_from s l.next) ≡ all plain_comment (lines_from s c)
-    comments-more g = sym (ap (all plain_comment) (lines-some s p.at r q l k) ∙ rw (sym f ∙ g)) ∙ j
+    pub comments-more : not b ≡ false → all plain_comment (lines_from s l.next) ≡ all plain_comment (lines_from s c)
+    comments-more g = sym (ap (all plain_comment) (lines-some s p.at r q l k) ∙ rw (sym f ∙ not-false b g)) ∙ j

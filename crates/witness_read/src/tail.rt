@@ -68,6 +68,7 @@ fn check_symbols(
     ensures { ChecksSymbols s.now cursor counts result }
 {
     let mut p = cursor;
+    // Kept (loop): the symbols' end comes with the place of the comments, which a chain of symbols would not hand on.
     loop {
         let NextSymbol { symbol, next } = next_symbol(s, p, counts)?;
         let Some(symbol) = symbol else {
@@ -120,6 +121,7 @@ pub fn check_tail(s: &[u8], cursor: Cursor, counts: AagCounts) -> Result<Cursor,
         inputs: 0,
         latches: 0,
     };
+    // Kept (loop): as in `check_symbols`.
     loop {
         let NextSymbol { symbol, next } = next_symbol(s, p, counts)?;
         let Some(symbol) = symbol else {
@@ -148,10 +150,7 @@ fn plain_comment(l: &[u8]) -> bool
     ensures { result ≡ plain_comment l.now }
 {
     let first = text::first_field(l);
-    if scan::same(first, b"MAPPING") {
-        return false;
-    }
-    !scan::same(first, b"INTERVENTION")
+    !scan::same(first, b"MAPPING") && !scan::same(first, b"INTERVENTION")
 }
 
 // Whether no comment line from a cursor on begins with a word of R9.10; those of a model are not looked at.
@@ -162,14 +161,11 @@ pub fn plain_comments(s: &[u8], cursor: Cursor, witness: bool) -> bool
         return true;
     }
     let mut p = cursor;
-    loop {
-        let Some(line) = text::next_line(s, p) else {
-            return true;
-        };
-        if plain_comment(&s[line.start..line.end]) {
-            p = line.next;
-        } else {
+    while let Some(line) = text::next_line(s, p) {
+        if !plain_comment(&s[line.start..line.end]) {
             return false;
         }
+        p = line.next;
     }
+    true
 }

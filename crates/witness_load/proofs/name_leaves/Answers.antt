@@ -7,8 +7,8 @@ use Rattle.witness_load.proofs.name_leaves.Goals as goal
 pub loop-line-init : goal.loop-line-init
 loop-line-init c = (refl, search names-none)
 
-pub returns-in_default : goal.returns-in_default
-returns-in_default c = search names-end
+pub returns : goal.returns
+returns c = search names-end
 
 pub slice_bounds-ends_symbols-count : goal.slice_bounds-ends_symbols-count
 slice_bounds-ends_symbols-count c = search line-ordered

@@ -9,8 +9,8 @@ returns-then-not-witness c = search model-comments
 pub loop-line-init : goal.loop-line-init
 loop-line-init c = refl
 
-pub returns-in_default : goal.returns-in_default
-returns-in_default c = search comments-end
+pub returns : goal.returns
+returns c = search comments-end
 
 pub slice_bounds-plain_comment-count : goal.slice_bounds-plain_comment-count
 slice_bounds-plain_comment-count c = search line-ordered
@@ -27,5 +27,5 @@ loop-line-smaller c = search line-less
 pub loop-line-preserved : goal.loop-line-preserved
 loop-line-preserved c = search comments-more
 
-pub returns-else-plain_comment : goal.returns-else-plain_comment
-returns-else-plain_comment c = search comments-stop
+pub returns-then-not-plain_comment : goal.returns-then-not-plain_comment
+returns-then-not-plain_comment c = search comments-stop
