@@ -45,8 +45,8 @@ pub fn text_at<'a>(witnesses: &'a [u8], pairs: &[u64], w: usize) -> &'a [u8]
     requires { (in_order 0 (length witnesses.now) pairs.now ≡ true) × (w < length pairs.now / 2) }
     ensures { result.now ≡ get_or (texts_in witnesses.now pairs.now) w [] }
 {
-    let start = lists::index(pairs[2 * w]);
-    let size = lists::index(pairs[2 * w + 1]);
+    let start = pairs[2 * w] as usize;
+    let size = pairs[2 * w + 1] as usize;
     piece(witnesses, start, size)
 }
 

@@ -39,6 +39,7 @@ fn walk(table: &[u64], heads: usize, key: u64) -> usize
     let mixed = mix(key);
     let mut at = head(mixed, heads);
     let mut code = turn(mixed);
+    // Kept (loop): the search goes from node to node.
     loop {
         let Some(number) = (table[at] as usize).checked_sub(1) else {
             return at;

@@ -1,46 +1,12 @@
 // Small functions on words that every layer uses.
 #![tactic(auto)]
 
-ghost use Rattle.std.specs.Prelude.{◌≡◌, not, ◌+◌, ◌*◌, ◌≤◌, ◌<◌, ◌^◌, min, max, leb, ltb, length, get_or, take};
+ghost use Rattle.std.specs.Prelude.{◌≡◌, not, ◌+◌, ◌*◌, ◌≤◌, ◌<◌, ◌^◌, leb, ltb, length, get_or, take};
 ghost use Rattle.lists.specs.Parts.{part, zeros};
 ghost use Rattle.lists.specs.Sets.{holds, with_bit, rising};
 ghost use Rattle.lists.specs.Tests.{all};
 ghost use Rattle.lists.specs.Words.{lengths, in_order};
 ghost use Rattle.lists.specs.Inner.Pairs.{part_end};
-
-// A word as an index.
-pub fn index(x: u64) -> usize
-    ensures { result ≡ x }
-{
-    x as usize
-}
-
-// A word of 32 bits as a wider one.
-pub fn wide(x: u32) -> u64
-    ensures { result ≡ x }
-{
-    x as u64
-}
-
-// The smaller of two words. This and the next compile without a branch: in a merge it cannot be predicted.
-pub fn least(a: u64, b: u64) -> u64
-    ensures { result ≡ min a b }
-{
-    if b < a {
-        return b;
-    }
-    a
-}
-
-// The larger of two words.
-pub fn most(a: u64, b: u64) -> u64
-    ensures { result ≡ max a b }
-{
-    if b < a {
-        return a;
-    }
-    b
-}
 
 // Every word becomes 0.
 pub fn clear(work: &mut [u64])

@@ -7,6 +7,7 @@ ghost use Rattle.nitrasovy.specs.FlatCompositions.{ComposesFlat};
 use aiger::Refusal;
 
 // Reason 0 and how many bytes the text has, or the number of the reason and 0.
+// Kept (enum): C reads a reason beside the values.
 #[repr(C)]
 #[derive(Clone, Copy)]
 pub struct NitComposed {

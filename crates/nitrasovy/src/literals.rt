@@ -12,6 +12,7 @@ pub struct NitCursor {
 }
 
 // Reason 0 and the literal, or the number of the reason and 0.
+// Kept (enum): C reads a reason beside the values.
 #[repr(C)]
 #[derive(Clone, Copy)]
 pub struct NitTaken {

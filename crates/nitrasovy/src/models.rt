@@ -11,6 +11,7 @@ use model::{AigerTransition, LentModel};
 use model_step::Outcome;
 
 // Reason 0 and the model, or the number of the reason and a record of zeros.
+// Kept (enum): C reads a reason beside the values.
 #[repr(C)]
 #[derive(Clone, Copy)]
 pub struct NitRead {
@@ -19,6 +20,7 @@ pub struct NitRead {
 }
 
 // Reason 0 and the outcome, or the number of the reason and zeros.
+// Kept (enum): C reads a reason beside the values.
 #[repr(C)]
 #[derive(Clone, Copy)]
 pub struct NitStepped {

@@ -15,6 +15,7 @@ use obligation::Claim;
 use obligation_check::Question;
 
 // Reason 0 and the numbers of clauses and literals, or the number of the reason and zeros.
+// Kept (enum): C reads a reason beside the values.
 #[repr(C)]
 #[derive(Clone, Copy)]
 pub struct NitMade {

@@ -10,6 +10,7 @@ use aiger::Refusal;
 use witness_text::AagCounts;
 
 // Reason 0 and the counts, or the number of the reason and zeros.
+// Kept (enum): C reads a reason beside the values.
 #[repr(C)]
 #[derive(Clone, Copy)]
 pub struct NitWitness {

@@ -18,6 +18,7 @@ ghost use Rattle.obligation_claims.specs.Inner.Filling.{InOrder, Fills, Fits};
 use cnf::ClauseCounts;
 
 // Claims as their words: one a state, three an outcome (target, high, low).
+// Kept (enum): two kinds of claims, and no Option or Result.
 #[derive(Clone, Copy)]
 pub enum Claims<'a> {
     States(&'a [u64]),

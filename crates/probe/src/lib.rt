@@ -17,6 +17,7 @@ pub mod witnesses;
 
 use text::{Cursor, Field, Line, Literal, Reader};
 
+// Kept (enum): C reads a flag beside the values.
 #[repr(C)]
 #[derive(Clone, Copy)]
 pub struct ProbeNumber {
@@ -24,6 +25,7 @@ pub struct ProbeNumber {
     pub value: u64,
 }
 
+// Kept (enum): C reads a flag beside the values.
 #[repr(C)]
 #[derive(Clone, Copy)]
 pub struct ProbeLiteral {
@@ -32,6 +34,7 @@ pub struct ProbeLiteral {
     pub at: usize,
 }
 
+// Kept (enum): C reads a flag beside the values.
 #[repr(C)]
 #[derive(Clone, Copy)]
 pub struct ProbePart {
@@ -41,6 +44,7 @@ pub struct ProbePart {
     pub next: usize,
 }
 
+// Kept (enum): C reads a flag beside the values.
 #[repr(C)]
 #[derive(Clone, Copy)]
 pub struct ProbeWritten {

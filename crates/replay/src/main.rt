@@ -81,6 +81,7 @@ fn replay_case(input: &[u8], at: usize, out: &mut [u8], to: usize) -> Progress {
 fn replay(input: &[u8], out: &mut [u8]) -> usize {
     let mut at = 0;
     let mut to = 0;
+    // Kept (loop): a case says where the next one begins.
     while at < input.len() {
         let place = replay_case(input, at, out, to);
         to = place.output;

@@ -16,6 +16,7 @@ pub enum Call {
 }
 
 // The call that a number names, if it names one.
+// Kept (enum): the numbers stand in the stored cases.
 pub fn call_of(number: u64) -> Option<Call> {
     match number {
         1 => Some(Call::ReadTransition),

@@ -12,6 +12,7 @@ pub fn decimal_length(n: u64) -> usize
 {
     let mut rest = n;
     let mut count: usize = 1;
+    // Kept (loop): what is left falls to its tenth.
     while 10 <= rest {
         rest = rest / 10;
         count += 1;

@@ -16,6 +16,7 @@ use text::{Cursor, Reader};
 use witness_text::{AagCounts, SymbolLine};
 
 // The place after some sections, and whether their literals are in range and order.
+// Kept (enum): both are there whenever it is; `fine` is what a later reason asks.
 #[derive(Clone, Copy)]
 pub struct Checked {
     pub next: Cursor,
