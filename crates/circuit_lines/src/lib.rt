@@ -67,7 +67,11 @@ fn gate_line(reader: Reader, l: &[u8]) -> Option<Gate>
         return None;
     }
     let [output, left, right] = ns;
-    Some(Gate { output, left, right })
+    Some(Gate {
+        output,
+        left,
+        right,
+    })
 }
 
 // The gate of a line of three plain numbers, each with one byte behind it: the form in which circuits are printed.
@@ -181,7 +185,12 @@ impl TakeLine for GateLine {
 }
 
 // The items of the lines from a cursor on, as many as `out` is long; the place after them, or none where a line is missing or bad.
-pub fn take_lines<K: TakeLine>(kind: K, s: &[u8], cursor: Cursor, out: &mut [K::Item]) -> Option<Cursor>
+pub fn take_lines<K: TakeLine>(
+    kind: K,
+    s: &[u8],
+    cursor: Cursor,
+    out: &mut [K::Item],
+) -> Option<Cursor>
     ensures { Takes (K.item kind) s.now cursor (length out.old) result out.new }
 {
     let mut next = cursor;

@@ -1,11 +1,12 @@
 -- Laws of the list of the witnesses' counts.
-use Prim.Native.Nat.{ℕ, ◌+◌, ◌*◌, ◌≤◌, ◌<◌}
-use mathlib.Core.List.{List, [], ◌∷◌}
+use Prim.Native.Nat.{ℕ, ◌+◌, ◌-◌, ◌*◌, ◌≤◌, ◌<◌}
+use mathlib.Core.List.{List, [], ◌∷◌, append-nil}
 use mathlib.Core.Path.{◌≡◌, refl, sym, ap, ◌∙◌, subst}
 use native.Mathlib.Omega.{arith}
-use lib.ListN.{length, get_or, set, length-map}
-use Rattle.lists.specs.Parts.{put}
-use Rattle.lists.proofs.PartLaws.{put_three, put-put, put-before, put-inside}
+use borrow.Rule.Slice.PartMut.{put_mid}
+use lib.ListN.{length, get_or, length-map, drop_of_length-le}
+use Rattle.lists.specs.Parts.{part, put, front}
+use Rattle.lists.proofs.PartLaws.{part_length, put_back, put-before, put-inside}
 use Rattle.witness_text.specs.declared.AagCounts.{AagCounts}
 use Rattle.witness_read.specs.Sections.{Sections}
 use Rattle.witness_read.specs.Reading.{counts_in}
@@ -16,18 +17,14 @@ use Rattle.compose_gather.specs.Inner.Gathered.{words_for, leaf_count_of}
 
 -- ---- stored and read
 
-pub three_stored : (o : List ℕ) (at x y z : ℕ) → at + 2 < length o → set (set (set o at x) (at + 1) y) (at + 2) z ≡ put o at (x ∷ y ∷ z ∷ [])
-three_stored o at x y z h = sym (put_three o at x y z h)
-
-pub nine_stored : (o o₁ o₂ o₃ : List ℕ) (at w : ℕ) (n : AagCounts) → at ≡ 9 * w → 9 * w + 8 < length o → o₁ ≡ put o at (n.max_variable ∷ n.inputs ∷ n.latches ∷ [])
-    → o₂ ≡ put o₁ (at + 3) (n.outputs ∷ n.gates ∷ n.bads ∷ []) → o₃ ≡ put o₂ (at + 6) (n.constraints ∷ n.justice ∷ n.fairness ∷ []) → o₃ ≡ put o (9 * w) (count_words n)
-nine_stored o o₁ o₂ o₃ at w n z h e f g =
-    let six : o₂ ≡ put o at (n.max_variable ∷ n.inputs ∷ n.latches ∷ n.outputs ∷ n.gates ∷ n.bads ∷ []) =
-    f ∙ (ap (λ (x : List ℕ). put x (at + 3) (n.outputs ∷ n.gates ∷ n.bads ∷ [])) e
-    ∙ put-put o at (n.max_variable ∷ n.inputs ∷ n.latches ∷ []) (omega arith) (n.outputs ∷ n.gates ∷ n.bads ∷ [])) in
-    g ∙ (ap (λ (x : List ℕ). put x (at + 6) (n.constraints ∷ n.justice ∷ n.fairness ∷ [])) six
-    ∙ (put-put o at (n.max_variable ∷ n.inputs ∷ n.latches ∷ n.outputs ∷ n.gates ∷ n.bads ∷ []) (omega arith) (n.constraints ∷ n.justice ∷ n.fairness ∷ [])
-    ∙ ap (λ (i : ℕ). put o i (count_words n)) z))
+-- nine words in the part that was lent
+pub nine_stored : (o : List ℕ) (w : ℕ) (n : AagCounts) (b : List ℕ) → 9 * w + 8 < length o → b ≡ count_words n → put_mid (9 * w) (9 * w + 9 - 9 * w) o b ≡ put o (9 * w) (count_words n)
+nine_stored o w n b h e =
+    let size : length (part o (9 * w) (9 * w + 9)) ≡ 9 = part_length o (9 * w) (9 * w + 9) (omega arith) ∙ omega arith in
+    let whole : b ≡ front (part o (9 * w) (9 * w + 9)) b =
+    sym (rw (drop_of_length-le (part o (9 * w) (9 * w + 9)) {i = length b} (omega (arith, size, ap length e))) (append-nil b)) in
+    ap (put_mid (9 * w) (9 * w + 9 - 9 * w) o) whole
+    ∙ (put_back o (9 * w) b (omega arith) (9 * w + 9) (omega (arith, ap length e)) (omega arith) ∙ ap (put o (9 * w)) e)
 
 pub nine_read : (counts : List ℕ) (at w m i l o a b c j f : ℕ) → at ≡ 9 * w → m ≡ get_or counts at 0 → i ≡ get_or counts (at + 1) 0 → l ≡ get_or counts (at + 2) 0 → o ≡ get_or counts (at + 3) 0
     → a ≡ get_or counts (at + 4) 0 → b ≡ get_or counts (at + 5) 0 → c ≡ get_or counts (at + 6) 0 → j ≡ get_or counts (at + 7) 0 → f ≡ get_or counts (at + 8) 0

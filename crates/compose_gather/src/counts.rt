@@ -5,17 +5,7 @@ ghost use Rattle.compose_gather.specs.Inner.Counts.{count_words, counts_at, leaf
 ghost use Rattle.compose_gather.specs.Inner.Gathered.{words_for};
 
 use compose_joint::Leaves;
-use lists::index;
 use witness_text::AagCounts;
-
-fn store_three(out: &mut [u64], at: usize, x: u64, y: u64, z: u64)
-    requires { at + 2 < length out.old }
-    ensures { out.new ≡ put out.old at (x ∷ y ∷ z ∷ []) }
-{
-    out[at] = x;
-    out[at + 1] = y;
-    out[at + 2] = z;
-}
 
 // Stores the counts of witness w.
 pub fn store(counts: &mut [u64], w: usize, witness: AagCounts)
@@ -23,27 +13,18 @@ pub fn store(counts: &mut [u64], w: usize, witness: AagCounts)
     ensures { counts.new ≡ put counts.old (9 * w) (count_words witness) }
 {
     let at = 9 * w;
-    store_three(
-        counts,
-        at,
+    let words = [
         witness.max_variable as u64,
         witness.inputs as u64,
         witness.latches as u64,
-    );
-    store_three(
-        counts,
-        at + 3,
         witness.outputs as u64,
         witness.gates as u64,
         witness.bads as u64,
-    );
-    store_three(
-        counts,
-        at + 6,
         witness.constraints as u64,
         witness.justice as u64,
         witness.fairness as u64,
-    );
+    ];
+    counts[at..at + 9].copy_from_slice(&words);
 }
 
 // The counts of witness w.
@@ -53,15 +34,15 @@ pub fn counts_at(counts: &[u64], w: usize) -> AagCounts
 {
     let at = 9 * w;
     AagCounts {
-        max_variable: index(counts[at]),
-        inputs: index(counts[at + 1]),
-        latches: index(counts[at + 2]),
-        outputs: index(counts[at + 3]),
-        gates: index(counts[at + 4]),
-        bads: index(counts[at + 5]),
-        constraints: index(counts[at + 6]),
-        justice: index(counts[at + 7]),
-        fairness: index(counts[at + 8]),
+        max_variable: counts[at] as usize,
+        inputs: counts[at + 1] as usize,
+        latches: counts[at + 2] as usize,
+        outputs: counts[at + 3] as usize,
+        gates: counts[at + 4] as usize,
+        bads: counts[at + 5] as usize,
+        constraints: counts[at + 6] as usize,
+        justice: counts[at + 7] as usize,
+        fairness: counts[at + 8] as usize,
     }
 }
 

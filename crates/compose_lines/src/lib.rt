@@ -28,44 +28,35 @@ fn print_field(out: &mut [u8], at: usize, n: u64) -> usize
     text_print::print_number(out, digits, n)
 }
 
-// Prints two numbers, each with a space before it.
-fn print_two(out: &mut [u8], at: usize, a: u64, b: u64) -> usize
-    ensures { Prints out.old at (fields_text (a ∷ b ∷ [])) out.new result }
+// Prints numbers, each with a space before it.
+fn print_fields(out: &mut [u8], at: usize, numbers: &[u64]) -> usize
+    ensures { Prints out.old at (fields_text numbers.now) out.new result }
 {
-    let second = print_field(out, at, a);
-    print_field(out, second, b)
-}
-
-// Prints four numbers, each with a space before it.
-fn print_four(out: &mut [u8], at: usize, a: u64, b: u64, c: u64, d: u64) -> usize
-    ensures { Prints out.old at (fields_text (a ∷ b ∷ c ∷ d ∷ [])) out.new result }
-{
-    let third = print_two(out, at, a, b);
-    print_two(out, third, c, d)
-}
-
-// Prints `aag` and the first four numbers.
-fn print_start(out: &mut [u8], at: usize, counts: Counts) -> usize
-    ensures { Prints out.old at (97 ∷ 97 ∷ 103 ∷ fields_text (counts.variables ∷ counts.inputs ∷ counts.latches ∷ 0 ∷ [])) out.new result }
-{
-    let fields = text_print::print_bytes(out, at, b"aag");
-    print_four(
-        out,
-        fields,
-        counts.variables,
-        counts.inputs,
-        counts.latches,
-        0,
-    )
+    let mut to = at;
+    for n in numbers {
+        to = print_field(out, to, *n);
+    }
+    to
 }
 
 // Prints the line of the header.
 pub fn print_header(out: &mut [u8], at: usize, counts: Counts) -> usize
     ensures { Prints out.old at (header_of counts ++ 10 ∷ []) out.new result }
 {
-    let gates = print_start(out, at, counts);
-    let last = print_four(out, gates, counts.gates, counts.bads, counts.constraints, 0);
-    text_print::print_bytes(out, last, b" 0\n")
+    let numbers = [
+        counts.variables,
+        counts.inputs,
+        counts.latches,
+        0,
+        counts.gates,
+        counts.bads,
+        counts.constraints,
+        0,
+        0,
+    ];
+    let fields = text_print::print_bytes(out, at, b"aag");
+    let end = print_fields(out, fields, &numbers);
+    text_print::print_byte(out, end, 10)
 }
 
 // Prints the lines of the gates whose keys a table holds; the first gate has the variable `first`.
@@ -82,12 +73,10 @@ pub fn print_gates(
 {
     let mut to = at;
     let mut x = first;
-    let mut k = 0;
-    while k < count {
+    for k in 0..count {
         let key = table[heads + 3 * k] - 1;
         to = text_print::print_three(out, to, 2 * x, key % 4294967296, key / 4294967296);
         x += 1;
-        k += 1;
     }
     to
 }

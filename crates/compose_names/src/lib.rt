@@ -144,8 +144,8 @@ fn print_row(
     requires { RowWords text.now work.now starts k }
     ensures { Prints out.old at (symbol_line (kind_of leaves) number (row_at text.now work.now leaves w starts k).name ++ 10 ∷ []) out.new result }
 {
-    let start = lists::index(work[starts.names + 2 * k]);
-    let size = lists::index(work[starts.names + 2 * k + 1]);
+    let start = work[starts.names + 2 * k] as usize;
+    let size = work[starts.names + 2 * k + 1] as usize;
     print_symbol(
         out,
         at,
@@ -177,17 +177,14 @@ fn print_names(
 {
     let mut to = at;
     let mut next = new;
-    let mut k = 0;
-    while k < count {
+    for k in 0..count {
         if work[starts.numbers + k] != next {
-            k += 1;
             continue;
         }
         to = print_row(out, to, text, work, leaves, w, starts, k, next - first);
         next += 1;
-        k += 1;
     }
-    Printed { at: to, next: next }
+    Printed { at: to, next }
 }
 
 // Prints the symbol lines of a witness with these counts, whose words begin at `names`.
@@ -250,20 +247,18 @@ pub fn print_symbols(
     let count = pairs.len() / 2;
     let mut p = Starts {
         names: 0,
-        origins: origins,
-        numbers: numbers,
+        origins,
+        numbers,
     };
     let mut done = Printed {
-        at: at,
+        at,
         next: first,
     };
-    let mut w = 0;
-    while w < count {
+    for w in 0..count {
         let text = compose_gather::text_at(witnesses, pairs, w);
         let n = compose_gather::counts::counts_at(counts, w);
         done = print_witness(out, done.at, text, n, work, leaves, w, p, first, done.next);
         p = pass(leaves, n, p, work.len());
-        w += 1;
     }
     done.at
 }

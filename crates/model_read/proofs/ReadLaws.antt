@@ -13,7 +13,7 @@ use Rattle.lists.specs.Answer.{Answer, got, refused, unless, and_then}
 use Rattle.lists.specs.Parts.{Bytes, front, zeros}
 use Rattle.lists.specs.Words.{words_of}
 use Rattle.lists.proofs.AnswerLaws.{got_same, unless-got, and_then-got, and_then_assoc, and_then-same}
-use Rattle.lists.proofs.ZeroLaws.{zeros-length, zeros-kept}
+use Rattle.lists.proofs.ZeroLaws.{zeros-length}
 use Rattle.text.specs.declared.Cursor.{Cursor}
 use Rattle.text.specs.declared.Parsed.{Parsed}
 use Rattle.text.specs.Lines.{lines_of}
@@ -28,7 +28,7 @@ use Rattle.aiger.specs.declared.Refusal.TheVariants as refusal
 use Rattle.aiger.specs.Refusals.{refusal_number, answered}
 use Rattle.model.specs.declared.AigerTransition.{AigerTransition}
 use Rattle.model.specs.declared.Counts.{Counts}
-use Rattle.model.specs.Circuit.{Circuit, circuit_of, record_of, no_circuit, no_latch}
+use Rattle.model.specs.Circuit.{Circuit, circuit_of, no_latch}
 use Rattle.model.specs.Limits.{counted, well_defined}
 use Rattle.circuit_lines.specs.SectionLines.{literal_line, gate_line}
 use Rattle.model_text.specs.ModelLines.{latch_line}

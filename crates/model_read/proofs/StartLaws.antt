@@ -2,18 +2,14 @@
 use Rattle.std.specs.Prelude.{Option, Some, None}
 use Prim.Native.Nat.{ℕ, ◌≤◌}
 use mathlib.Core.Bool.{true}
-use mathlib.Core.List.{List, [], ◌++◌}
-use mathlib.Core.Path.{◌≡◌, refl, sym}
-use lib.ListN.{length, take, drop, replicate}
-use lib.Seq.{length-take-le}
-use Rattle.lists.specs.Answer.{Answer, refused}
+use mathlib.Core.List.{List, []}
+use mathlib.Core.Path.{◌≡◌, refl}
+use lib.ListN.{length, replicate}
 use Rattle.lists.specs.Parts.{Bytes, front, zeros}
-use Rattle.lists.proofs.ZeroLaws.{zeros-length}
 use Rattle.text.specs.declared.Reader.TheVariants.{Transition}
 use Rattle.text.specs.declared.Cursor.{Cursor}
 use Rattle.text.specs.declared.Parsed.{Parsed}
 use Rattle.aiger.proofs.SectionLaws.{section-length}
-use Rattle.model.specs.declared.AigerTransition.{AigerTransition}
 use Rattle.model.specs.declared.Counts.{Counts}
 use Rattle.model.specs.declared.AigerLatch.{AigerLatch}
 use Rattle.model.specs.Circuit.{record_from, Circuit, no_latch}
@@ -22,7 +18,7 @@ use Rattle.model.proofs.CountLaws.{counted_facts}
 use Rattle.circuit_lines.specs.SectionLines.{literal_line}
 use Rattle.model_text.specs.ModelLines.{latch_line}
 use Rattle.circuit_lines.specs.Inner.Takes.{lines_from, Takes, TakesArray, TakesFront}
-use Rattle.model_read.specs.Inner.Passes.{start_of, record_with, TakesStart}
+use Rattle.model_read.specs.Inner.Passes.{record_with, TakesStart}
 
 -- ---- the three sections, one after the other
 

@@ -11,18 +11,14 @@ use Rattle.lists.specs.Quoted.{bytes}
 use Rattle.lists.specs.Answer.{got, refused, unless}
 use Rattle.lists.specs.Parts.{Bytes, part}
 use Rattle.scan.specs.Same.{same_bytes}
-use Rattle.text.specs.declared.Cursor.{Cursor}
-use Rattle.text.specs.declared.Line.{Line}
 use Rattle.text.specs.declared.Field.{Field}
 use Rattle.text.specs.declared.Reader.TheVariants.{Transition}
 use Rattle.text.specs.declared.Taken.{Taken}
 use Rattle.text.specs.Numbers.{number_of}
-use Rattle.text.specs.Lines.{line_at}
 use Rattle.text.specs.Fields.{fields_of, field_at}
 use Rattle.text.specs.Literals.{taken_at}
 use Rattle.text.proofs.FieldLaws.{fields_none, fields_some}
 use Rattle.text.proofs.LiteralLaws.{Writes, WritesNone, fields_missing, fields_unreadable, fields_got}
-use Rattle.model.specs.declared.AigerLatch.{AigerLatch}
 use Rattle.model_text.specs.ModelLines.{is_number, initializer, latch_fields, latch_line}
 use Rattle.model_text.specs.Inner.OneLine.{initializers}
 use Rattle.circuit_lines.specs.Inner.OneLine.{answer_or}

@@ -84,7 +84,11 @@ impl LineKind for LatchLine {
         else {
             return None;
         };
-        let Taken::Got { value: next, next: end } = text::next_number(Reader::Transition, line, at) else {
+        let Taken::Got {
+            value: next,
+            next: end,
+        } = text::next_number(Reader::Transition, line, at)
+        else {
             return None;
         };
         if !latch_end(line, end, current) {

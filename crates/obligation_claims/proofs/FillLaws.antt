@@ -13,7 +13,6 @@ use borrow.Author.Tests.{eq-eqb, ne_eqb}
 use Rattle.lists.specs.Bits.{bit}
 use Rattle.lists.specs.Sets.{member, holds}
 use Rattle.lists.proofs.BitLaws.{odd-bit, bit_lt}
-use Rattle.lists.proofs.BitSetLaws.{holds_outside}
 use Rattle.lists.proofs.MapLaws.{map_at}
 use Rattle.lists.proofs.OnceLaws.{member_append}
 use Rattle.lists.proofs.RestLaws.{take_next}

@@ -18,7 +18,7 @@ use Rattle.lists.proofs.WordLaws.{triples_at, triples_count}
 use Rattle.cnf.specs.declared.ClauseCounts.{ClauseCounts}
 use Rattle.cnf.specs.Simplified.{simplified}
 use Rattle.cnf.specs.Inner.Appending.{Appends, Space, Filled, Narrow, NarrowWords}
-use Rattle.cnf.proofs.AppendLaws.{appends-none, appends-same, appends-dropped, appends-next, appends-end, space-next}
+use Rattle.cnf.proofs.AppendLaws.{appends-same, appends-dropped, appends-next, appends-end, space-next}
 use Rattle.cnf.proofs.ShortLaws.{simplified-filled, simplified_one_true}
 use Rattle.cnf.proofs.SignLaws.{length_without}
 use Rattle.cnf.proofs.SimplifyLaws.{filled-narrow}

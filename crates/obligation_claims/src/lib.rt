@@ -191,10 +191,10 @@ fn push_claim(
     if keys.len() <= 3 {
         return push_few(keys, claim, pairs, literals, at);
     }
-    let Some(n) = fill_claim(keys, claim, list) else {
-        return at;
-    };
-    cnf::push_simplified(list, n, pairs, literals, at)
+    match fill_claim(keys, claim, list) {
+        Some(n) => cnf::push_simplified(&mut list[..n], pairs, literals, at),
+        None => at,
+    }
 }
 
 // Appends the clauses of claims, each made in the lent list.

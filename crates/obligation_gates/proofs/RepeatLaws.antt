@@ -22,7 +22,7 @@ use Rattle.cnf.specs.Inner.Appending.{Appends, PushesFilled, NarrowWords}
 use Rattle.cnf.specs.Simplified.{cnf_word}
 use Rattle.cnf.proofs.AppendLaws.{appends-same}
 use Rattle.cnf.proofs.MemberLaws.{simplified_members}
-use Rattle.cnf.proofs.SimplifyLaws.{filled-narrow}
+use Rattle.cnf.proofs.SimplifyLaws.{filled-narrow, filled-part}
 use Rattle.obligation_spec.specs.Lists.{predicate_literal}
 use Rattle.obligation_gates.specs.Inner.Encoding.{Clausal, FilledAs}
 use Rattle.obligation_gates.proofs.PredicateLaws.{coded, literal-some, literal-narrow, filled}
@@ -129,10 +129,10 @@ module _ (inputs relevant clause list : List ℕ) (n : ℕ) (f : FilledAs inputs
       filled-narrow (map p f.kept) list n f.filled
       (each_map p (λ l. l < 2 ^ 32) f.kept (each-any (λ w. p w < 2 ^ 32) (literal-narrow inputs relevant f.kept f.clausal) f.kept))
 
-  pub kept-appends : (at : ClauseCounts) (pairs literals : List ℕ) (at' : ClauseCounts) (pairs' literals' : List ℕ) → PushesFilled list n at pairs literals at' pairs' literals'
+  pub kept-appends : n ≤ length list → (at : ClauseCounts) (pairs literals : List ℕ) (at' : ClauseCounts) (pairs' literals' : List ℕ) → PushesFilled (take n list) at pairs literals at' pairs' literals'
       → Appends (map (predicate_literal inputs relevant) clause ∷ []) at pairs literals at' pairs' literals'
-  kept-appends at pairs literals at' pairs' literals' g =
+  kept-appends room at pairs literals at' pairs' literals' g =
       let p : ℕ → ℕ = predicate_literal inputs relevant in
       appends-same (map p f.kept ∷ []) (map p clause ∷ []) at pairs literals at' pairs' literals'
       (ap (λ (t : List (List ℕ)). t ∷ []) (simplified_members (map p f.kept) (map p clause) (member-map p)))
-      (g (map p f.kept) f.filled)
+      (g (map p f.kept) (filled-part (map p f.kept) list n room f.filled))

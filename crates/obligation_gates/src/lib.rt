@@ -75,7 +75,7 @@ fn push_clause(
     ensures { Appends (map (predicate_literal inputs.now relevant.now) clause.now ∷ []) at pairs.old literals.old result pairs.new literals.new }
 {
     let n = fill_clause(inputs, relevant, clause, list);
-    cnf::push_simplified(list, n, pairs, literals, at)
+    cnf::push_simplified(&mut list[..n], pairs, literals, at)
 }
 
 // Appends the clauses of the predicate's pairs; half a pair is not read.

@@ -5,7 +5,7 @@ use mathlib.Core.Path.{◌≡◌, refl, sym, ap, ◌∙◌}
 use mathlib.Core.Bool.{Bool, true, false, cond}
 use mathlib.Core.List.{List, [], ◌∷◌, ◌++◌, append_assoc, append-nil}
 use native.Mathlib.Omega.{arith}
-use borrow.Author.Tests.{eq-eqb, ne_eqb, le-leb, lt-leb, ltb-true, ltb-false}
+use borrow.Author.Tests.{le-leb, lt-leb, ltb-true, ltb-false}
 use lib.Dec.{leb, ltb, eqb}
 use lib.ListN.{length, take, drop, set, length-set, drop_of_length-le}
 use lib.Seq.{drop-drop, take-set-le, get_or-set_same}
@@ -19,12 +19,6 @@ use Rattle.text.specs.Lines.{cons_head}
 use Rattle.text.specs.Numbers.{number_of}
 use Rattle.row_text.specs.RowProgram.{pieces, piece_number, numbers_of}
 use Rattle.row_text.specs.Inner.Steps.{in_piece}
-
-pub piece_goes : (b : ℕ) → (b ≡ 32 → ⊥) → in_piece b ≡ true
-piece_goes b h = simp (ne_eqb b 32 h)
-
-pub piece_stops : (b : ℕ) → b ≡ 32 → in_piece b ≡ false
-piece_stops b h = simp (eq-eqb b 32 h)
 
 -- the first piece, and those behind the space that ends it
 abbrev behind : Bytes → List Bytes

@@ -16,19 +16,17 @@ ghost use Rattle.row_text.specs.Inner.Made.{made_answer, Printable, PrintsIn, Pr
 use aiger::Refusal;
 use cnf::ClauseCounts;
 use model::AigerTransition;
+use text::ByteTest;
 
-// Where what stands between two spaces ends.
-fn piece_end(line: &[u8], at: usize) -> usize
-    ensures { result ≡ at + span in_piece (drop at line.now) }
-{
-    let mut i = at;
-    while i < line.len() {
-        if line[i] == 32 {
-            return i;
-        }
-        i += 1;
+// A byte that is no space.
+struct InPiece {}
+
+impl ByteTest for InPiece {
+    ghost passes = { in_piece };
+
+    fn passes(b: u8) -> bool {
+        b != 32
     }
-    i
 }
 
 // The numbers of a line, with single spaces between them, and how many they are; none where the line has another form.
@@ -38,8 +36,9 @@ fn read_numbers(line: &[u8], numbers: &mut [u64]) -> Option<usize>
 {
     let mut count = 0;
     let mut at = 0;
+    // Kept (loop): a turn passes a whole piece, so that the place moves by its length.
     while at <= line.len() {
-        let end = piece_end(line, at);
+        let end = text::passing_end::<InPiece>(line, at);
         numbers[count] = text::numbers::parse_usize(&line[at..end])?;
         count += 1;
         at = end + 1;
@@ -67,10 +66,8 @@ fn write_words(out: &mut [u8], at: usize, words: &[u32]) -> usize
     ensures { Prints out.old at (spaced_numbers words.now) (21 * length words.now) out.new result }
 {
     let mut to = at;
-    let mut i = 0;
-    while i < words.len() {
-        to = write_number(out, to, b" ", lists::wide(words[i]));
-        i += 1;
+    for word in words {
+        to = write_number(out, to, b" ", u64::from(*word));
     }
     to
 }
@@ -80,8 +77,8 @@ fn write_clause(out: &mut [u8], at: usize, literals: &[u32], offset: u64, size: 
     requires { (offset + size ≤ length literals.now) × (at + 21 * (size + 2) ≤ length out.old) }
     ensures { Prints out.old at (clause_bytes offset (part literals.now offset (offset + size))) (21 * (size + 2)) out.new result }
 {
-    let start = lists::index(offset);
-    let end = start + lists::index(size);
+    let start = offset as usize;
+    let end = start + size as usize;
     let second = write_number(out, at, b"\n", offset);
     let third = write_number(out, second, b" ", size);
     write_words(out, third, &literals[start..end])
@@ -93,12 +90,8 @@ fn write_clauses(out: &mut [u8], at: usize, pairs: &[u64], literals: &[u32], cou
     ensures { Prints out.old at (clauses_bytes 0 (returned count pairs.now literals.now)) (21 * numbers_in (returned count pairs.now literals.now)) out.new result }
 {
     let mut to = at;
-    let mut i = 0;
-    while i < count {
-        let offset = pairs[2 * i];
-        let size = pairs[2 * i + 1];
-        to = write_clause(out, to, literals, offset, size);
-        i += 1;
+    for i in 0..count {
+        to = write_clause(out, to, literals, pairs[2 * i], pairs[2 * i + 1]);
     }
     to
 }
@@ -214,10 +207,7 @@ fn print_for(
 fn after_line(input: &[u8], end: usize) -> &[u8]
     ensures { result.now ≡ drop (end + 1) input.now }
 {
-    if end < input.len() {
-        return &input[end + 1..];
-    }
-    &input[..0]
+    input.get(end.saturating_add(1)..).unwrap_or(&[])
 }
 
 // Prints the row for the numbers of the first line and the text after it, with the words that R14.4 lends.

@@ -10,7 +10,6 @@ use borrow.Author.Tests.{lt-ltb, le-ltb, ltb-true, ltb-false, not-true}
 use lib.ListN.{length, take, drop, length-drop, drop_of_length-le}
 use lib.Seq.{drop-drop}
 use lib.Dec.{eqb, ltb}
-use Rattle.text.specs.declared.Cursor.{Cursor}
 use Rattle.scan.proofs.SpanLaws.{span-within, span-passes}
 use Rattle.text.specs.declared.Line.{Line}
 use Rattle.scan.specs.Spans.{span, in_line}

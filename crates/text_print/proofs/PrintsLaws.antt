@@ -1,6 +1,6 @@
 -- Laws of `Prints`: texts printed one after the other, and `Printing`, a loop that prints.
 use Rattle.std.specs.Prelude.{Option, Some, None}
-use Prim.Native.Nat.{ℕ, ◌+◌, ◌≤◌, ◌<◌}
+use Prim.Native.Nat.{ℕ, ◌+◌, ◌≤◌}
 use mathlib.Core.Path.{◌≡◌, refl, sym, ap, ◌∙◌}
 use mathlib.Core.List.{[], ◌++◌, append_assoc, append-nil}
 use native.Mathlib.Omega.{arith}

@@ -173,7 +173,13 @@ pub fn print_pairs(out: &mut [u8], at: usize, first: u64, words: &[u64]) -> usiz
 {
     let mut to = at;
     for i in 0..words.len() / 2 {
-        to = print_three(out, to, 2 * (first + i as u64), words[2 * i], words[2 * i + 1]);
+        to = print_three(
+            out,
+            to,
+            2 * (first + i as u64),
+            words[2 * i],
+            words[2 * i + 1],
+        );
     }
     to
 }

@@ -62,9 +62,9 @@ pub record Simplifies (words : List ℕ) (r : Option ℕ) (list : List ℕ) : Ty
 abbrev pub Pushes : Clause → ClauseCounts → List ℕ → List ℕ → ClauseCounts → List ℕ → List ℕ → Type 0
 Pushes c at pairs words at' pairs' words' = (ls : List ℕ) → simplified ls ≡ c ∷ [] → Appends (ls ∷ []) at pairs words at' pairs' words'
 
--- the clause of the literals whose words filled the list was appended, whatever they are
-abbrev pub PushesFilled : List ℕ → ℕ → ClauseCounts → List ℕ → List ℕ → ClauseCounts → List ℕ → List ℕ → Type 0
-PushesFilled list n at pairs words at' pairs' words' = (ls : List ℕ) → Filled ls list n → Appends (ls ∷ []) at pairs words at' pairs' words'
+-- the clause of the literals that these words are of was appended, whatever they are
+abbrev pub PushesFilled : List ℕ → ClauseCounts → List ℕ → List ℕ → ClauseCounts → List ℕ → List ℕ → Type 0
+PushesFilled list at pairs words at' pairs' words' = (ls : List ℕ) → Filled ls list (length list) → Appends (ls ∷ []) at pairs words at' pairs' words'
 
 -- the words have 32 bits
 abbrev pub NarrowWords : List ℕ → Type 0

@@ -1,6 +1,8 @@
-use native.Mathlib.Omega.{arith}
+use Rattle.std.proofs.Common.{arith}
 use Rattle.compose_lines.proofs.HeaderLaws.{header_printed}
 use Rattle.compose_lines.proofs.print_header.Goals as goal
 
 pub returns : goal.returns
-returns c = header_printed _ _ _ _ _ _ (omega arith) (omega (arith, c.print_start-gates.auto.out)) c.args.counts _ _ (omega (arith, c.print_start-gates.auto.out, c.print_four-last.auto.out)) c.print_start-gates.ensures c.print_four-last.ensures c.print_bytes.ensures
+returns c =
+    header_printed _ _ c.args.counts _ _ _ _ _ _ (omega arith) (omega (arith, c.print_bytes-fields.auto.out)) (omega (arith, c.print_bytes-fields.auto.out, c.print_fields-end.auto.out))
+    c.print_bytes-fields.ensures c.print_fields-end.ensures c.print_byte.ensures

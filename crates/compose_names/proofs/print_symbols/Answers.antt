@@ -1,10 +1,11 @@
+use Rattle.std.proofs.Common.{refl}
 use native.Mathlib.Omega.{arith}
 use Rattle.compose_names.proofs.SymbolLaws.{walking-none, walking-can, walking_pass, walking-more, walking-end}
 use borrow.Author.Rules.{rules}
 use Rattle.compose_names.proofs.print_symbols.Goals as goal
 
 pub loop-w-init : goal.loop-w-init
-loop-w-init c = (walking-none _ _ _ _ _ _ _ _ _ (search rules) (omega arith) (omega arith), search rules)
+loop-w-init c = (walking-none _ _ _ _ _ _ _ _ _ (search rules) (omega arith) (omega arith))
 
 pub print_witness-done-requires : goal.print_witness-done-requires
 print_witness-done-requires c = search walking-can
@@ -13,7 +14,7 @@ pub pass-p-requires : goal.pass-p-requires
 pass-p-requires c = search walking_pass
 
 pub loop-w-preserved : goal.loop-w-preserved
-loop-w-preserved c = (walking-more _ _ _ _ _ _ _ _ _ _ _ _ _ _ c.loop-w.invariant.0 c.loop-w.invariant.1 (omega (arith, c.loop-w-test)) _ c.text_at-text.ensures _ c.requires.counts_listed _ c.counts_at-n.ensures _ _ (omega (arith, c.print_witness-done.auto.out)) c.print_witness-done.ensures _ c.pass-p.ensures, search rules)
+loop-w-preserved c = (walking-more _ _ _ _ _ _ _ _ _ _ _ _ _ _ c.loop-w.invariant refl c.loop-w-test.true _ c.text_at-text.ensures _ c.requires.counts_listed _ c.counts_at-n.ensures _ _ (omega (arith, c.print_witness-done.auto.out)) c.print_witness-done.ensures _ c.pass-p.ensures)
 
 pub returns : goal.returns
 returns c = search walking-end

@@ -1,11 +1,7 @@
-use Prim.Native.Nat.{◌-◌, ◌/◌}
 use mathlib.Core.Path.{◌≡◌}
 use lib.ListN.{length}
 use Rattle.compose_names.proofs.SymbolLaws.{Walking}
 use Rattle.compose_names.proofs.print_symbols.Given as goal
 
 abbrev pub invariant-loop-w : goal.invariant-loop-w
-invariant-loop-w l = Walking l.leaves l.witnesses l.pairs l.work l.origins l.numbers l.first l.initial.out l.at l.out l.p l.done l.w × (l.count ≡ length l.pairs / 2)
-
-abbrev pub decreases-loop-w : goal.decreases-loop-w
-decreases-loop-w l = l.count - l.w
+invariant-loop-w l = Walking l.leaves l.witnesses l.pairs l.work l.origins l.numbers l.first l.initial.out l.at l.out l.p l.done l.w

@@ -1,5 +1,5 @@
 use borrow.Author.Rules.{rules}
-use Rattle.model_read.proofs.ModelLaws.{lines_bad, gates_undefined, literals_good, literals-above}
+use Rattle.model_read.proofs.ModelLaws.{gates_undefined, literals_good, literals-above}
 use Rattle.model_read.proofs.check_model.Goals as goal
 use Rattle.model_read.proofs.check_model.Goals.{then-not-good-via-then-not-good, then-not-good-via-else-not-good+then-not-literals_hold}
 

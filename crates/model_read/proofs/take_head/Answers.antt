@@ -1,4 +1,3 @@
-use native.Mathlib.Omega.{arith}
 use Rattle.model_read.proofs.StartLaws.{head_without_inputs, head_without_latches, head_without_outputs, head-taken}
 use Rattle.model_read.proofs.take_head.Goals as goal
 

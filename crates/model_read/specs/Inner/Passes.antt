@@ -17,7 +17,7 @@ use Rattle.model.specs.Limits.{counted, well_defined}
 use Rattle.model.specs.Inner.Marking.{Marking}
 use Rattle.circuit_lines.specs.SectionLines.{literal_line, gate_line}
 use Rattle.model_text.specs.ModelLines.{latch_line}
-use Rattle.circuit_lines.specs.Inner.Takes.{lines_from, Takes}
+use Rattle.circuit_lines.specs.Inner.Takes.{lines_from}
 
 -- ---- inputs, latches and outputs
 

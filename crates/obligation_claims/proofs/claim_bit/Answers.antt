@@ -1,4 +1,3 @@
-use mathlib.Core.Path.{◌∙◌}
 use Rattle.obligation_claims.proofs.FillLaws.{bit-is}
 use Rattle.obligation_claims.proofs.claim_bit.Goals as goal
 

@@ -1,26 +1,35 @@
 use native.Mathlib.Omega.{arith}
+use lib.ListN.{length, length-take}
+use Prim.Native.Nat.{◌≤◌}
 use Rattle.cnf.specs.Inner.Appending.{Filled}
+use Rattle.cnf.proofs.SimplifyLaws.{filled-part}
 use Rattle.obligation_claims.specs.Inner.Claims.{claim_list}
 use Rattle.obligation_claims.proofs.PushLaws.{claim_dropped, claim_words, words-narrow}
 use Rattle.obligation_claims.proofs.push_claim.Goals as goal
+use Rattle.obligation_claims.proofs.push_claim.Goals.{In-Some}
 
-pub push_few-requires : goal.push_few-requires
-push_few-requires c = (c.requires.0, c.if-keys-le3.true, c.requires.1.low)
+filled : (c : In-Some) → Filled (claim_list c.args.keys.now c.args.claim.now) c.fill_claim.new.list c.in-Some.n
+filled c = c.fill_claim.ensures.when_words c.in-Some.n c.in-Some.is
 
-pub returns-then-keys-le3 : goal.returns-then-keys-le3
-returns-then-keys-le3 c = c.push_few.ensures
+within : (c : In-Some) → c.in-Some.n ≤ length c.fill_claim.new.list
+within c =
+    omega (arith, claim_words c.args.keys.now c.args.claim.now _ _ (filled c), c.requires.1.list_fits c.if-keys-le3.false, c.fill_claim.auto.list)
 
-pub fill_claim-requires : goal.fill_claim-requires
-fill_claim-requires c = (c.requires.1.list_fits c.if-keys-le3.false, c.requires.1.low)
+pub returns-in-None : goal.returns-in-None
+returns-in-None c = claim_dropped _ _ _ c.fill_claim.ensures c.in-None.is _ _ _
 
-pub returns-in_default : goal.returns-in_default
-returns-in_default c = claim_dropped _ _ _ c.fill_claim.ensures c.in_default.is _ _ _
+pub slice_bounds-push_simplified-end : goal.slice_bounds-push_simplified-end
+slice_bounds-push_simplified-end c = within c
 
 pub push_simplified-requires : goal.push_simplified-requires
 push_simplified-requires c =
-    let f : Filled (claim_list c.args.keys.now c.args.claim.now) c.fill_claim.new.list c.in-Some.n = c.fill_claim.ensures.when_words c.in-Some.n c.in-Some.is in
-    let w = claim_words c.args.keys.now c.args.claim.now _ _ f in
-    (omega (arith, w, c.requires.1.list_fits c.if-keys-le3.false, c.fill_claim.auto.list), omega (arith, w, c.requires.1.short), c.requires.0, words-narrow c.args.keys.now c.args.claim.now _ _ f c.requires.1.low)
+    let f = filled (goal.at.push_simplified-requires c).In-Some in (
+      omega (arith, length-take c.in-Some.n c.fill_claim.new.list, claim_words c.args.keys.now c.args.claim.now _ _ f, c.requires.1.short),
+      c.requires.0,
+      words-narrow c.args.keys.now c.args.claim.now _ _ f c.requires.1.low,
+    )
 
-pub returns : goal.returns
-returns c = c.push_simplified.ensures (claim_list c.args.keys.now c.args.claim.now) (c.fill_claim.ensures.when_words c.in-Some.n c.in-Some.is)
+pub returns-in-Some : goal.returns-in-Some
+returns-in-Some c =
+    let d = (goal.at.returns-in-Some c).In-Some in
+    c.push_simplified.ensures (claim_list c.args.keys.now c.args.claim.now) (filled-part _ _ _ (within d) (filled d))

@@ -1,5 +1,4 @@
-use mathlib.Core.Path.{◌≡◌}
-use lib.ListN.{length, take}
+use lib.ListN.{take}
 use Rattle.cnf.specs.Inner.Appending.{Appends}
 use Rattle.obligation_gates.proofs.ClauseLaws.{clause_lists}
 use Rattle.obligation_gates.proofs.push_clauses.Given as goal

@@ -1,6 +1,5 @@
 use native.Mathlib.Omega.{arith}
 use Rattle.row_text.proofs.RowLaws.{for_none, for_valid, for_refused}
-use borrow.Author.Rules.{rules}
 use Rattle.row_text.proofs.print_for.Goals as goal
 
 pub returns-then-numbers-eq0 : goal.returns-then-numbers-eq0

@@ -12,7 +12,7 @@ pub returns-in_err-numbers : goal.returns-in_err-numbers
 returns-in_err-numbers c = rw c.from_residual.ensures (search (taking_bad, c.in_err-numbers.was))
 
 pub overflow_add-at : goal.overflow_add-at
-overflow_add-at c = omega (arith, piece_within _ _ _ _ _ c.loop-at.invariant (omega arith) _ c.piece_end-end.ensures)
+overflow_add-at c = omega (arith, piece_within _ _ _ _ _ c.loop-at.invariant (omega arith) _ c.passing_end-end.ensures)
 
 pub loop-at-preserved : goal.loop-at-preserved
 loop-at-preserved c = search (taking-more, c.in_ok-numbers.was)

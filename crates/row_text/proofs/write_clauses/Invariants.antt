@@ -1,10 +1,6 @@
-use Prim.Native.Nat.{◌-◌}
 use Rattle.cnf.specs.Clauses.{returned}
 use Rattle.row_text.proofs.PrintLaws.{Listing}
 use Rattle.row_text.proofs.write_clauses.Given as goal
 
 abbrev pub invariant-loop-i : goal.invariant-loop-i
 invariant-loop-i l = Listing (returned l.count l.pairs l.literals) l.count l.pairs l.literals l.initial.out l.at l.out l.to l.i
-
-abbrev pub decreases-loop-i : goal.decreases-loop-i
-decreases-loop-i l = l.count - l.i

@@ -1,5 +1,4 @@
 use native.Mathlib.Omega.{arith}
-use borrow.Author.Rules.{rules}
 use Rattle.text_decimal.proofs.WritingLaws.{no_room, room, writing-none, writing_more, writing-done}
 use Rattle.text_decimal.proofs.write_decimal.Goals as goal
 

@@ -1,5 +1,3 @@
-use Prim.Native.Nat.{◌-◌}
-use lib.ListN.{length}
 use Rattle.text_print.specs.Inner.Elements.{elements}
 use Rattle.text_print.proofs.PrintsLaws.{Printing}
 use Rattle.text_print.proofs.WordLaws.{lines_of, elements_from}

@@ -1,4 +1,3 @@
-use mathlib.Core.Path.{sym}
 use native.Mathlib.Omega.{arith}
 use Rattle.text.proofs.DigitLaws.{at-outside, at-over, at-end, at_digit, digits-start}
 use Rattle.text.proofs.numbers.digits.Goals as goal
@@ -21,9 +20,10 @@ returns-in_err-value c =
 pub loop-b-preserved : goal.loop-b-preserved
 loop-b-preserved c =
     let product = c.in_ok-checked_mul.ensures in
-    let sum = c.in_ok-value.ensures in
-    (omega (arith, sum),
-    at_digit _ _ _ _ c.loop-b.invariant.1 c.loop-b-test.true c.if-b-lt48.false c.if-b-gt57.false _ (omega (arith, product, sum, c.from.ensures)))
+    let sum = c.in_ok-value.ensures in (
+      omega (arith, sum),
+      at_digit _ _ _ _ c.loop-b.invariant.1 c.loop-b-test.true c.if-b-lt48.false c.if-b-gt57.false _ (omega (arith, product, sum, c.from.ensures)),
+    )
 
 pub returns : goal.returns
 returns c = search at-end

@@ -1,4 +1,3 @@
-use native.Mathlib.Omega.{arith}
 use Rattle.text.proofs.DigitLaws.{zeros-behind, zeros_within}
 use Rattle.text.proofs.numbers.without_zeros.Goals as goal
 
