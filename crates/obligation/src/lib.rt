@@ -2,7 +2,9 @@
 #![tactic(auto)]
 
 ghost use Rattle.std.specs.Prelude.{◌≡◌};
-ghost use Rattle.obligation_spec.specs.Calls.{circuit, asked_of};
+ghost use Rattle.obligation_spec.specs.Lists.{outcomes_of, relation_clauses, transducer_clauses, terminal_clauses};
+ghost use Rattle.obligation_spec.specs.Limits.{states_claimed, outcomes_claimed};
+ghost use Rattle.obligation_spec.specs.Calls.{circuit, predicate, asked_of};
 ghost use Rattle.obligation_check.specs.Inner.Questions.{asked_in};
 ghost use Rattle.obligation.specs.Promise.{buffers_of, Promised, MakesRelation};
 ghost use Rattle.obligation.specs.Inner.Appended.{Asks, ClaimsOf, MakesAll};
@@ -65,7 +67,88 @@ fn claim_holds(question: &Question, claim: Claim) -> bool
     }
 }
 
-// Makes the clauses, once all arguments are accepted. A terminal list has no source, and ends with the bad output at 0.
+// Makes the clauses of a row with claimed targets, once all arguments are accepted.
+fn make_relation(
+    question: &Question,
+    source: u64,
+    targets: &[u64],
+    pairs: &mut [u64],
+    literals: &mut [u32],
+) -> Result<ClauseCounts, Refusal>
+    requires { Asks (asked_in question.now) × ClaimsOf (states_claimed (circuit (asked_in question.now)) targets.now) }
+    ensures { let q = asked_in question.now in MakesAll (relation_clauses (circuit q) q.relevant (predicate q) source targets.now) pairs.old literals.old result pairs.new literals.new }
+{
+    let latches = question.model.counts.latches;
+    let now = question.model.currents();
+    let next = question.model.nexts();
+    let mut keys = [0; 8];
+    let count = obligation_claims::state_keys(lists::first(&next, latches), &mut keys);
+    let plan = Plan {
+        currents: lists::first(&now, latches),
+        source,
+        keys: lists::first(&keys, count),
+        claims: Claims::States(targets),
+        last: 1,
+    };
+    making::make(question, plan, pairs, literals)
+}
+
+// The same for a row with claimed outcomes.
+fn make_transducer(
+    question: &Question,
+    source: u64,
+    observed: &[u64],
+    outcomes: &[u64],
+    pairs: &mut [u64],
+    literals: &mut [u32],
+) -> Result<ClauseCounts, Refusal>
+    requires { Asks (asked_in question.now) × ClaimsOf (outcomes_claimed (circuit (asked_in question.now)) observed.now (outcomes_of outcomes.now)) }
+    ensures { let q = asked_in question.now in MakesAll (transducer_clauses (circuit q) q.relevant (predicate q) source observed.now (outcomes_of outcomes.now)) pairs.old literals.old result pairs.new literals.new }
+{
+    let counts = question.model.counts;
+    let now = question.model.currents();
+    let next = question.model.nexts();
+    let nexts = lists::first(&next, counts.latches);
+    let outputs = lists::first(question.model.outputs, counts.outputs);
+    let mut keys = [0; 136];
+    let count = obligation_claims::outcome_keys(nexts, outputs, observed, &mut keys);
+    let plan = Plan {
+        currents: lists::first(&now, counts.latches),
+        source,
+        keys: lists::first(&keys, count),
+        claims: Claims::Outcomes(outcomes),
+        last: 1,
+    };
+    making::make(question, plan, pairs, literals)
+}
+
+// The same for a terminal list, which has no source, and ends with the bad output at 0.
+fn make_terminal(
+    question: &Question,
+    bad: usize,
+    states: &[u64],
+    pairs: &mut [u64],
+    literals: &mut [u32],
+) -> Result<ClauseCounts, Refusal>
+    requires { Asks (asked_in question.now) × ClaimsOf (states_claimed (circuit (asked_in question.now)) states.now) }
+    ensures { let q = asked_in question.now in MakesAll (terminal_clauses (circuit q) q.relevant (predicate q) bad states.now) pairs.old literals.old result pairs.new literals.new }
+{
+    let counts = question.model.counts;
+    let now = question.model.currents();
+    let outputs = lists::first(question.model.outputs, counts.outputs);
+    let mut keys = [0; 8];
+    let count = obligation_claims::state_keys(lists::first(&now, counts.latches), &mut keys);
+    let plan = Plan {
+        currents: lists::first(&now, 0),
+        source: 0,
+        keys: lists::first(&keys, count),
+        claims: Claims::States(states),
+        last: cnf::opposite_of(lists::word(outputs, bad)),
+    };
+    making::make(question, plan, pairs, literals)
+}
+
+// Makes the clauses of a claim, once all arguments are accepted.
 fn make_accepted(
     question: &Question,
     claim: Claim,
@@ -75,66 +158,17 @@ fn make_accepted(
     requires { Asks (asked_in question.now) × ClaimsOf (claim_test (circuit (asked_in question.now)) claim) }
     ensures { MakesAll (claim_clauses (asked_in question.now) claim.entry) pairs.old literals.old result pairs.new literals.new }
 {
-    let model = question.model;
-    let now = model.currents();
-    let next = model.nexts();
-    let currents = lists::first(&now, model.counts.latches);
-    let nexts = lists::first(&next, model.counts.latches);
-    let outputs = lists::first(model.outputs, model.counts.outputs);
-    let mut keys = [0; 136];
     match claim {
         Claim::Relation { source, targets } => {
-            let count = obligation_claims::state_keys(nexts, &mut keys);
-            let keys = lists::first(&keys, count);
-            making::make(
-                question,
-                Plan {
-                    currents,
-                    source,
-                    keys,
-                    claims: Claims::States(targets),
-                    last: 1,
-                },
-                pairs,
-                literals,
-            )
+            make_relation(question, source, targets, pairs, literals)
         }
         Claim::Transducer {
             source,
             observed,
             outcomes,
-        } => {
-            let count = obligation_claims::outcome_keys(nexts, outputs, observed, &mut keys);
-            let keys = lists::first(&keys, count);
-            making::make(
-                question,
-                Plan {
-                    currents,
-                    source,
-                    keys,
-                    claims: Claims::Outcomes(outcomes),
-                    last: 1,
-                },
-                pairs,
-                literals,
-            )
-        }
+        } => make_transducer(question, source, observed, outcomes, pairs, literals),
         Claim::Terminal { bad, states } => {
-            let count = obligation_claims::state_keys(currents, &mut keys);
-            let keys = lists::first(&keys, count);
-            let last = cnf::opposite_of(lists::word(outputs, bad as usize));
-            making::make(
-                question,
-                Plan {
-                    currents: lists::first(&now, 0),
-                    source: 0,
-                    keys,
-                    claims: Claims::States(states),
-                    last,
-                },
-                pairs,
-                literals,
-            )
+            make_terminal(question, bad as usize, states, pairs, literals)
         }
     }
 }
