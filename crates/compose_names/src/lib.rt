@@ -250,10 +250,7 @@ pub fn print_symbols(
         origins,
         numbers,
     };
-    let mut done = Printed {
-        at,
-        next: first,
-    };
+    let mut done = Printed { at, next: first };
     for w in 0..count {
         let text = compose_gather::text_at(witnesses, pairs, w);
         let n = compose_gather::counts::counts_at(counts, w);
