@@ -2,12 +2,14 @@
 use Prim.Native.Nat.{ℕ}
 use mathlib.Core.List.{[], ◌∷◌, map}
 use mathlib.Core.Path.{◌≡◌, refl}
+use lib.ListN.{replicate}
 use Rattle.lists.specs.Quoted.{bytes}
 use Rattle.lists.specs.Answer.{got, refused}
-use Rattle.lists.specs.Parts.{Bytes}
+use Rattle.lists.specs.Parts.{Bytes, zeros}
 use Rattle.text.specs.Numbers.{number_of}
 use Rattle.nitrasovy.specs.FlatLiterals.{literal_from, flat_literal, place_after}
-use Rattle.nitrasovy.specs.FlatModels.{flat_step}
+use Rattle.nitrasovy.specs.declared.models.NitRead.{NitRead}
+use Rattle.nitrasovy.specs.FlatModels.{flat_read, flat_step}
 use Rattle.nitrasovy.specs.FlatObligations.{flat_made}
 use Rattle.nitrasovy.specs.FlatCompositions.{flat_composed}
 
@@ -53,3 +55,21 @@ made = refl
 
 pub composed : flat_composed (got (bytes "aag")) ≡ record { reason = 0; bytes = 3 }
 composed = refl
+
+-- where the reader refuses, the number and zeros
+pub returned_zeros :
+    ◌≡◌ {A = NitRead} (flat_read (refused 7)) (record {
+      reason = 7;
+      model =
+          record {
+            max_variable = 0;
+            input_count = 0;
+            inputs = zeros 64;
+            latch_count = 0;
+            latches = replicate 8 (record { current = 0; next = 0 });
+            output_count = 0;
+            outputs = zeros 128;
+            and_count = 0;
+          };
+    })
+returned_zeros = refl
