@@ -15,15 +15,17 @@ pub struct NitComposed {
     pub bytes: usize,
 }
 
-fn flat_bytes(composed: Result<usize, Refusal>) -> NitComposed
-    ensures { result ≡ flat_bytes (answered composed) }
-{
-    match composed {
-        Ok(bytes) => NitComposed { reason: 0, bytes },
-        Err(refusal) => NitComposed {
-            reason: u64::from(refusal),
-            bytes: 0,
-        },
+impl From<Result<usize, Refusal>> for NitComposed {
+    ghost from_gives = { λ composed flat. flat ≡ flat_bytes (answered composed) };
+
+    fn from(composed: Result<usize, Refusal>) -> NitComposed {
+        match composed {
+            Ok(bytes) => NitComposed { reason: 0, bytes },
+            Err(refusal) => NitComposed {
+                reason: u64::from(refusal),
+                bytes: 0,
+            },
+        }
     }
 }
 
@@ -38,5 +40,6 @@ pub extern "C" fn nit_compose(
 ) -> NitComposed
     ensures { ComposesFlat model.now witnesses.now witness_pairs.now work.old out.old work.new out.new result }
 {
-    flat_bytes(compose::compose_safety_witnesses_v1(model, witnesses, witness_pairs, work, out))
+    let composed = compose::compose_safety_witnesses_v1(model, witnesses, witness_pairs, work, out);
+    NitComposed::from(composed)
 }

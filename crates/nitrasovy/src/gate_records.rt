@@ -6,7 +6,6 @@ ghost use Rattle.model.specs.RecordWords.{record_in};
 ghost use Rattle.model_step.specs.Step.{step_of};
 ghost use Rattle.nitrasovy.specs.FlatModels.{StepsFlat};
 
-use crate::models;
 use crate::models::NitStepped;
 use aiger::Gate;
 
@@ -21,5 +20,5 @@ pub extern "C" fn nit_step_records(
 ) -> NitStepped
     ensures { StepsFlat (step_of (record_in model.now) (words_of gate_words gates.now) (length work.old) state input) work.old result work.new }
 {
-    models::flat_stepped(model_step_records::evaluate_records(model, gates, work, state, input))
+    NitStepped::from(model_step_records::evaluate_records(model, gates, work, state, input))
 }

@@ -2,6 +2,7 @@
 ghost use Rattle.std.specs.Prelude.{◌≡◌};
 ghost use Rattle.nitrasovy.specs.FlatLiterals.{flat_value, literal_from, TakesFlat};
 
+use aiger::Refusal;
 use text::{Cursor, Reader};
 
 // A place in a text.
@@ -20,15 +21,17 @@ pub struct NitTaken {
     pub value: u64,
 }
 
-fn flat_value(value: Option<u64>) -> NitTaken
-    ensures { result ≡ flat_value value }
-{
-    match value {
-        Some(value) => NitTaken { reason: 0, value },
-        None => NitTaken {
-            reason: 8,
-            value: 0,
-        },
+impl From<Option<u64>> for NitTaken {
+    ghost from_gives = { λ value flat. flat ≡ flat_value value };
+
+    fn from(value: Option<u64>) -> NitTaken {
+        match value {
+            Some(value) => NitTaken { reason: 0, value },
+            None => NitTaken {
+                reason: u64::from(Refusal::Line),
+                value: 0,
+            },
+        }
     }
 }
 
@@ -39,5 +42,5 @@ pub extern "C" fn nit_take_literal(text: &[u8], cursor: &mut NitCursor) -> NitTa
 {
     let literal = text::take_literal(Reader::Witness, text, Cursor { at: cursor.at });
     cursor.at = literal.next.at;
-    flat_value(literal.value)
+    NitTaken::from(literal.value)
 }

@@ -4,6 +4,7 @@ ghost use Rattle.model.specs.RecordWords.{record_in};
 ghost use Rattle.model_read.specs.Reading.{read_transition};
 ghost use Rattle.aiger.specs.Refusals.{answered};
 ghost use Rattle.model_step.specs.Step.{step_of};
+ghost use Rattle.nitrasovy.specs.Inner.FlatEnums.{flat_model};
 ghost use Rattle.nitrasovy.specs.FlatModels.{flat_step, ReadsFlat, StepsFlat};
 
 use aiger::Refusal;
@@ -30,36 +31,46 @@ pub struct NitStepped {
     pub low: u64,
 }
 
+impl From<Result<AigerTransition, Refusal>> for NitRead {
+    ghost from_gives = { λ read flat. flat ≡ flat_model (answered read) };
+
+    fn from(read: Result<AigerTransition, Refusal>) -> NitRead {
+        match read {
+            Ok(model) => NitRead { reason: 0, model },
+            Err(refusal) => NitRead {
+                reason: u64::from(refusal),
+                model: model_read::no_model(),
+            },
+        }
+    }
+}
+
 // Reads a transition model from a text; its gate words go to the front of `gates`.
 #[unsafe(no_mangle)]
 pub extern "C" fn nit_read_transition(text: &[u8], gates: &mut [u64], work: &mut [u64]) -> NitRead
     ensures { ReadsFlat (read_transition text.now (length gates.old) (length work.old)) gates.old work.old result gates.new work.new }
 {
-    match model_read::parse_ascii_aiger_transition(text, gates, work) {
-        Ok(model) => NitRead { reason: 0, model },
-        Err(refusal) => NitRead {
-            reason: u64::from(refusal),
-            model: model_read::no_model(),
-        },
-    }
+    NitRead::from(model_read::parse_ascii_aiger_transition(text, gates, work))
 }
 
-pub fn flat_stepped(stepped: Result<Outcome, Refusal>) -> NitStepped
-    ensures { result ≡ flat_step (answered stepped) }
-{
-    match stepped {
-        Ok(outcome) => NitStepped {
-            reason: 0,
-            target: outcome.target,
-            high: outcome.high,
-            low: outcome.low,
-        },
-        Err(refusal) => NitStepped {
-            reason: u64::from(refusal),
-            target: 0,
-            high: 0,
-            low: 0,
-        },
+impl From<Result<Outcome, Refusal>> for NitStepped {
+    ghost from_gives = { λ stepped flat. flat ≡ flat_step (answered stepped) };
+
+    fn from(stepped: Result<Outcome, Refusal>) -> NitStepped {
+        match stepped {
+            Ok(outcome) => NitStepped {
+                reason: 0,
+                target: outcome.target,
+                high: outcome.high,
+                low: outcome.low,
+            },
+            Err(refusal) => NitStepped {
+                reason: u64::from(refusal),
+                target: 0,
+                high: 0,
+                low: 0,
+            },
+        }
     }
 }
 
@@ -75,5 +86,5 @@ pub extern "C" fn nit_step(
     ensures { StepsFlat (step_of (record_in model.now) gates.now (length work.old) state input) work.old result work.new }
 {
     let lent = LentModel::from_words(model);
-    flat_stepped(model_step::evaluate(&lent, &gates, work, state, input))
+    NitStepped::from(model_step::evaluate(&lent, &gates, work, state, input))
 }

@@ -24,20 +24,22 @@ pub struct NitMade {
     pub literals: usize,
 }
 
-fn flat_made(made: Result<ClauseCounts, Refusal>) -> NitMade
-    ensures { result ≡ flat_sizes (answered made) }
-{
-    match made {
-        Ok(appended) => NitMade {
-            reason: 0,
-            clauses: appended.clauses,
-            literals: appended.literals,
-        },
-        Err(refusal) => NitMade {
-            reason: u64::from(refusal),
-            clauses: 0,
-            literals: 0,
-        },
+impl From<Result<ClauseCounts, Refusal>> for NitMade {
+    ghost from_gives = { λ made flat. flat ≡ flat_sizes (answered made) };
+
+    fn from(made: Result<ClauseCounts, Refusal>) -> NitMade {
+        match made {
+            Ok(appended) => NitMade {
+                reason: 0,
+                clauses: appended.clauses,
+                literals: appended.literals,
+            },
+            Err(refusal) => NitMade {
+                reason: u64::from(refusal),
+                clauses: 0,
+                literals: 0,
+            },
+        }
     }
 }
 
@@ -78,7 +80,7 @@ pub extern "C" fn nit_relation_row(
     ensures { RelationFlat (asked_of (record_in model.now) gates.now relevant.now predicate_pairs.now predicate_literals.now) source targets.now (buffers_of pairs.old literals.old work.old) result (buffers_of pairs.new literals.new work.new) }
 {
     let question = question(model, gates, relevant, predicate_pairs, predicate_literals);
-    flat_made(obligation::make(
+    NitMade::from(obligation::make(
         &question,
         Claim::Relation { source, targets },
         work,
@@ -105,7 +107,7 @@ pub extern "C" fn nit_transducer_row(
     ensures { TransducerFlat (asked_of (record_in model.now) gates.now relevant.now predicate_pairs.now predicate_literals.now) source observed.now outcomes.now (buffers_of pairs.old literals.old work.old) result (buffers_of pairs.new literals.new work.new) }
 {
     let question = question(model, gates, relevant, predicate_pairs, predicate_literals);
-    flat_made(obligation::make(
+    NitMade::from(obligation::make(
         &question,
         Claim::Transducer {
             source,
@@ -135,7 +137,7 @@ pub extern "C" fn nit_terminal(
     ensures { TerminalFlat (asked_of (record_in model.now) gates.now relevant.now predicate_pairs.now predicate_literals.now) bad_output states.now (buffers_of pairs.old literals.old work.old) result (buffers_of pairs.new literals.new work.new) }
 {
     let question = question(model, gates, relevant, predicate_pairs, predicate_literals);
-    flat_made(obligation::make(
+    NitMade::from(obligation::make(
         &question,
         Claim::Terminal {
             bad: bad_output,

@@ -24,30 +24,32 @@ pub struct NitWitness {
     pub constraints: usize,
 }
 
-fn flat_counts(read: Result<AagCounts, Refusal>) -> NitWitness
-    ensures { result ≡ flat_counts (answered read) }
-{
-    match read {
-        Ok(n) => NitWitness {
-            reason: 0,
-            max_variable: n.max_variable,
-            inputs: n.inputs,
-            latches: n.latches,
-            outputs: n.outputs,
-            gates: n.gates,
-            bads: n.bads,
-            constraints: n.constraints,
-        },
-        Err(refusal) => NitWitness {
-            reason: u64::from(refusal),
-            max_variable: 0,
-            inputs: 0,
-            latches: 0,
-            outputs: 0,
-            gates: 0,
-            bads: 0,
-            constraints: 0,
-        },
+impl From<Result<AagCounts, Refusal>> for NitWitness {
+    ghost from_gives = { λ read flat. flat ≡ flat_counts (answered read) };
+
+    fn from(read: Result<AagCounts, Refusal>) -> NitWitness {
+        match read {
+            Ok(n) => NitWitness {
+                reason: 0,
+                max_variable: n.max_variable,
+                inputs: n.inputs,
+                latches: n.latches,
+                outputs: n.outputs,
+                gates: n.gates,
+                bads: n.bads,
+                constraints: n.constraints,
+            },
+            Err(refusal) => NitWitness {
+                reason: u64::from(refusal),
+                max_variable: 0,
+                inputs: 0,
+                latches: 0,
+                outputs: 0,
+                gates: 0,
+                bads: 0,
+                constraints: 0,
+            },
+        }
     }
 }
 
@@ -56,5 +58,5 @@ fn flat_counts(read: Result<AagCounts, Refusal>) -> NitWitness
 pub extern "C" fn nit_read_witness(text: &[u8], witness: bool) -> NitWitness
     ensures { CountsFlat (read_aag limited witness text.now) result }
 {
-    flat_counts(witness_read::parse_aag(text, witness))
+    NitWitness::from(witness_read::parse_aag(text, witness))
 }

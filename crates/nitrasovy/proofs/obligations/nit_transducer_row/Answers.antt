@@ -10,5 +10,5 @@ pub returns : goal.returns
 returns c =
     let b = buffers_of c.args.pairs.now c.args.literals.now c.args.work.now in
     let after = buffers_of c.make.new.pairs c.make.new.literals c.make.new.work in
-    subst (λ (q : Asked). TransducerFlat q c.args.source c.args.observed.now c.args.outcomes.now b c.flat_made.result after) c.question-question.ensures
-    (transducer_flat (asked_in c.question-question.result) b c.make.result after c.flat_made.result c.flat_made.ensures c.args.source c.args.observed.now c.args.outcomes.now c.make.ensures)
+    subst (λ (q : Asked). TransducerFlat q c.args.source c.args.observed.now c.args.outcomes.now b c.from.result after) c.question-question.ensures
+    (transducer_flat (asked_in c.question-question.result) b c.make.result after c.from.result c.from.ensures c.args.source c.args.observed.now c.args.outcomes.now c.make.ensures)
