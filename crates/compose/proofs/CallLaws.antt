@@ -13,12 +13,10 @@ use Rattle.lists.specs.Parts.{Bytes}
 use Rattle.lists.proofs.AnswerLaws.{got_same}
 use Rattle.lists.proofs.BoolLaws.{below_or}
 use Rattle.witness_text.specs.declared.AagCounts.{AagCounts}
-use Rattle.text.specs.Texts.{limited}
-use Rattle.witness_read.specs.Reading.{read_aag, counts_in}
 use Rattle.witness_read.specs.Sections.{Sections}
 use Rattle.compose_spec.specs.Composing.{or_outputs, safety, is_some}
 use Rattle.compose_spec.specs.Calling.{read_all, texts_in}
-use Rattle.compose_gather.specs.Inner.Counts.{counts_at, CountsListed}
+use Rattle.compose_gather.specs.Inner.Counts.{CountsOf}
 use Rattle.compose_gather.specs.Inner.Gathered.{Readable}
 use Rattle.compose_gather.proofs.TextLaws.{FirstRead, first_read, none_read, left-more, left-none}
 use Rattle.compose.specs.Inner.Steps.{first_room, all_safe, TestsSafety}
@@ -88,7 +86,7 @@ module _ (buffer : Bytes) (pairs : List ℕ) (w count : ℕ) (k : Safe buffer pa
       let none : drop w ws ≡ [] = left-none buffer pairs w (drop w ws) (read_drop w (texts_in buffer pairs) ws r.reads) (omega arith) in
       sym (ap all_safe none) ∙ k.rest ws r
 
-  module _ (less : w < count) (counts : List ℕ) (listed : CountsListed buffer pairs counts) (n : AagCounts) (c : n ≡ counts_at counts w) where
+  module _ (less : w < count) (n : AagCounts) (c : CountsOf (get_or (texts_in buffer pairs) w []) n) where
     next : (ws : List Sections) → Readable buffer pairs ws → FirstRead (get_or (texts_in buffer pairs) w []) (drop (w + 1) (texts_in buffer pairs)) (drop w ws)
     next ws r = left-more buffer pairs w (drop w ws) (read_drop w (texts_in buffer pairs) ws r.reads) (omega arith)
 
@@ -99,14 +97,11 @@ module _ (buffer : Bytes) (pairs : List ℕ) (w count : ℕ) (k : Safe buffer pa
         (got_same (drop (w + 1) ws) (next ws r).others (sym (read_drop (w + 1) (texts_in buffer pairs) ws r.reads) ∙ (next ws r).read_others))
         ∙ (ap all_safe (sym (next ws r).is) ∙ k.rest ws r)
 
-    counts-are : (s : Sections) → read_aag limited true (get_or (texts_in buffer pairs) w []) ≡ got s → n ≡ counts_in s
-    counts-are s e = c ∙ listed.before.each w (omega arith) s e
-
     bads-are : (ws : List Sections) (r : Readable buffer pairs ws) → n.bads ≡ length (next ws r).first.bads
-    bads-are ws r = ap (λ (m : AagCounts). m.bads) (counts-are (next ws r).first (next ws r).reads)
+    bads-are ws r = ap (λ (m : AagCounts). m.bads) (c (next ws r).first (next ws r).reads)
 
     outputs-are : (ws : List Sections) (r : Readable buffer pairs ws) → n.outputs ≡ length (next ws r).first.outputs
-    outputs-are ws r = ap (λ (m : AagCounts). m.outputs) (counts-are (next ws r).first (next ws r).reads)
+    outputs-are ws r = ap (λ (m : AagCounts). m.outputs) (c (next ws r).first (next ws r).reads)
 
     pub safe-stop : (n.bads ≡ 0) → (n.outputs ≡ 0) → TestsSafety buffer pairs false
     safe-stop b o ws r =

@@ -25,7 +25,7 @@ use Rattle.compose_spec.specs.Calling.{size, sizes, read_all, compose_sections, 
 use Rattle.compose_joint.specs.Inner.Joint.{total_of, input_count, latch_count, gate_count}
 use Rattle.compose_gather.specs.declared.Totals.{Totals}
 use Rattle.compose_gather.specs.Inner.Counts.{CountsListed, ChecksAll}
-use Rattle.compose_gather.specs.Inner.Checking.{added_counts, SmallSums, totals_from, checked_from, none_yet}
+use Rattle.compose_gather.specs.Inner.Checking.{added_counts, FewInOrder, SmallSums, totals_from, checked_from, none_yet}
 use Rattle.compose_layout.specs.declared.Layout.{Layout}
 use Rattle.compose_layout.specs.Inner.Laid.{Fitting, LaidOut, CanLay, Lays}
 use Rattle.compose_layout.proofs.StageLaws.{fitting-same}
@@ -69,8 +69,8 @@ module _ (mc : AagCounts) (t : Totals) (buffer : Bytes) (pairs work work' : List
 pub room-left : (m : AagCounts) (words x : ℕ) → x ≡ first_room words → (t : Totals) → t ≡ added_counts (record { room = x; inputs = 0; latches = 0; gates = 0 }) m → t.room ≡ room_beside m words
 room-left m words x e t f = rw (f, e) refl
 
-pub model_sums : (buffer : Bytes) (pairs : List ℕ) (mc : AagCounts) (room : ℕ) → ModelSome buffer pairs mc → SmallSums (none_yet room) mc
-model_sums buffer pairs mc room k =
+pub model_sums : (mc : AagCounts) (room : ℕ) → ModelSome mc → SmallSums (none_yet room) mc
+model_sums mc room k =
     let e = k.is.counts in
     rw e (record { inputs = omega (arith, k.is.few); latches = omega (arith, k.is.few); gates = omega (arith, k.is.few) })
 
@@ -133,12 +133,12 @@ module _ (mc : AagCounts) (buffer : Bytes) (pairs work : List ℕ) (out : Bytes)
     goes m y f = ap (λ (z : Answer (List Sections)). and_then z (compose_read (length work) (length out) m)) all_read.1 ∙ f
 
     -- 15 by what is left of the room
-    enough : (m : Sections) → ModelIs buffer pairs mc m → leb (16 * sizes (m ∷ all_read.0) + 1024) (length work) ≡ not (eqb t.room 0)
+    enough : (m : Sections) → ModelIs mc m → leb (16 * sizes (m ∷ all_read.0) + 1024) (length work) ≡ not (eqb t.room 0)
     enough m i =
         let e : t.room ≡ first_room (length work) - size m - sizes all_read.0 = counted.room ∙ (ap (λ (j : ℕ). j - sizes all_read.0) (a ∙ room-model m i)) in
         room-enough (length work) (size m) (sizes all_read.0) ∙ ap (λ (j : ℕ). not (eqb j 0)) (sym e)
       where
-        room-model : (m : Sections) → ModelIs buffer pairs mc m → room_beside mc (length work) ≡ first_room (length work) - size m
+        room-model : (m : Sections) → ModelIs mc m → room_beside mc (length work) ≡ first_room (length work) - size m
         room-model m i = ap (λ (n : AagCounts). room_beside n (length work)) i.counts ∙ four_less (first_room (length work)) (variables m) (length m.outputs) (length m.bads) (length m.constraints)
 
     pub witnesses_short : t.room ≡ 0 → ComposesWitnesses mc buffer pairs work out out (Err refusal.ComposingRoom)
@@ -149,21 +149,21 @@ module _ (mc : AagCounts) (buffer : Bytes) (pairs work : List ℕ) (out : Bytes)
               (goes m (refused 15) (rw (enough m i, eq-eqb t.room 0 z) refl));
         }
 
-    module _ (z : t.room ≡ 0 → ⊥) where
-      long_enough : (m : Sections) → ModelIs buffer pairs mc m → leb (16 * sizes (m ∷ all_read.0) + 1024) (length work) ≡ true
+    module _ (z : t.room ≡ 0 → ⊥) (cut : FewInOrder buffer pairs) where
+      long_enough : (m : Sections) → ModelIs mc m → leb (16 * sizes (m ∷ all_read.0) + 1024) (length work) ≡ true
       long_enough m i = enough m i ∙ ap not (ne_eqb t.room 0 z)
 
-      fitting : (m : Sections) → ModelIs buffer pairs mc m → Fitting mc t buffer pairs work m all_read.0
+      fitting : (m : Sections) → ModelIs mc m → Fitting mc t buffer pairs work m all_read.0
       fitting m i =
           record {
-            readable = record { pairs_hold = i.pairs_hold; reads = all_read.1 };
+            readable = record { pairs_hold = cut; reads = all_read.1 };
             model = i.counts;
             few = i.few;
             totals = record { inputs = counted.inputs ∙ omega arith; latches = counted.latches ∙ omega arith; gates = counted.gates ∙ omega arith };
             room = leb-true (16 * sizes (m ∷ all_read.0) + 1024) (length work) (long_enough m i);
           }
 
-      pub witnesses_fit : ModelSome buffer pairs mc → CanLay mc t buffer pairs work
+      pub witnesses_fit : ModelSome mc → CanLay mc t buffer pairs work
       witnesses_fit k = record { m = k.m; ws = all_read.0; holds = fitting k.m k.is }
 
       pub witnesses_composed : (out' : Bytes) (r : Result ℕ Refusal) → ComposesFitting mc t buffer pairs work out out' r → ComposesWitnesses mc buffer pairs work out out' r

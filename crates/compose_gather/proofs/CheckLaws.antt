@@ -1,7 +1,7 @@
 -- Laws of `check_all`: what is counted of the witnesses that are read.
 use Rattle.std.specs.Prelude.{ℕ, ◌+◌, ◌-◌, ◌*◌, ◌/◌, ◌≤◌, ◌<◌, Result, Ok, Err}
 use Rattle.std.specs.Result.{IsErrAnd}
-use mathlib.Core.Bool.{Bool, true, false}
+use mathlib.Core.Bool.{true}
 use mathlib.Core.List.{List, [], ◌∷◌}
 use mathlib.Core.Logic.{◌⊎◌, inl, inr}
 use mathlib.Core.Path.{◌≡◌, refl, sym, ap, ◌∙◌, subst}
@@ -11,7 +11,7 @@ use Rattle.lists.specs.Answer.{Answer, got, refused, and_then}
 use Rattle.lists.specs.Parts.{Bytes, put}
 use Rattle.lists.proofs.AnswerLaws.{got_same, got-refused}
 use Rattle.lists.proofs.PartLaws.{put-length}
-use Rattle.lists.proofs.BoolLaws.{below_or, true-false}
+use Rattle.lists.proofs.BoolLaws.{below_or}
 use Rattle.text.specs.Texts.{limited}
 use Rattle.aiger.specs.declared.Refusal.{Refusal}
 use Rattle.aiger.specs.Refusals.{refusal_number}

@@ -1,6 +1,6 @@
 -- Laws of the list of the witnesses' counts.
 use Prim.Native.Nat.{ℕ, ◌+◌, ◌-◌, ◌*◌, ◌≤◌, ◌<◌}
-use mathlib.Core.List.{List, [], ◌∷◌, append-nil}
+use mathlib.Core.List.{List, append-nil}
 use mathlib.Core.Path.{◌≡◌, refl, sym, ap, ◌∙◌, subst}
 use native.Mathlib.Omega.{arith}
 use borrow.Rule.Slice.PartMut.{put_mid}
@@ -25,11 +25,6 @@ nine_stored o w n b h e =
     sym (rw (drop_of_length-le (part o (9 * w) (9 * w + 9)) {i = length b} (omega (arith, size, ap length e))) (append-nil b)) in
     ap (put_mid (9 * w) (9 * w + 9 - 9 * w) o) whole
     ∙ (put_back o (9 * w) b (omega arith) (9 * w + 9) (omega (arith, ap length e)) (omega arith) ∙ ap (put o (9 * w)) e)
-
-pub nine_read : (counts : List ℕ) (at w m i l o a b c j f : ℕ) → at ≡ 9 * w → m ≡ get_or counts at 0 → i ≡ get_or counts (at + 1) 0 → l ≡ get_or counts (at + 2) 0 → o ≡ get_or counts (at + 3) 0
-    → a ≡ get_or counts (at + 4) 0 → b ≡ get_or counts (at + 5) 0 → c ≡ get_or counts (at + 6) 0 → j ≡ get_or counts (at + 7) 0 → f ≡ get_or counts (at + 8) 0
-    → ◌≡◌ {A = AagCounts} (record { max_variable = m; inputs = i; latches = l; outputs = o; gates = a; bads = b; constraints = c; justice = j; fairness = f }) (counts_at counts w)
-nine_read counts at w m i l o a b c j f z p q r s t u v x y = rw (p, q, r, s, t, u, v, x, y, z) refl
 
 -- ---- witness by witness
 

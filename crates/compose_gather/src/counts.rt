@@ -8,7 +8,7 @@ use compose_joint::Leaves;
 use witness_text::AagCounts;
 
 // Stores the counts of witness w.
-pub fn store(counts: &mut [u64], w: usize, witness: AagCounts)
+pub(crate) fn store(counts: &mut [u64], w: usize, witness: AagCounts)
     requires { 9 * w + 8 < length counts.old }
     ensures { counts.new ≡ put counts.old (9 * w) (count_words witness) }
 {
@@ -28,7 +28,7 @@ pub fn store(counts: &mut [u64], w: usize, witness: AagCounts)
 }
 
 // The counts of witness w.
-pub fn counts_at(counts: &[u64], w: usize) -> AagCounts
+pub(crate) fn counts_at(counts: &[u64], w: usize) -> AagCounts
     requires { 9 * w + 8 < length counts.now }
     ensures { result ≡ counts_at counts.now w }
 {

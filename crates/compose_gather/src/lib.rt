@@ -1,16 +1,17 @@
 // All witnesses of a call: read, loaded into the work words, and gathered into lists of the joint circuit.
 #![tactic(auto)]
 
-ghost use Rattle.std.specs.Prelude.{true, [], ◌≡◌, ◌+◌, ◌-◌, ◌*◌, ◌/◌, ◌≤◌, ◌<◌, length, get_or};
+ghost use Rattle.std.specs.Prelude.{◌≡◌, ◌+◌, ◌-◌, ◌*◌, ◌/◌, ◌≤◌, ◌<◌, length};
 ghost use Rattle.lists.specs.Parts.{part};
-ghost use Rattle.lists.specs.Words.{in_order};
-ghost use Rattle.compose_spec.specs.Calling.{texts_in};
-ghost use Rattle.compose_gather.specs.Inner.Checking.{added_counts, SmallSums, FewInOrder};
-ghost use Rattle.compose_gather.specs.Inner.Counts.{CanCheck, ChecksOne, CountsListed, ChecksAll};
+ghost use Rattle.compose_gather.specs.Inner.Checking.{added_counts, SmallSums};
+ghost use Rattle.compose_gather.specs.Inner.Counts.{CanCheck, ChecksOne, ChecksAll};
 ghost use Rattle.compose_gather.specs.Inner.Gathered.{words_for, LoadableAt, LoadsAt, CanLoad, LoadsAll};
 
 pub mod counts;
 pub mod literals;
+mod texts;
+
+pub use texts::{Texts, Witnesses};
 
 use aiger::Refusal;
 use witness_text::AagCounts;
@@ -38,16 +39,6 @@ pub fn piece(s: &[u8], start: usize, size: usize) -> &[u8]
 {
     let end = start + size;
     &s[start..end]
-}
-
-// The text of witness w.
-pub fn text_at<'a>(witnesses: &'a [u8], pairs: &[u64], w: usize) -> &'a [u8]
-    requires { (in_order 0 (length witnesses.now) pairs.now ≡ true) × (w < length pairs.now / 2) }
-    ensures { result.now ≡ get_or (texts_in witnesses.now pairs.now) w [] }
-{
-    let start = pairs[2 * w] as usize;
-    let size = pairs[2 * w + 1] as usize;
-    piece(witnesses, start, size)
 }
 
 // a - b, or 0 where b is more.
@@ -87,25 +78,18 @@ fn check_one(text: &[u8], counts: &mut [u64], w: usize, totals: Totals) -> Resul
 }
 
 // Reads all witnesses in their order, and lists their counts.
-pub fn check_all(
-    witnesses: &[u8],
-    pairs: &[u64],
-    room: usize,
-    counts: &mut [u64],
-) -> Result<Totals, Refusal>
-    requires few_in_order { FewInOrder witnesses.now pairs.now }
-    requires pairs_in_bounds { 9 * (length pairs.now / 2) ≤ length counts.old }
-    ensures { ChecksAll room witnesses.now pairs.now counts.new result }
+pub fn check_all(texts: &Texts, room: usize, counts: &mut [u64]) -> Result<Totals, Refusal>
+    requires { 9 * (length texts.now.pairs.now / 2) ≤ length counts.old }
+    ensures { ChecksAll room texts.now.bytes.now texts.now.pairs.now counts.new result }
 {
-    let count = pairs.len() / 2;
     let mut totals = Totals {
         room,
         inputs: 0,
         latches: 0,
         gates: 0,
     };
-    for w in 0..count {
-        totals = check_one(text_at(witnesses, pairs, w), counts, w, totals)?;
+    for w in 0..texts.len() {
+        totals = check_one(texts.text(w), counts, w, totals)?;
     }
     Ok(totals)
 }
@@ -141,16 +125,13 @@ fn load_at(text: &[u8], counts: AagCounts, work: &mut [u64], at: usize) -> usize
 }
 
 // Loads all witnesses in front of the words, and returns how many words that takes.
-pub fn load_all(witnesses: &[u8], pairs: &[u64], counts: &[u64], work: &mut [u64]) -> usize
-    requires can_load { CanLoad witnesses.now pairs.now work.old }
-    requires counts_listed { CountsListed witnesses.now pairs.now counts.now }
-    ensures { LoadsAll witnesses.now pairs.now work.new result }
+pub fn load_all(witnesses: &Witnesses, work: &mut [u64]) -> usize
+    requires { CanLoad witnesses.now.texts.bytes.now witnesses.now.texts.pairs.now work.old }
+    ensures { LoadsAll witnesses.now.texts.bytes.now witnesses.now.texts.pairs.now work.new result }
 {
-    let count = pairs.len() / 2;
     let mut at = 0;
-    for w in 0..count {
-        let text = text_at(witnesses, pairs, w);
-        at = load_at(text, counts::counts_at(counts, w), work, at);
+    for w in 0..witnesses.len() {
+        at = load_at(witnesses.text(w), witnesses.counts_of(w), work, at);
     }
     at
 }

@@ -19,7 +19,7 @@ use Rattle.compose_spec.specs.Calling.{texts_in}
 use Rattle.compose_joint.specs.declared.Leaves.{Leaves}
 use Rattle.compose_joint.specs.declared.Leaves.TheVariants as leaf
 use Rattle.compose_joint.specs.Inner.Joint.{total_of, nothing_before, origins, entries_of}
-use Rattle.compose_gather.specs.Inner.Counts.{counts_at, leaf_counts, CountsListed}
+use Rattle.compose_gather.specs.Inner.Counts.{CountsOf, leaf_counts}
 use Rattle.compose_gather.specs.Inner.Gathered.{Block, Blocks, word_total, Readable, leaf_count_of}
 use Rattle.compose_gather.proofs.TextLaws.{FirstRead, Left, left-more, left-none, texts_left}
 use Rattle.compose_gather.proofs.CountLaws.{counts-leaves, leaves-within}
@@ -106,7 +106,7 @@ module _ (kind : Leaves) (buffer : Bytes) (pairs work : List ℕ) (from_origins 
         (ap text_of (ap (new_lines (kind_of kind) first first) entries ∙ first-lines (kind_of kind) first (entries_of kind m 0 ws)))
         (printing-done o₀ at (new_text (kind_of kind) first first rows) o done.at (new_text (kind_of kind) first done.next (rows_all kind work w (drop w (texts_in buffer pairs)) k.rest p)) k.printing ended)
 
-    module _ (less : w < count) (t : Bytes) (is : t ≡ get_or (texts_in buffer pairs) w []) (listed : List ℕ) (d : CountsListed buffer pairs listed) (n : AagCounts) (c : n ≡ counts_at listed w) where
+    module _ (less : w < count) (t : Bytes) (is : t ≡ get_or (texts_in buffer pairs) w []) (n : AagCounts) (c : CountsOf (get_or (texts_in buffer pairs) w []) n) where
       -- witness w and those after it
       next : FirstRead (get_or (texts_in buffer pairs) w []) (drop (w + 1) (texts_in buffer pairs)) k.rest
       next = left-more buffer pairs w k.rest k.left (omega arith)
@@ -117,7 +117,7 @@ module _ (kind : Leaves) (buffer : Bytes) (pairs work : List ℕ) (from_origins 
 
       -- its counts
       counts : n ≡ counts_in s
-      counts = c ∙ d.before.each w (omega arith) s next.reads
+      counts = c s next.reads
 
       blocks : Blocks (get_or (texts_in buffer pairs) w [] ∷ drop (w + 1) (texts_in buffer pairs)) (s ∷ next.others) (drop p.names work)
       blocks =

@@ -7,10 +7,10 @@ ghost use Rattle.text_print.specs.Inner.Prints.{Prints};
 ghost use Rattle.compose_spec.specs.Numbering.{or_else, private_name};
 ghost use Rattle.compose_spec.specs.Printing.{symbol_line};
 ghost use Rattle.compose_joint.specs.Inner.Joint.{unnamed_of};
-ghost use Rattle.compose_gather.specs.Inner.Counts.{CountsListed};
 ghost use Rattle.compose_names.specs.Inner.Names.{kind_of, own_name, name_for};
 ghost use Rattle.compose_names.specs.Inner.Symbols.{row_at, rows_from, RowWords, CanPrintNames, PrintsNew, CanPrintWitness, rows_in, CanPass, passed, CanPrintSymbols, PrintsSymbols};
 
+use compose_gather::Witnesses;
 use compose_joint::Leaves;
 use witness_text::AagCounts;
 
@@ -231,29 +231,25 @@ fn pass(leaves: Leaves, counts: AagCounts, starts: Starts, size: usize) -> Start
 pub fn print_symbols(
     out: &mut [u8],
     at: usize,
-    witnesses: &[u8],
-    pairs: &[u64],
-    counts: &[u64],
+    witnesses: &Witnesses,
     work: &[u64],
     leaves: Leaves,
     origins: usize,
     numbers: usize,
     first: u64,
 ) -> usize
-    requires can_print_symbols { CanPrintSymbols leaves witnesses.now pairs.now work.now origins numbers first }
-    requires counts_listed { CountsListed witnesses.now pairs.now counts.now }
-    ensures { PrintsSymbols leaves witnesses.now pairs.now work.now origins numbers first out.old at out.new result }
+    requires { CanPrintSymbols leaves witnesses.now.texts.bytes.now witnesses.now.texts.pairs.now work.now origins numbers first }
+    ensures { PrintsSymbols leaves witnesses.now.texts.bytes.now witnesses.now.texts.pairs.now work.now origins numbers first out.old at out.new result }
 {
-    let count = pairs.len() / 2;
     let mut p = Starts {
         names: 0,
         origins,
         numbers,
     };
     let mut done = Printed { at, next: first };
-    for w in 0..count {
-        let text = compose_gather::text_at(witnesses, pairs, w);
-        let n = compose_gather::counts::counts_at(counts, w);
+    for w in 0..witnesses.len() {
+        let text = witnesses.text(w);
+        let n = witnesses.counts_of(w);
         done = print_witness(out, done.at, text, n, work, leaves, w, p, first, done.next);
         p = pass(leaves, n, p, work.len());
     }

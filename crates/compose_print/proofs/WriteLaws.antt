@@ -28,7 +28,7 @@ use Rattle.compose_joint.proofs.AmountLaws.{origins-length}
 use Rattle.compose_gather.specs.declared.Totals.{Totals}
 use Rattle.compose_gather.specs.Inner.Gathered.{leaf_count_of}
 use Rattle.compose_layout.specs.declared.Layout.{Layout}
-use Rattle.compose_layout.specs.Inner.Laid.{Has}
+use Rattle.compose_layout.specs.Inner.Laid.{Has, OfSome}
 use Rattle.compose_merge.specs.declared.Merged.{Merged}
 use Rattle.key_table.specs.Inner.Table.{Held}
 use Rattle.compose_merge.specs.Inner.Merged.{SmallOperands, Counted, input_numbers, latch_numbers, definition_words}
@@ -38,7 +38,7 @@ use Rattle.compose_lines.specs.declared.Counts.{Counts}
 use Rattle.compose_lines.specs.Inner.GateText.{Narrow, GateKeys, CanPrintGates, PrintsGates}
 use Rattle.compose_lines.specs.Inner.Header.{header_of}
 use Rattle.compose_lines.specs.Inner.Text.{closing_text, latches_of, composed_counts, entry_names}
-use Rattle.compose_print.specs.Inner.Written.{Printable, PrintableSome, PrintsText, from_latch_names, from_input_names, from_gates, from_constraints, from_bads, from_latches, from_inputs, from_header}
+use Rattle.compose_print.specs.Inner.Written.{Printable, PrintsText, from_latch_names, from_input_names, from_gates, from_constraints, from_bads, from_latches, from_inputs, from_header}
 
 -- a list that stands, by its length
 has_part : (work : List ℕ) (a n : ℕ) (xs : List ℕ) → length xs ≡ n → Has work a xs → part work a (a + n) ≡ xs
@@ -74,7 +74,7 @@ counts-are n = rw (n.inputs, n.latches, n.gates, n.bads, n.constraints) refl
 
 -- a text of the composition is printed, if the length of the slice is a word
 abbrev Printed : (Sections → List Sections → Bytes) → Bytes → List ℕ → List ℕ → Layout → Merged → Totals → Bytes → ℕ → Bytes → ℕ → Type 0
-Printed text buffer pairs work at c t o from o' r = Word (length o) → PrintsText text buffer pairs work at c t o from o' r
+Printed text buffer pairs work at c t o from o' r = Word (length o) → PrintsText (Printable buffer pairs work at c t) text o from o' r
 
 module _ {buffer : Bytes} {pairs work : List ℕ} {at : Layout} {c : Merged} {t : Totals} where
   -- ---- symbols
@@ -97,7 +97,7 @@ module _ {buffer : Bytes} {pairs work : List ℕ} {at : Layout} {c : Merged} {t 
         small = omega arith;
       }
 
-  pub input-symbols : PrintableSome buffer pairs work at c t → CanPrintSymbols leaf.Inputs buffer pairs work at.input_origins (at.vars + 1) 1
+  pub input-symbols : OfSome (Printable buffer pairs work at c t) → CanPrintSymbols leaf.Inputs buffer pairs work at.input_origins (at.vars + 1) 1
   input-symbols k = record { m = k.m; ws = k.ws; holds = input-words k.m k.ws k.holds }
 
   latch_words_lem : (m : Sections) (ws : List Sections) → Printable buffer pairs work at c t m ws
@@ -123,7 +123,7 @@ module _ {buffer : Bytes} {pairs work : List ℕ} {at : Layout} {c : Merged} {t 
         small = omega (arith, k.few, k.result.counted.inputs);
       }))
 
-  pub latch_symbols_lem : PrintableSome buffer pairs work at c t
+  pub latch_symbols_lem : OfSome (Printable buffer pairs work at c t)
       → CanPrintSymbols leaf.Latches buffer pairs work at.latch_origins (at.vars + 1 + t.inputs) (c.inputs + 1)
   latch_symbols_lem k = record { m = k.m; ws = k.ws; holds = latch_words_lem k.m k.ws k.holds }
 
@@ -143,7 +143,7 @@ module _ {buffer : Bytes} {pairs work : List ℕ} {at : Layout} {c : Merged} {t 
         small = omega (arith, k.few, n.inputs, n.latches, n.gates);
       }
 
-  pub gates-can : PrintableSome buffer pairs work at c t
+  pub gates-can : OfSome (Printable buffer pairs work at c t)
       → CanPrintGates (c.inputs + c.latches + 1) (part work at.gates at.definitions) (t.gates + 1) c.gates
   gates-can k = record { gs = composed_gates k.m k.ws; keys = gate_keys k.m k.ws k.holds }
 
@@ -227,32 +227,32 @@ module _ {buffer : Bytes} {pairs work : List ℕ} {at : Layout} {c : Merged} {t 
 
   -- ---- what the printing functions ask for
 
-  pub inputs-small : PrintableSome buffer pairs work at c t → 2 * (1 + c.inputs) < 9223372036854775808
+  pub inputs-small : OfSome (Printable buffer pairs work at c t) → 2 * (1 + c.inputs) < 9223372036854775808
   inputs-small k = omega (arith, k.holds.few, k.holds.result.counted.inputs)
 
-  pub constraints-small : PrintableSome buffer pairs work at c t → 64 * length (part work at.constraint_bits at.end) < 18446744073709551616
+  pub constraints-small : OfSome (Printable buffer pairs work at c t) → 64 * length (part work at.constraint_bits at.end) < 18446744073709551616
   constraints-small k =
       let n = region_length work at.constraint_bits at.end at.bits k.holds.regions.end k.holds.fits in omega (arith, n, k.holds.few_bits)
 
-  pub bads-small : PrintableSome buffer pairs work at c t → 64 * length (part work at.bad_bits at.constraint_bits) < 18446744073709551616
+  pub bads-small : OfSome (Printable buffer pairs work at c t) → 64 * length (part work at.bad_bits at.constraint_bits) < 18446744073709551616
   bads-small k =
       let g = k.holds.regions in
       let n = region_length work at.bad_bits at.constraint_bits at.bits g.constraint_bits (omega (arith, k.holds.fits, g.end)) in
       omega (arith, n, k.holds.few_bits)
 
   -- the definitions of the composed latches end before the bads
-  definitions-end : PrintableSome buffer pairs work at c t → at.definitions + 2 * c.latches ≤ length work
+  definitions-end : OfSome (Printable buffer pairs work at c t) → at.definitions + 2 * c.latches ≤ length work
   definitions-end k =
       omega (arith, k.holds.result.definitions.room, latch_length k.m k.ws, k.holds.result.counted.latches)
 
-  pub latches-small : PrintableSome buffer pairs work at c t
+  pub latches-small : OfSome (Printable buffer pairs work at c t)
       → 2 * (c.inputs + 1 + length (part work at.definitions (at.definitions + 2 * c.latches))) < 9223372036854775808
   latches-small k =
       let n = part_length work at.definitions (at.definitions + 2 * c.latches) (definitions-end k) in
       omega (arith, n, k.holds.few, k.holds.result.counted.inputs, k.holds.result.counted.latches)
 
   -- the regions that are printed stand in order, within the words
-  pub region_ends : PrintableSome buffer pairs work at c t
+  pub region_ends : OfSome (Printable buffer pairs work at c t)
       → (at.gates ≤ at.definitions) × ((at.definitions + 2 * c.latches ≤ length work) × ((at.definitions ≤ length work)
       × ((at.bad_bits ≤ at.constraint_bits) × ((at.constraint_bits ≤ at.end) × ((at.end ≤ length work) × (t.gates + 1 ≤ length work))))))
   region_ends k =

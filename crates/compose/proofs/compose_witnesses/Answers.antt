@@ -1,4 +1,4 @@
-use Rattle.compose.proofs.ChainLaws.{model_sums, witnesses_refused, witnesses_short, witnesses_fit, witnesses_listed, witnesses_composed}
+use Rattle.compose.proofs.ChainLaws.{model_sums, witnesses_refused, witnesses_short, witnesses_fit, witnesses_composed}
 use Rattle.compose.proofs.compose_witnesses.Goals as goal
 
 pub room_beside-room-requires : goal.room_beside-room-requires
@@ -11,7 +11,7 @@ pub returns-then-totals-eq0 : goal.returns-then-totals-eq0
 returns-then-totals-eq0 c = search (witnesses_short, c.in_ok-totals.ensures)
 
 pub compose_fitting-requires : goal.compose_fitting-requires
-compose_fitting-requires c = record { can_lay = search (witnesses_fit, c.in_ok-totals.ensures); counts_listed = search (witnesses_listed, c.in_ok-totals.ensures) }
+compose_fitting-requires c = search (witnesses_fit, c.in_ok-totals.ensures)
 
 pub returns : goal.returns
 returns c = search (witnesses_composed, c.in_ok-totals.ensures)

@@ -1,4 +1,3 @@
-use Rattle.std.proofs.Common.{refl}
 use native.Mathlib.Omega.{arith}
 use Rattle.compose_names.proofs.SymbolLaws.{walking-none, walking-can, walking_pass, walking-more, walking-end}
 use borrow.Author.Rules.{rules}
@@ -14,7 +13,7 @@ pub pass-p-requires : goal.pass-p-requires
 pass-p-requires c = search walking_pass
 
 pub loop-w-preserved : goal.loop-w-preserved
-loop-w-preserved c = (walking-more _ _ _ _ _ _ _ _ _ _ _ _ _ _ c.loop-w.invariant refl c.loop-w-test.true _ c.text_at-text.ensures _ c.requires.counts_listed _ c.counts_at-n.ensures _ _ (omega (arith, c.print_witness-done.auto.out)) c.print_witness-done.ensures _ c.pass-p.ensures)
+loop-w-preserved c = (walking-more _ _ _ _ _ _ _ _ _ _ _ _ _ _ c.loop-w.invariant c.len-w-end.ensures c.loop-w-test.true _ c.text-text.ensures _ c.counts_of-n.ensures _ _ (omega (arith, c.print_witness-done.auto.out)) c.print_witness-done.ensures _ c.pass-p.ensures)
 
 pub returns : goal.returns
 returns c = search walking-end

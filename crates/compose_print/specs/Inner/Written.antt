@@ -15,10 +15,11 @@ use Rattle.compose_joint.specs.Inner.Joint.{total_of, input_count, gate_count}
 use Rattle.compose_gather.specs.declared.Totals.{Totals}
 use Rattle.compose_gather.specs.Inner.Gathered.{Readable}
 use Rattle.compose_layout.specs.declared.Layout.{Layout}
-use Rattle.compose_layout.specs.Inner.Laid.{Regions, Listed, OfSome}
+use Rattle.compose_layout.specs.Inner.Laid.{Regions, Listed}
 use Rattle.compose_merge.specs.declared.Merged.{Merged}
 use Rattle.compose_merge.specs.Inner.Merged.{ResultWords}
 use Rattle.compose_lines.specs.Inner.Header.{header_of}
+use Rattle.compose_print.specs.declared.Composition.{Composition}
 use Rattle.compose_lines.specs.Inner.Text.{closing_text, latches_of, composed_counts, entry_names}
 
 -- all that is printed stands in the work words
@@ -33,12 +34,12 @@ pub record Printable (buffer : Bytes) (pairs work : List ℕ) (at : Layout) (c :
   pub few_bits : at.bits ≤ 128000000
   pub fits : at.end ≤ length work
 
-abbrev pub PrintableSome : Bytes → List ℕ → List ℕ → Layout → Merged → Totals → Type 0
-PrintableSome buffer pairs work at c t = OfSome (Printable buffer pairs work at c t)
+abbrev pub PrintableOf : Composition → Sections → List Sections → Type 0
+PrintableOf c m ws = Printable c.witnesses.texts.bytes.now c.witnesses.texts.pairs.now c.work.now c.at c.merged c.totals m ws
 
 -- a text of the composition is printed
-pub record PrintsText (text : Sections → List Sections → Bytes) (buffer : Bytes) (pairs work : List ℕ) (at : Layout) (c : Merged) (t : Totals) (o : Bytes) (from : ℕ) (o' : Bytes) (r : ℕ) : Type 0 where
-  pub each : (m : Sections) (ws : List Sections) → Printable buffer pairs work at c t m ws → Prints o from (text m ws) o' r
+pub record PrintsText (Holds : Sections → List Sections → Type 0) (text : Sections → List Sections → Bytes) (o : Bytes) (from : ℕ) (o' : Bytes) (r : ℕ) : Type 0 where
+  pub each : (m : Sections) (ws : List Sections) → Holds m ws → Prints o from (text m ws) o' r
 
 -- the text from the symbols of the latches on, from those of the inputs on, and so on up to the whole
 abbrev pub from_latch_names : Sections → List Sections → Bytes

@@ -2,13 +2,13 @@ use native.Mathlib.Omega.{arith}
 use lib.ListN.{length}
 use Rattle.text_print.proofs.PrintsLaws.{Word}
 use Rattle.compose_print.proofs.WriteLaws.{input-symbols, latch_symbols_lem, input-names-printed, latch_names-printed}
-use Rattle.compose_print.proofs.print_tail.Goals as goal
+use Rattle.compose_print.proofs.Composition.print_tail.Goals as goal
 
 pub print_symbols-latch_names-requires : goal.print_symbols-latch_names-requires
-print_symbols-latch_names-requires c = record { can_print_symbols = input-symbols c.requires.printable_some; counts_listed = c.requires.counts_listed }
+print_symbols-latch_names-requires c = input-symbols c.requires
 
 pub print_symbols-closing-requires : goal.print_symbols-closing-requires
-print_symbols-closing-requires c = record { can_print_symbols = latch_symbols_lem c.requires.printable_some; counts_listed = c.requires.counts_listed }
+print_symbols-closing-requires c = latch_symbols_lem c.requires
 
 pub returns : goal.returns
 returns c =
