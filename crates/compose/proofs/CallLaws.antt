@@ -1,17 +1,14 @@
--- Laws of what the composer tests before and beside the composition: pairs, room, safety.
-use Prim.Native.Nat.{ℕ, zero, suc, ◌+◌, ◌-◌, ◌*◌, ◌/◌, ◌≤◌, ◌<◌}
-use mathlib.Core.Bool.{Bool, true, false, cond, not, ◌&&◌}
+-- Laws of what the composer tests before and beside the composition: safety.
+use Prim.Native.Nat.{ℕ, zero, suc, ◌+◌, ◌/◌, ◌≤◌, ◌<◌}
+use mathlib.Core.Bool.{Bool, true, false, ◌&&◌}
 use mathlib.Core.List.{List, [], ◌∷◌}
 use mathlib.Core.Logic.{◌⊎◌, inl, inr}
 use mathlib.Core.Path.{◌≡◌, refl, sym, ap, ◌∙◌}
 use native.Mathlib.Omega.{arith}
-use borrow.Author.Tests.{eq-eqb, ne_eqb, ltb-true, ltb-false, le-leb, lt-leb, lt-ltb, le-ltb}
-use lib.Dec.{eqb, leb, ltb}
 use lib.ListN.{length, get_or, drop}
 use Rattle.lists.specs.Answer.{got}
 use Rattle.lists.specs.Parts.{Bytes}
 use Rattle.lists.proofs.AnswerLaws.{got_same}
-use Rattle.lists.proofs.BoolLaws.{below_or}
 use Rattle.witness_text.specs.declared.AagCounts.{AagCounts}
 use Rattle.witness_read.specs.Sections.{Sections}
 use Rattle.compose_spec.specs.Composing.{or_outputs, safety, is_some}
@@ -19,37 +16,7 @@ use Rattle.compose_spec.specs.Calling.{read_all, texts_in}
 use Rattle.compose_gather.specs.Inner.Counts.{CountsOf}
 use Rattle.compose_gather.specs.Inner.Gathered.{Readable}
 use Rattle.compose_gather.proofs.TextLaws.{FirstRead, first_read, none_read, left-more, left-none}
-use Rattle.compose.specs.Inner.Steps.{first_room, all_safe, TestsSafety}
-
--- ---- 15
-
-pub room-none : (words : ℕ) → words < 1024 → 0 ≡ first_room words
-room-none words h = rw (lt-ltb words 1024 h) refl
-
-pub room-some : (words : ℕ) → 1024 ≤ words → (words - 1024) / 16 + 1 ≡ first_room words
-room-some words h = rw (le-ltb words 1024 h) refl
-
--- so many words are enough exactly when something is left of the room
-pub room-enough : (words a b : ℕ) → leb (16 * (a + b) + 1024) words ≡ not (eqb (first_room words - a - b) 0)
-room-enough words a b = go (ltb words 1024) refl
-  where
-    go : (q : Bool) → ltb words 1024 ≡ q → leb (16 * (a + b) + 1024) words ≡ not (eqb (cond q 0 ((words - 1024) / 16 + 1) - a - b) 0)
-    go true e =
-        let h : words < 1024 = ltb-true words 1024 e in
-        let z : 0 - a - b ≡ 0 = omega arith in
-        rw (lt-leb (16 * (a + b) + 1024) words (omega arith), eq-eqb (0 - a - b) 0 z) refl
-    go false e = enough (below_or ((words - 1024) / 16) (a + b))
-      where
-        h : 1024 ≤ words
-        h = ltb-false words 1024 e
-
-        enough : ((words - 1024) / 16 < a + b) ⊎ (a + b ≤ (words - 1024) / 16) → leb (16 * (a + b) + 1024) words ≡ not (eqb ((words - 1024) / 16 + 1 - a - b) 0)
-        enough (inl l) =
-            let z : (words - 1024) / 16 + 1 - a - b ≡ 0 = omega arith in
-            rw (lt-leb (16 * (a + b) + 1024) words (omega (arith, h)), eq-eqb ((words - 1024) / 16 + 1 - a - b) 0 z) refl
-        enough (inr l) =
-            let z : (words - 1024) / 16 + 1 - a - b ≡ 0 → ⊥ = λ x. omega arith in
-            rw (le-leb (16 * (a + b) + 1024) words (omega (arith, h)), ne_eqb ((words - 1024) / 16 + 1 - a - b) 0 z) refl
+use Rattle.compose.specs.Inner.Steps.{all_safe, TestsSafety}
 
 -- ---- 19
 

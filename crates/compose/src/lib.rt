@@ -3,11 +3,10 @@
 
 ghost use Rattle.std.specs.Prelude.{◌≡◌, length, ◌+◌, ◌<◌};
 ghost use Rattle.compose_spec.specs.Calling.{texts_in, compose_texts, compose_call};
-ghost use Rattle.compose_gather.specs.Inner.Checking.{SmallSums, none_yet};
 ghost use Rattle.compose_layout.specs.Inner.Laid.{CanLay, OfSome};
 ghost use Rattle.compose_print.specs.Inner.Written.{PrintableOf};
 ghost use Rattle.compose.specs.Promise.{Composes};
-ghost use Rattle.compose.specs.Inner.Steps.{first_room, TestsSafety, room_beside, Answers, Measures, Writes, LaidSome, ComposesLaid, ComposesFitting, ModelSome, ComposesWitnesses};
+ghost use Rattle.compose.specs.Inner.Steps.{first_room, TestsSafety, Answers, Measures, Writes, LaidSome, ComposesLaid, ComposesFitting, ModelSome, ComposesWitnesses};
 
 use aiger::Refusal;
 use compose_gather::{Texts, Totals, Witnesses};
@@ -15,14 +14,11 @@ use compose_layout::Layout;
 use compose_print::Composition;
 use witness_text::AagCounts;
 
-// How much room so many work words give.
-fn first_room(words: usize) -> usize
+// How much room so many work words give, where they are enough for the composer itself.
+fn first_room(words: usize) -> Option<usize>
     ensures { result ≡ first_room words }
 {
-    if words < 1024 {
-        return 0;
-    }
-    (words - 1024) / 16 + 1
+    Some(words.checked_sub(1024)? / 16)
 }
 
 // Whether each witness has a bad or an output (R9.19).
@@ -101,21 +97,6 @@ fn compose_fitting(
     compose_laid(witnesses, work, model_counts, totals, at, out)
 }
 
-// How much room the model leaves.
-fn room_beside(model_counts: AagCounts, words: usize) -> usize
-    requires { SmallSums (none_yet (first_room words)) model_counts }
-    ensures { result ≡ room_beside model_counts words }
-{
-    let none = Totals {
-        room: first_room(words),
-        inputs: 0,
-        latches: 0,
-        gates: 0,
-    };
-    let t = compose_gather::add_counts(none, model_counts);
-    t.room
-}
-
 // Reads the witnesses and composes them, for a model with these counts.
 fn compose_witnesses(
     texts: &Texts,
@@ -126,11 +107,11 @@ fn compose_witnesses(
     requires { ModelSome model_counts }
     ensures { ComposesWitnesses model_counts texts.now.bytes.now texts.now.pairs.now work.old out.old out.new result }
 {
-    let room = room_beside(model_counts, work.len());
+    let room = compose_gather::room_after(first_room(work.len()), model_counts);
     // nine for each of at most 64 witnesses
     let mut counts: [u64; 576] = [0; 576];
     let totals = compose_gather::check_all(texts, room, &mut counts)?;
-    if totals.room == 0 {
+    if totals.room.is_none() {
         return Err(Refusal::ComposingRoom);
     }
     let witnesses = Witnesses {

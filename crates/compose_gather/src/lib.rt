@@ -3,7 +3,7 @@
 
 ghost use Rattle.std.specs.Prelude.{◌≡◌, ◌+◌, ◌-◌, ◌*◌, ◌/◌, ◌≤◌, ◌<◌, length};
 ghost use Rattle.lists.specs.Parts.{part};
-ghost use Rattle.compose_gather.specs.Inner.Checking.{added_counts, SmallSums};
+ghost use Rattle.compose_gather.specs.Inner.Checking.{less, room_after, added_counts, SmallSums};
 ghost use Rattle.compose_gather.specs.Inner.Counts.{CanCheck, ChecksOne, ChecksAll};
 ghost use Rattle.compose_gather.specs.Inner.Gathered.{words_for, LoadableAt, LoadsAt, CanLoad, LoadsAll};
 
@@ -11,15 +11,14 @@ pub mod counts;
 pub mod literals;
 mod texts;
 
-pub use texts::{Texts, Witnesses};
-
 use aiger::Refusal;
+pub use texts::{Texts, Witnesses};
 use witness_text::AagCounts;
 
-// What is counted of all witnesses, and how much of the room the texts leave: 0 where they need too much, else one more than is left.
+// What is counted of all witnesses, and how much of the room the texts leave, where it is enough for them.
 #[derive(Clone, Copy)]
 pub struct Totals {
-    pub room: usize,
+    pub room: Option<usize>,
     pub inputs: usize,
     pub latches: usize,
     pub gates: usize,
@@ -41,26 +40,30 @@ pub fn piece(s: &[u8], start: usize, size: usize) -> &[u8]
     &s[start..end]
 }
 
-// a - b, or 0 where b is more.
-fn less(a: usize, b: usize) -> usize
-    ensures { result ≡ a - b }
+// The room without so much, where it is enough.
+fn less(room: Option<usize>, n: usize) -> Option<usize>
+    ensures { result ≡ less room n }
 {
-    if a < b {
-        return 0;
-    }
-    a - b
+    room?.checked_sub(n)
+}
+
+// The room that a text with these counts leaves.
+pub fn room_after(room: Option<usize>, counts: AagCounts) -> Option<usize>
+    ensures { result ≡ room_after room counts }
+{
+    let a = less(room, counts.max_variable);
+    let b = less(a, counts.outputs);
+    let c = less(b, counts.bads);
+    less(c, counts.constraints)
 }
 
 // The totals with one more text.
-pub fn add_counts(totals: Totals, counts: AagCounts) -> Totals
+fn add_counts(totals: Totals, counts: AagCounts) -> Totals
     requires { SmallSums totals counts }
     ensures { result ≡ added_counts totals counts }
 {
-    let a = less(totals.room, counts.max_variable);
-    let b = less(a, counts.outputs);
-    let c = less(b, counts.bads);
     Totals {
-        room: less(c, counts.constraints),
+        room: room_after(totals.room, counts),
         inputs: totals.inputs + counts.inputs,
         latches: totals.latches + counts.latches,
         gates: totals.gates + counts.gates,
@@ -78,7 +81,7 @@ fn check_one(text: &[u8], counts: &mut [u64], w: usize, totals: Totals) -> Resul
 }
 
 // Reads all witnesses in their order, and lists their counts.
-pub fn check_all(texts: &Texts, room: usize, counts: &mut [u64]) -> Result<Totals, Refusal>
+pub fn check_all(texts: &Texts, room: Option<usize>, counts: &mut [u64]) -> Result<Totals, Refusal>
     requires { 9 * (length texts.now.pairs.now / 2) ≤ length counts.old }
     ensures { ChecksAll room texts.now.bytes.now texts.now.pairs.now counts.new result }
 {

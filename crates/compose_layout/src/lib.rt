@@ -76,11 +76,7 @@ fn place_regions(
 }
 
 // Loads the witnesses, and lists their literals behind the words of the texts: of the latches, the operands of the gates, the safety literals, the constraints.
-fn lay_lists(
-    witnesses: &Witnesses,
-    work: &mut [u64],
-    totals: Totals,
-) -> Lists
+fn lay_lists(witnesses: &Witnesses, work: &mut [u64], totals: Totals) -> Lists
     requires { CanList totals witnesses.now.texts.bytes.now witnesses.now.texts.pairs.now work.old }
     ensures { ListsLaid totals witnesses.now.texts.bytes.now witnesses.now.texts.pairs.now work.old work.new result }
 {

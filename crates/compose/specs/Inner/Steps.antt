@@ -1,5 +1,5 @@
 -- For the contracts of the composer's inner functions: what each of them answers.
-use Rattle.std.specs.Prelude.{ℕ, ◌+◌, ◌-◌, ◌/◌, ◌≤◌, Bool, true, cond, List, ◌≡◌, ltb, length, Result}
+use Rattle.std.specs.Prelude.{ℕ, Option, Some, None, ◌-◌, ◌/◌, ◌≤◌, Bool, true, cond, List, ◌≡◌, ltb, length, Result}
 use Rattle.lists.specs.Answer.{Answer, and_then}
 use Rattle.lists.specs.Parts.{Bytes}
 use Rattle.lists.specs.Tests.{all}
@@ -18,9 +18,9 @@ use Rattle.compose_layout.specs.Inner.Laid.{Fitting, Ready, OfSome}
 use Rattle.text_print.specs.Inner.Prints.{capped}
 use Rattle.compose.specs.Promise.{composed_answer, result_bytes}
 
--- how many units of 16 words there are behind the first 1,024, and one more; 0 where there are fewer words
-abbrev pub first_room : ℕ → ℕ
-first_room words = cond (ltb words 1024) 0 ((words - 1024) / 16 + 1)
+-- how many units of 16 words there are behind the first 1,024
+abbrev pub first_room : ℕ → Option ℕ
+first_room words = cond (ltb words 1024) None (Some ((words - 1024) / 16))
 
 -- an answer and the result bytes with it
 pub record Answers (out : Bytes) (answer : Answer Bytes) (out' : Bytes) (r : Result ℕ Refusal) : Type 0 where
@@ -35,10 +35,6 @@ abbrev pub TestsSafety : Bytes → List ℕ → Bool → Type 0
 TestsSafety buffer pairs r = (ws : List Sections) → Readable buffer pairs ws → r ≡ all_safe ws
 
 -- ---- from the call down
-
--- how much room the model's text leaves
-abbrev pub room_beside : AagCounts → ℕ → ℕ
-room_beside m words = first_room words - m.max_variable - m.outputs - m.bads - m.constraints
 
 -- a model with these counts is read
 pub record ModelIs (mc : AagCounts) (m : Sections) : Type 0 where

@@ -1,5 +1,5 @@
 -- For the contracts of the composer's inner functions: a list of the counts of all witnesses.
-use Rattle.std.specs.Prelude.{ℕ, ◌+◌, ◌*◌, ◌/◌, ◌≤◌, ◌<◌, true, List, [], ◌∷◌, ◌≡◌, length, get_or, Result, Ok}
+use Rattle.std.specs.Prelude.{ℕ, ◌+◌, ◌*◌, ◌/◌, ◌≤◌, ◌<◌, true, List, [], ◌∷◌, ◌≡◌, length, get_or, Option, Result, Ok}
 use Rattle.lists.specs.Answer.{Answer, got, refused}
 use Rattle.lists.specs.Parts.{Bytes, put}
 use Rattle.text.specs.Texts.{limited}
@@ -73,6 +73,6 @@ pub record CountsListed (buffer : Bytes) (pairs counts : List ℕ) : Type 0 wher
   pub before : CountsBefore buffer pairs counts (length pairs / 2)
 
 -- the totals of all witnesses, whose counts are then listed, or the number of the first reason
-pub record ChecksAll (room : ℕ) (buffer : Bytes) (pairs counts : List ℕ) (r : Result Totals Refusal) : Type 0 where
+pub record ChecksAll (room : Option ℕ) (buffer : Bytes) (pairs counts : List ℕ) (r : Result Totals Refusal) : Type 0 where
   pub is : answered r ≡ checked_from (none_yet room) (read_all (texts_in buffer pairs))
   pub lists : (t : Totals) → r ≡ Ok t → CountsListed buffer pairs counts
