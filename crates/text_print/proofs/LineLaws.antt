@@ -25,9 +25,6 @@ module _ (x left : ℕ) where
       let e : left ≡ suc (left - 1) = omega arith in
       ap (λ (k : ℕ). text_of (literal_lines (literals_from x k))) e ∙ rw (p, q, add-one x) (literal-first (2 * x) (literals_from (suc x) (left - 1)))
 
-  pub literals_end : left ≤ 0 → text_of (literal_lines (literals_from x left)) ≡ []
-  literals_end h = let e : left ≡ 0 = omega arith in rw e
-
 module _ (x : ℕ) (words : List ℕ) (i : ℕ) where
   pub gates-more : i + 1 < length words → (y j : ℕ) → y ≡ x + 1 → j ≡ i + 2
       → text_of (gate_lines x (drop i words))
