@@ -4,7 +4,7 @@
 
 ghost use Rattle.std.specs.Prelude.{[], ◌∷◌, ◌++◌};
 ghost use Rattle.text_print.specs.Inner.Prints.{PrintsOn};
-ghost use Rattle.compose_lines.specs.Inner.Header.{fields_text, header_of};
+ghost use Rattle.compose_lines.specs.Inner.Header.{header_of};
 ghost use Rattle.compose_lines.specs.Inner.GateText.{CanPrintGates, PrintsGates};
 ghost use Rattle.compose_lines.specs.Inner.Text.{closing_text};
 
@@ -19,15 +19,6 @@ pub struct Counts {
     pub gates: u64,
     pub bads: u64,
     pub constraints: u64,
-}
-
-// Prints numbers, each with a space before it.
-fn print_fields(to: &mut Printer, numbers: &[u64])
-    ensures { PrintsOn to.old (fields_text numbers.now) to.new }
-{
-    for n in numbers {
-        to.field(*n);
-    }
 }
 
 // Prints the line of the header.
@@ -46,7 +37,7 @@ pub fn print_header(to: &mut Printer, counts: Counts)
         0,
     ];
     to.bytes(b"aag");
-    print_fields(to, &numbers);
+    to.fields(&numbers);
     to.byte(10);
 }
 

@@ -1,13 +1,13 @@
 // Texts printed into lent bytes.
 #![tactic(auto)]
 
-ghost use Rattle.std.specs.Prelude.{◌≡◌, [], ◌∷◌, ◌++◌, ◌+◌, ◌*◌, ◌^◌, ◌≤◌, ◌<◌, length, SomeIff};
+ghost use Rattle.std.specs.Prelude.{◌≡◌, ℕ, [], ◌∷◌, ◌++◌, ◌+◌, ◌*◌, ◌^◌, ◌≤◌, ◌<◌, length, SomeIff};
 ghost use Rattle.lists.specs.Parts.{put};
 ghost use Rattle.text_decimal.specs.Decimal.{decimal};
 ghost use Rattle.text_decimal.specs.Printed.{number_line, text_of};
 ghost use Rattle.text_print.specs.Inner.Prints.{PrintsOn, Passes};
 ghost use Rattle.text_print.specs.Inner.DigitPairs.{digit_pairs};
-ghost use Rattle.text_print.specs.Inner.Lines.{literal_lines, literals_from, gate_lines};
+ghost use Rattle.text_print.specs.Inner.Lines.{fields_text, literal_lines, literals_from, gate_lines};
 ghost use Rattle.text_print.specs.Inner.Elements.{elements, elements_in};
 
 // How many digits a number has. Most numbers have few, and comparing is quicker than dividing.
@@ -86,6 +86,30 @@ fn write_field(out: &mut [u8], at: usize, n: u64, size: usize, end: u8)
     out[at + size] = end;
 }
 
+// A number that stands for a word.
+pub trait Number: Copy {
+    ghost value: { Self → ℕ };
+
+    fn value(self) -> u64
+        ensures { result ≡ value self };
+}
+
+impl Number for u64 {
+    ghost value = { λ n. n };
+
+    fn value(self) -> u64 {
+        self
+    }
+}
+
+impl Number for u32 {
+    ghost value = { λ n. n };
+
+    fn value(self) -> u64 {
+        u64::from(self)
+    }
+}
+
 // A text that is printed into lent bytes, and how far it is; a place that no word can hold is the largest word. What has no room is only
 // counted, so that a printer that is lent no bytes measures a text.
 #[derive(Drop)]
@@ -141,6 +165,15 @@ impl<'a> Printer<'a> {
     {
         self.byte(32);
         self.number(n);
+    }
+
+    // Prints numbers, each with a space before it.
+    pub fn fields<T: Number>(&mut self, list: &[T])
+        ensures { PrintsOn self.old (fields_text T.value list.now) self.new }
+    {
+        for n in list {
+            self.field(n.value());
+        }
     }
 
     // Prints a line of one number.
