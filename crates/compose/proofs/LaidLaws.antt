@@ -30,25 +30,24 @@ use Rattle.compose_merge.specs.declared.Merged.{Merged}
 use Rattle.compose_merge.specs.Inner.Merged.{Mergeable, Done, Goes}
 use Rattle.compose_merge.proofs.CallLaws.{readable-range, readable-few, ready_merge, ready-can, ready-kept, refused-composes, done-composes}
 use Rattle.compose_lines.proofs.PartLaws.{composed-parts}
-use Rattle.compose_print.specs.Inner.Written.{Printable, PrintsText, from_header}
+use Rattle.compose_print.specs.Inner.Written.{Printable, PrintsWhole}
 use Rattle.compose.specs.Inner.Steps.{Answers, TestsSafety, all_safe, Measures, Writes, LaidRight, LaidSome, ComposesLaid}
 use Rattle.compose.proofs.ChainLaws.{refuses, refuses_on, answers-same}
 
 module _ (Holds : Sections → List Sections → Type 0) where
   -- the whole text is printed
-  whole_text : (o : Bytes) (from : ℕ) (o' : Bytes) (r : ℕ) → PrintsText Holds from_header o from o' r → (m : Sections) (ws : List Sections)
-      → Holds m ws → Prints o from (printed (composed m ws)) o' r
-  whole_text o from o' r p m ws k = subst (λ (x : Bytes). Prints o from x o' r) (sym (composed-parts m ws)) (p.each m ws k)
+  whole_text : (o o' : Bytes) (r : ℕ) → PrintsWhole Holds o o' r → (m : Sections) (ws : List Sections) → Holds m ws → Prints o 0 (printed (composed m ws)) o' r
+  whole_text o o' r p m ws k = subst (λ (x : Bytes). Prints o 0 x o' r) (sym (composed-parts m ws)) (p.each m ws k)
 
   empty : (l : Bytes) → length l ≡ 0 → l ≡ []
   empty [] e = refl
   empty (x ∷ xs) e = absurd (omega arith)
 
-  pub measured : (out l : Bytes) (r : ℕ) → length l ≡ 0 → PrintsText Holds from_header (take 0 out) 0 l r → Measures Holds out (l ++ drop 0 out) r
+  pub measured : (out l : Bytes) (r : ℕ) → length l ≡ 0 → PrintsWhole Holds (take 0 out) l r → Measures Holds out (l ++ drop 0 out) r
   measured out l r e p =
       record {
         same = ap (λ (x : Bytes). x ++ out) (empty l e);
-        size = λ m ws k. (whole_text (take 0 out) 0 l r p m ws k).next ∙ ap capped (zero-add (length (printed (composed m ws))));
+        size = λ m ws k. (whole_text (take 0 out) l r p m ws k).next ∙ ap capped (zero-add (length (printed (composed m ws))));
       }
 
   module _ (out out₁ : Bytes) (size : ℕ) (h : Measures Holds out out₁ size) where
@@ -60,11 +59,11 @@ module _ (Holds : Sections → List Sections → Type 0) where
               (refuses out (printed_within (length out) (composed m ws)) refusal.ResultRoom (rw (lt-leb (length (printed (composed m ws))) (length out) (omega (arith, h.size m ws k, ap length h.same, l))) refl));
         }
 
-    pub written : length out < 9223372036854775808 → size ≤ length out₁ → (out' : Bytes) (r : ℕ) → PrintsText Holds from_header out₁ 0 out' r → Writes Holds out out' (Ok r)
+    pub written : length out < 9223372036854775808 → size ≤ length out₁ → (out' : Bytes) (r : ℕ) → PrintsWhole Holds out₁ out' r → Writes Holds out out' (Ok r)
     written small l out' r p =
         record {
           each = λ m ws k.
-              let x = whole_text out₁ 0 out' r p m ws k in
+              let x = whole_text out₁ out' r p m ws k in
               let text : Bytes = printed (composed m ws) in
               let fits : length text ≤ length out = omega (arith, h.size m ws k, ap length h.same, l, small) in
               let stands : out' ≡ put out₁ 0 text = x.stands (omega (arith, fits, ap length h.same)) in

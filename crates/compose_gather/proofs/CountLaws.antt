@@ -12,7 +12,8 @@ use Rattle.witness_read.specs.Sections.{Sections}
 use Rattle.witness_read.specs.Reading.{counts_in}
 use Rattle.compose_joint.specs.declared.Leaves.{Leaves}
 use Rattle.compose_joint.specs.declared.Leaves.TheVariants as leaf
-use Rattle.compose_gather.specs.Inner.Counts.{count_words, counts_at, leaf_counts, names_before}
+use Rattle.compose_gather.specs.Inner.Counts.{count_words, counts_at}
+use Rattle.compose_joint.specs.Inner.Joint.{leaf_counts, names_before}
 use Rattle.compose_gather.specs.Inner.Gathered.{words_for, leaf_count_of}
 
 -- ---- stored and read
@@ -54,10 +55,3 @@ counts-leaves leaf.Latches s = sym (length-map s.latches (λ q. q.name))
 pub leaves-within : (leaves : Leaves) (n : AagCounts) → names_before leaves n + 2 * leaf_counts leaves n ≤ words_for n
 leaves-within leaf.Inputs n = omega arith
 leaves-within leaf.Latches n = omega arith
-
-module _ (leaves : Leaves) (n : AagCounts) where
-  pub before-inputs : leaves ≡ leaf.Inputs → 0 ≡ names_before leaves n
-  before-inputs e = rw e refl
-
-  pub before-latches : leaves ≡ leaf.Latches → 2 * n.inputs ≡ names_before leaves n
-  before-latches e = rw e refl

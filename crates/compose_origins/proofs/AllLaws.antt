@@ -17,9 +17,9 @@ use Rattle.compose_spec.specs.Mapping.{maps_by_name}
 use Rattle.compose_spec.specs.Calling.{texts_in}
 use Rattle.compose_joint.specs.declared.Before.{Before}
 use Rattle.compose_joint.specs.declared.Leaves.{Leaves}
-use Rattle.compose_joint.specs.Inner.Joint.{nothing_before, beyond, names_of}
+use Rattle.compose_joint.specs.Inner.Joint.{nothing_before, beyond, names_of, leaf_counts}
 use Rattle.compose_joint.proofs.AmountLaws.{origin-words}
-use Rattle.compose_gather.specs.Inner.Counts.{CountsOf, leaf_counts}
+use Rattle.compose_gather.specs.Inner.Counts.{CountsOf}
 use Rattle.compose_gather.specs.Inner.Gathered.{words_for, Block, Readable, leaf_count_of}
 use Rattle.compose_gather.proofs.TextLaws.{FirstRead, Left, left-more, left-none}
 use Rattle.compose_gather.proofs.CountLaws.{counts-leaves}

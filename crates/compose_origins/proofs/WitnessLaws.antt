@@ -19,8 +19,7 @@ use Rattle.compose_spec.specs.declared.ModelLeaves.{ModelLeaves}
 use Rattle.compose_spec.specs.Mapping.{maps_by_name}
 use Rattle.compose_joint.specs.declared.Leaves.{Leaves}
 use Rattle.compose_joint.specs.declared.Leaves.TheVariants as leaf
-use Rattle.compose_joint.specs.Inner.Joint.{names_of}
-use Rattle.compose_gather.specs.Inner.Counts.{leaf_counts, names_before}
+use Rattle.compose_joint.specs.Inner.Joint.{names_of, leaf_counts, names_before}
 use Rattle.compose_gather.specs.Inner.Gathered.{Block}
 use Rattle.compose_gather.proofs.CountLaws.{leaves-within}
 use Rattle.compose_origins.specs.Inner.Mapped.{SaysNames, SayNames, AnyMapped, CanMap, OriginsIf, StoresOrigins, CanTest, TestsWitness, CanMapWitness, WitnessOrigins, MapsWitness}

@@ -5,11 +5,10 @@ ghost use Rattle.std.proofs.Math.Option.{some};
 ghost use Rattle.std.specs.Prelude.{Some, ◌≡◌, ◌+◌, ◌≤◌, ◌<◌};
 ghost use Rattle.text.specs.declared.Reader.TheVariants.{Witness};
 ghost use Rattle.text.specs.Numbers.{number_of};
-ghost use Rattle.compose_gather.specs.Inner.Counts.{names_before};
 ghost use Rattle.compose_gather.specs.Inner.Gathered.{words_for};
 ghost use Rattle.compose_spec.specs.Mapping.{onto_number, by_name, by_position};
 ghost use Rattle.compose_spec.specs.Composing.{is_right};
-ghost use Rattle.compose_joint.specs.Inner.Joint.{origin_word};
+ghost use Rattle.compose_joint.specs.Inner.Joint.{origin_word, names_before};
 ghost use Rattle.compose_origins.specs.Inner.Mapped.{FewLeaves, SaysName, MapsTo, MappedAt, MapsAt, TestsName, SaysAt, TestsAt, SayNames, AnyMapped, CanMap, StoresOrigins, CanTest, TestsWitness, CanMapWitness, MapsWitness, CanMapAll, MapsAll};
 
 use compose_gather::Witnesses;
@@ -191,7 +190,7 @@ fn names_at(leaves: Leaves, counts: AagCounts, from: usize, end: usize) -> usize
     requires { from + words_for counts ≤ end }
     ensures { result ≡ from + names_before leaves counts }
 {
-    from + compose_gather::counts::names_before(leaves, counts)
+    from + leaves.names_before(counts)
 }
 
 // Whether a witness maps by name; its words begin at a place.
@@ -219,7 +218,7 @@ fn witness_origins(
 {
     let named = maps_by_name(text, counts, work, from);
     let names = names_at(leaves, counts, from, to);
-    let count = compose_gather::counts::leaf_count(leaves, counts);
+    let count = leaves.count(counts);
     store_origins(text, work, names, count, named, model_leaves, w, to)
 }
 

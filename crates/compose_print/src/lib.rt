@@ -2,13 +2,14 @@
 #![tactic(auto)]
 
 ghost use Rattle.compose_layout.specs.Inner.Laid.{OfSome};
-ghost use Rattle.compose_print.specs.Inner.Written.{PrintableOf, PrintsText, from_input_names, from_header};
+ghost use Rattle.compose_print.specs.Inner.Written.{PrintableOf, PrintsText, PrintsWhole, from_input_names, from_header};
 
 use compose_gather::{Totals, Witnesses};
 use compose_joint::Leaves;
 use compose_layout::Layout;
 use compose_lines::Counts;
 use compose_merge::Merged;
+use text_print::Printer;
 
 // A merged composition: all that its text is printed from.
 #[derive(Clone, Copy)]
@@ -22,16 +23,15 @@ pub struct Composition<'a> {
 
 impl<'a> Composition<'a> {
     // The symbols of the inputs and of the latches, and the last lines.
-    fn print_tail(&self, out: &mut [u8], from: usize) -> usize
+    fn print_tail(&self, to: &mut Printer)
         requires { OfSome (PrintableOf self.now) }
-        ensures { PrintsText (PrintableOf self.now) from_input_names out.old from out.new result }
+        ensures { PrintsText (PrintableOf self.now) from_input_names to.old to.new }
     {
         let input_numbers = self.at.vars + 1;
         let latch_numbers = input_numbers + self.totals.inputs;
         let first_latch = self.merged.inputs + 1;
-        let latch_names = compose_names::print_symbols(
-            out,
-            from,
+        compose_names::print_symbols(
+            to,
             &self.witnesses,
             self.work,
             Leaves::Inputs,
@@ -39,9 +39,8 @@ impl<'a> Composition<'a> {
             input_numbers,
             1,
         );
-        let closing = compose_names::print_symbols(
-            out,
-            latch_names,
+        compose_names::print_symbols(
+            to,
             &self.witnesses,
             self.work,
             Leaves::Latches,
@@ -49,15 +48,16 @@ impl<'a> Composition<'a> {
             latch_numbers,
             first_latch as u64,
         );
-        compose_lines::print_closing(out, closing)
+        compose_lines::print_closing(to);
     }
 
-    // The whole text. A place that is printed at has the name of what stands there.
-    pub fn print(&self, out: &mut [u8]) -> usize
+    // The whole text.
+    fn print_to(&self, to: &mut Printer)
         requires { OfSome (PrintableOf self.now) }
-        ensures { PrintsText (PrintableOf self.now) from_header out.old 0 out.new result }
+        ensures { PrintsText (PrintableOf self.now) from_header to.old to.new }
     {
         let merged = self.merged;
+        let at = self.at;
         let head = Counts {
             variables: (merged.inputs + merged.latches + merged.gates) as u64,
             inputs: merged.inputs as u64,
@@ -68,30 +68,32 @@ impl<'a> Composition<'a> {
         };
         let first_latch = merged.inputs + 1;
         let first_gate = merged.inputs + merged.latches + 1;
-        let table = self.at.gates;
-        let definitions = self.at.definitions;
-        let definitions_end = definitions + 2 * merged.latches;
-        let bad_bits = self.at.bad_bits;
-        let constraint_bits = self.at.constraint_bits;
-        let end = self.at.end;
-        let inputs = compose_lines::print_header(out, 0, head);
-        let latches = text_print::print_consecutive(out, inputs, 1, merged.inputs);
-        let bads = text_print::print_pairs(
-            out,
-            latches,
+        let definitions_end = at.definitions + 2 * merged.latches;
+        compose_lines::print_header(to, head);
+        to.consecutive(1, merged.inputs);
+        to.pairs(
             first_latch as u64,
-            &self.work[definitions..definitions_end],
+            &self.work[at.definitions..definitions_end],
         );
-        let constraints = text_print::print_set(out, bads, &self.work[bad_bits..constraint_bits]);
-        let gates = text_print::print_set(out, constraints, &self.work[constraint_bits..end]);
-        let names = compose_lines::print_gates(
-            out,
-            gates,
+        to.set(&self.work[at.bad_bits..at.constraint_bits]);
+        to.set(&self.work[at.constraint_bits..at.end]);
+        compose_lines::print_gates(
+            to,
             first_gate as u64,
-            &self.work[table..definitions],
+            &self.work[at.gates..at.definitions],
             self.totals.gates + 1,
             merged.gates,
         );
-        self.print_tail(out, names)
+        self.print_tail(to);
+    }
+
+    // The text, from the first byte of lent ones on. Returns its length.
+    pub fn print(&self, out: &mut [u8]) -> usize
+        requires { OfSome (PrintableOf self.now) }
+        ensures { PrintsWhole (PrintableOf self.now) out.old out.new result }
+    {
+        let mut to = Printer { out, at: 0 };
+        self.print_to(&mut to);
+        to.at
     }
 }

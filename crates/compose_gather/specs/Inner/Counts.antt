@@ -9,8 +9,6 @@ use Rattle.witness_text.specs.declared.AagCounts.{AagCounts}
 use Rattle.witness_read.specs.Sections.{Sections}
 use Rattle.witness_read.specs.Reading.{read_aag, counts_in}
 use Rattle.compose_spec.specs.Calling.{read_all, texts_in}
-use Rattle.compose_joint.specs.declared.Leaves.{Leaves}
-use Rattle.compose_joint.specs.declared.Leaves.TheVariants as leaf
 use Rattle.compose_gather.specs.declared.Totals.{Totals}
 use Rattle.compose_gather.specs.Inner.Checking.{added_counts, checked_from, none_yet}
 
@@ -36,15 +34,6 @@ counts_at counts w =
       justice = get_or counts (9 * w + 7) 0;
       fairness = get_or counts (9 * w + 8) 0;
     }
-
--- how many inputs, or latches, a text with these counts has, and where their names begin among its words
-abbrev pub leaf_counts : Leaves → AagCounts → ℕ
-leaf_counts leaf.Inputs n = n.inputs
-leaf_counts leaf.Latches n = n.latches
-
-abbrev pub names_before : Leaves → AagCounts → ℕ
-names_before leaf.Inputs n = 0
-names_before leaf.Latches n = 2 * n.inputs
 
 -- there is room for the counts of witness w, and the totals before it are small
 pub record CanCheck (counts : List ℕ) (w : ℕ) (t : Totals) : Type 0 where

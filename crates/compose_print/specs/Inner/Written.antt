@@ -3,7 +3,8 @@ use Rattle.std.specs.Prelude.{ℕ, suc, ◌+◌, ◌≤◌, List, [], ◌∷◌,
 use Rattle.lists.specs.Parts.{Bytes}
 use Rattle.lists.specs.Words.{words_of}
 use Rattle.text_decimal.specs.Printed.{text_of}
-use Rattle.text_print.specs.Inner.Prints.{Prints}
+use Rattle.text_print.specs.declared.Printer.{Printer}
+use Rattle.text_print.specs.Inner.Prints.{Prints, PrintsOn}
 use Rattle.text_print.specs.Inner.Lines as lines
 use Rattle.witness_read.specs.Sections.{Sections}
 use Rattle.witness_load.specs.Inner.Loaded.{latch_words}
@@ -38,8 +39,8 @@ abbrev pub PrintableOf : Composition → Sections → List Sections → Type 0
 PrintableOf c m ws = Printable c.witnesses.texts.bytes.now c.witnesses.texts.pairs.now c.work.now c.at c.merged c.totals m ws
 
 -- a text of the composition is printed
-pub record PrintsText (Holds : Sections → List Sections → Type 0) (text : Sections → List Sections → Bytes) (o : Bytes) (from : ℕ) (o' : Bytes) (r : ℕ) : Type 0 where
-  pub each : (m : Sections) (ws : List Sections) → Holds m ws → Prints o from (text m ws) o' r
+pub record PrintsText (Holds : Sections → List Sections → Type 0) (text : Sections → List Sections → Bytes) (p p' : Printer) : Type 0 where
+  pub each : (m : Sections) (ws : List Sections) → Holds m ws → PrintsOn p (text m ws) p'
 
 -- the text from the symbols of the latches on, from those of the inputs on, and so on up to the whole
 abbrev pub from_latch_names : Sections → List Sections → Bytes
@@ -65,3 +66,7 @@ from_inputs m ws = text_of (lines.literal_lines (lines.literals_from 1 (length (
 
 abbrev pub from_header : Sections → List Sections → Bytes
 from_header m ws = (header_of (composed_counts m ws) ++ 10 ∷ []) ++ from_inputs m ws
+
+-- the whole text, from the first byte of a slice on; r is its length
+pub record PrintsWhole (Holds : Sections → List Sections → Type 0) (o o' : Bytes) (r : ℕ) : Type 0 where
+  pub each : (m : Sections) (ws : List Sections) → Holds m ws → Prints o 0 (from_header m ws) o' r
