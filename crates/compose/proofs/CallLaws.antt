@@ -1,57 +1,22 @@
--- Laws of what the composer tests before and beside the composition: pairs, room, safety.
-use Prim.Native.Nat.{ℕ, zero, suc, ◌+◌, ◌-◌, ◌*◌, ◌/◌, ◌≤◌, ◌<◌}
-use mathlib.Core.Bool.{Bool, true, false, cond, not, ◌&&◌}
+-- Laws of what the composer tests before and beside the composition: safety.
+use Prim.Native.Nat.{ℕ, zero, suc, ◌+◌, ◌/◌, ◌≤◌, ◌<◌}
+use mathlib.Core.Bool.{Bool, true, false, ◌&&◌}
 use mathlib.Core.List.{List, [], ◌∷◌}
 use mathlib.Core.Logic.{◌⊎◌, inl, inr}
 use mathlib.Core.Path.{◌≡◌, refl, sym, ap, ◌∙◌}
 use native.Mathlib.Omega.{arith}
-use borrow.Author.Tests.{eq-eqb, ne_eqb, ltb-true, ltb-false, le-leb, lt-leb, lt-ltb, le-ltb}
-use lib.Dec.{eqb, leb, ltb}
 use lib.ListN.{length, get_or, drop}
 use Rattle.lists.specs.Answer.{got}
 use Rattle.lists.specs.Parts.{Bytes}
 use Rattle.lists.proofs.AnswerLaws.{got_same}
-use Rattle.lists.proofs.BoolLaws.{below_or}
 use Rattle.witness_text.specs.declared.AagCounts.{AagCounts}
-use Rattle.text.specs.Texts.{limited}
-use Rattle.witness_read.specs.Reading.{read_aag, counts_in}
 use Rattle.witness_read.specs.Sections.{Sections}
 use Rattle.compose_spec.specs.Composing.{or_outputs, safety, is_some}
 use Rattle.compose_spec.specs.Calling.{read_all, texts_in}
-use Rattle.compose_gather.specs.Inner.Counts.{counts_at, CountsListed}
+use Rattle.compose_gather.specs.Inner.Counts.{CountsOf}
 use Rattle.compose_gather.specs.Inner.Gathered.{Readable}
 use Rattle.compose_gather.proofs.TextLaws.{FirstRead, first_read, none_read, left-more, left-none}
-use Rattle.compose.specs.Inner.Steps.{first_room, all_safe, TestsSafety}
-
--- ---- 15
-
-pub room-none : (words : ℕ) → words < 1024 → 0 ≡ first_room words
-room-none words h = rw (lt-ltb words 1024 h) refl
-
-pub room-some : (words : ℕ) → 1024 ≤ words → (words - 1024) / 16 + 1 ≡ first_room words
-room-some words h = rw (le-ltb words 1024 h) refl
-
--- so many words are enough exactly when something is left of the room
-pub room-enough : (words a b : ℕ) → leb (16 * (a + b) + 1024) words ≡ not (eqb (first_room words - a - b) 0)
-room-enough words a b = go (ltb words 1024) refl
-  where
-    go : (q : Bool) → ltb words 1024 ≡ q → leb (16 * (a + b) + 1024) words ≡ not (eqb (cond q 0 ((words - 1024) / 16 + 1) - a - b) 0)
-    go true e =
-        let h : words < 1024 = ltb-true words 1024 e in
-        let z : 0 - a - b ≡ 0 = omega arith in
-        rw (lt-leb (16 * (a + b) + 1024) words (omega arith), eq-eqb (0 - a - b) 0 z) refl
-    go false e = enough (below_or ((words - 1024) / 16) (a + b))
-      where
-        h : 1024 ≤ words
-        h = ltb-false words 1024 e
-
-        enough : ((words - 1024) / 16 < a + b) ⊎ (a + b ≤ (words - 1024) / 16) → leb (16 * (a + b) + 1024) words ≡ not (eqb ((words - 1024) / 16 + 1 - a - b) 0)
-        enough (inl l) =
-            let z : (words - 1024) / 16 + 1 - a - b ≡ 0 = omega arith in
-            rw (lt-leb (16 * (a + b) + 1024) words (omega (arith, h)), eq-eqb ((words - 1024) / 16 + 1 - a - b) 0 z) refl
-        enough (inr l) =
-            let z : (words - 1024) / 16 + 1 - a - b ≡ 0 → ⊥ = λ x. omega arith in
-            rw (le-leb (16 * (a + b) + 1024) words (omega (arith, h)), ne_eqb ((words - 1024) / 16 + 1 - a - b) 0 z) refl
+use Rattle.compose.specs.Inner.Steps.{all_safe, TestsSafety}
 
 -- ---- 19
 
@@ -88,7 +53,7 @@ module _ (buffer : Bytes) (pairs : List ℕ) (w count : ℕ) (k : Safe buffer pa
       let none : drop w ws ≡ [] = left-none buffer pairs w (drop w ws) (read_drop w (texts_in buffer pairs) ws r.reads) (omega arith) in
       sym (ap all_safe none) ∙ k.rest ws r
 
-  module _ (less : w < count) (counts : List ℕ) (listed : CountsListed buffer pairs counts) (n : AagCounts) (c : n ≡ counts_at counts w) where
+  module _ (less : w < count) (n : AagCounts) (c : CountsOf (get_or (texts_in buffer pairs) w []) n) where
     next : (ws : List Sections) → Readable buffer pairs ws → FirstRead (get_or (texts_in buffer pairs) w []) (drop (w + 1) (texts_in buffer pairs)) (drop w ws)
     next ws r = left-more buffer pairs w (drop w ws) (read_drop w (texts_in buffer pairs) ws r.reads) (omega arith)
 
@@ -99,14 +64,11 @@ module _ (buffer : Bytes) (pairs : List ℕ) (w count : ℕ) (k : Safe buffer pa
         (got_same (drop (w + 1) ws) (next ws r).others (sym (read_drop (w + 1) (texts_in buffer pairs) ws r.reads) ∙ (next ws r).read_others))
         ∙ (ap all_safe (sym (next ws r).is) ∙ k.rest ws r)
 
-    counts-are : (s : Sections) → read_aag limited true (get_or (texts_in buffer pairs) w []) ≡ got s → n ≡ counts_in s
-    counts-are s e = c ∙ listed.before.each w (omega arith) s e
-
     bads-are : (ws : List Sections) (r : Readable buffer pairs ws) → n.bads ≡ length (next ws r).first.bads
-    bads-are ws r = ap (λ (m : AagCounts). m.bads) (counts-are (next ws r).first (next ws r).reads)
+    bads-are ws r = ap (λ (m : AagCounts). m.bads) (c (next ws r).first (next ws r).reads)
 
     outputs-are : (ws : List Sections) (r : Readable buffer pairs ws) → n.outputs ≡ length (next ws r).first.outputs
-    outputs-are ws r = ap (λ (m : AagCounts). m.outputs) (counts-are (next ws r).first (next ws r).reads)
+    outputs-are ws r = ap (λ (m : AagCounts). m.outputs) (c (next ws r).first (next ws r).reads)
 
     pub safe-stop : (n.bads ≡ 0) → (n.outputs ≡ 0) → TestsSafety buffer pairs false
     safe-stop b o ws r =

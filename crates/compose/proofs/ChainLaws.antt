@@ -1,36 +1,37 @@
 -- Laws of the composer from the call down to what is laid out: each function's answer from that of the next.
-use Rattle.std.specs.Prelude.{Option, Some, None, Result, Ok, Err}
+use Rattle.std.specs.Prelude.{Option, Some, None, is_some, Result, Ok, Err}
 use Rattle.std.specs.Result.{IsErrAnd}
 use Rattle.aiger.specs.declared.Refusal.{Refusal}
 use Rattle.aiger.specs.declared.Refusal.TheVariants as refusal
 use Rattle.aiger.specs.Refusals.{refusal_number}
 use Rattle.aiger.proofs.AnsweredLaws.{answered-err}
-use Prim.Native.Nat.{ℕ, ◌+◌, ◌-◌, ◌*◌}
-use mathlib.Core.Bool.{true, false, not}
+use Prim.Native.Nat.{ℕ, ◌+◌, ◌*◌}
+use mathlib.Core.Bool.{Bool, true, false, not}
 use mathlib.Core.List.{List, [], ◌∷◌}
-use mathlib.Core.Path.{◌≡◌, refl, sym, ap, ◌∙◌, subst}
+use mathlib.Core.Path.{◌≡◌, refl, sym, ap, ap₂, ◌∙◌, subst}
 use native.Mathlib.Omega.{arith}
-use borrow.Author.Tests.{eq-eqb, ne_eqb, leb-true}
-use lib.Dec.{eqb, leb}
+use borrow.Author.Tests.{leb-true}
+use lib.Dec.{leb}
 use lib.ListN.{length}
 use Rattle.lists.specs.Answer.{Answer, got, refused, and_then}
 use Rattle.lists.specs.Parts.{Bytes}
 use Rattle.lists.proofs.AnswerLaws.{got_same, got-refused}
 use Rattle.lists.specs.Tests.{all}
 use Rattle.witness_text.specs.declared.AagCounts.{AagCounts}
-use Rattle.witness_read.specs.Sections.{Sections, variables}
+use Rattle.witness_read.specs.Sections.{Sections}
 use Rattle.witness_read.specs.Reading.{counts_in}
 use Rattle.compose_spec.specs.Composing.{maps_right, compose}
 use Rattle.compose_spec.specs.Calling.{size, sizes, read_all, compose_sections, texts_in, compose_read}
 use Rattle.compose_joint.specs.Inner.Joint.{total_of, input_count, latch_count, gate_count}
 use Rattle.compose_gather.specs.declared.Totals.{Totals}
-use Rattle.compose_gather.specs.Inner.Counts.{CountsListed, ChecksAll}
-use Rattle.compose_gather.specs.Inner.Checking.{added_counts, SmallSums, totals_from, checked_from, none_yet}
+use Rattle.compose_gather.specs.Inner.Counts.{ChecksAll}
+use Rattle.compose_gather.specs.Inner.Checking.{less, room_after, added_counts, FewInOrder, totals_from, checked_from, none_yet}
 use Rattle.compose_layout.specs.declared.Layout.{Layout}
 use Rattle.compose_layout.specs.Inner.Laid.{Fitting, LaidOut, CanLay, Lays}
 use Rattle.compose_layout.proofs.StageLaws.{fitting-same}
-use Rattle.compose.specs.Inner.Steps.{first_room, room_beside, Answers, ModelIs, ModelSome, ComposesWitnesses, ComposesFitting, LaidRight, LaidSome, ComposesLaid}
-use Rattle.compose.proofs.CallLaws.{room-enough}
+use Rattle.compose.specs.Inner.Steps.{first_room, Answers, ModelIs, ModelSome, ComposesWitnesses, ComposesFitting, LaidRight, LaidSome, ComposesLaid}
+use Rattle.compose_gather.proofs.RoomLaws.{less-zero, less-less, after-less}
+use Rattle.compose.proofs.RoomLaws.{room-enough}
 
 -- a refusal leaves the result bytes as they are
 pub refuses : (out : Bytes) (answer : Answer Bytes) (m : Refusal) → answer ≡ refused (refusal_number m) → Answers out answer out (Err m)
@@ -66,34 +67,19 @@ module _ (mc : AagCounts) (t : Totals) (buffer : Bytes) (pairs work work' : List
 
 -- ---- the witnesses
 
-pub room-left : (m : AagCounts) (words x : ℕ) → x ≡ first_room words → (t : Totals) → t ≡ added_counts (record { room = x; inputs = 0; latches = 0; gates = 0 }) m → t.room ≡ room_beside m words
-room-left m words x e t f = rw (f, e) refl
-
-pub model_sums : (buffer : Bytes) (pairs : List ℕ) (mc : AagCounts) (room : ℕ) → ModelSome buffer pairs mc → SmallSums (none_yet room) mc
-model_sums buffer pairs mc room k =
-    let e = k.is.counts in
-    rw e (record { inputs = omega (arith, k.is.few); latches = omega (arith, k.is.few); gates = omega (arith, k.is.few) })
-
-two_less : (r a b : ℕ) → r - a - b ≡ r - (a + b)
-two_less r a b = omega arith
-
-four_less : (r a b c d : ℕ) → r - a - b - c - d ≡ r - (a + b + c + d)
-four_less r a b c d =
-    ap (λ (x : ℕ). x - c - d) (two_less r a b) ∙ (ap (λ (x : ℕ). x - d) (two_less r (a + b) c) ∙ two_less r (a + b + c) d)
-
 -- what is counted of all witnesses
 record Counts (t : Totals) (ws : List Sections) (u : Totals) : Type 0 where
-  room : u.room ≡ t.room - sizes ws
+  room : u.room ≡ less t.room (sizes ws)
   inputs : u.inputs ≡ t.inputs + total_of input_count ws
   latches : u.latches ≡ t.latches + total_of latch_count ws
   gates : u.gates ≡ t.gates + total_of gate_count ws
 
 counts-are : (t : Totals) (ws : List Sections) → Counts t ws (totals_from t ws)
-counts-are t [] = record { room = omega arith; inputs = omega arith; latches = omega arith; gates = omega arith }
+counts-are t [] = record { room = less-zero t.room; inputs = omega arith; latches = omega arith; gates = omega arith }
 counts-are t (s ∷ ss) =
     let k = counts-are (added_counts t (counts_in s)) ss in
     record {
-      room = k.room ∙ omega arith;
+      room = k.room ∙ (ap (λ (x : Option ℕ). less x (sizes ss)) (after-less t.room (counts_in s)) ∙ less-less t.room (size s) (sizes ss));
       inputs = k.inputs ∙ omega arith;
       latches = k.latches ∙ omega arith;
       gates = k.gates ∙ omega arith;
@@ -108,7 +94,7 @@ checked_read : (t : Totals) (a : Answer (List Sections)) (u : Totals) → got u 
 checked_read t (got ws) u e = (ws, refl, got_same u (totals_from t ws) e)
 checked_read t (refused n) u e = let e : refused n ≡ got u = sym e in got-refused e refl
 
-module _ (mc : AagCounts) (buffer : Bytes) (pairs work : List ℕ) (out : Bytes) (room : ℕ) (a : room ≡ room_beside mc (length work)) (counts : List ℕ) where
+module _ (mc : AagCounts) (buffer : Bytes) (pairs work : List ℕ) (out : Bytes) (first : Option ℕ) (f : first ≡ first_room (length work)) (room : Option ℕ) (a : room ≡ room_after first mc) (counts : List ℕ) where
   pub witnesses_refused : (m : Refusal) → ChecksAll room buffer pairs counts (Err m) → (r : Result ℕ Refusal) → IsErrAnd r (λ k. k ≡ m) → ComposesWitnesses mc buffer pairs work out out r
   witnesses_refused k checks r h =
       let f : read_all (texts_in buffer pairs) ≡ refused (refusal_number k) = checked_refused (none_yet room) (read_all (texts_in buffer pairs)) (refusal_number k) checks.is in
@@ -118,11 +104,7 @@ module _ (mc : AagCounts) (buffer : Bytes) (pairs work : List ℕ) (out : Bytes)
             (ap (λ (z : Answer (List Sections)). and_then z (compose_read (length work) (length out) m)) f) r h;
       }
 
-  module _ (t : Totals) (checks : ChecksAll room buffer pairs counts (Ok t)) where
-    -- the counts are listed
-    pub witnesses_listed : CountsListed buffer pairs counts
-    witnesses_listed = checks.lists t refl
-
+  module _ (t : Totals) (checks : ChecksAll room buffer pairs counts (Ok t)) (none : Bool) (q : is_some t.room ≡ not none) where
     all_read : (ws : List Sections) × (read_all (texts_in buffer pairs) ≡ got ws) × (t ≡ totals_from (none_yet room) ws)
     all_read = checked_read (none_yet room) (read_all (texts_in buffer pairs)) t checks.is
 
@@ -133,37 +115,36 @@ module _ (mc : AagCounts) (buffer : Bytes) (pairs work : List ℕ) (out : Bytes)
     goes m y f = ap (λ (z : Answer (List Sections)). and_then z (compose_read (length work) (length out) m)) all_read.1 ∙ f
 
     -- 15 by what is left of the room
-    enough : (m : Sections) → ModelIs buffer pairs mc m → leb (16 * sizes (m ∷ all_read.0) + 1024) (length work) ≡ not (eqb t.room 0)
+    enough : (m : Sections) → ModelIs mc m → leb (16 * sizes (m ∷ all_read.0) + 1024) (length work) ≡ is_some t.room
     enough m i =
-        let e : t.room ≡ first_room (length work) - size m - sizes all_read.0 = counted.room ∙ (ap (λ (j : ℕ). j - sizes all_read.0) (a ∙ room-model m i)) in
-        room-enough (length work) (size m) (sizes all_read.0) ∙ ap (λ (j : ℕ). not (eqb j 0)) (sym e)
-      where
-        room-model : (m : Sections) → ModelIs buffer pairs mc m → room_beside mc (length work) ≡ first_room (length work) - size m
-        room-model m i = ap (λ (n : AagCounts). room_beside n (length work)) i.counts ∙ four_less (first_room (length work)) (variables m) (length m.outputs) (length m.bads) (length m.constraints)
+        let e : room ≡ less (first_room (length work)) (size m) = a ∙ (ap₂ room_after f i.counts ∙ after-less (first_room (length work)) (counts_in m)) in
+        let g : t.room ≡ less (first_room (length work)) (sizes (m ∷ all_read.0)) =
+        counted.room ∙ (ap (λ (x : Option ℕ). less x (sizes all_read.0)) e ∙ less-less (first_room (length work)) (size m) (sizes all_read.0)) in
+        room-enough (length work) (sizes (m ∷ all_read.0)) ∙ ap is_some (sym g)
 
-    pub witnesses_short : t.room ≡ 0 → ComposesWitnesses mc buffer pairs work out out (Err refusal.ComposingRoom)
+    pub witnesses_short : none ≡ true → ComposesWitnesses mc buffer pairs work out out (Err refusal.ComposingRoom)
     witnesses_short z =
         record {
           each = λ m i.
               refuses out (and_then (read_all (texts_in buffer pairs)) (compose_read (length work) (length out) m)) refusal.ComposingRoom
-              (goes m (refused 15) (rw (enough m i, eq-eqb t.room 0 z) refl));
+              (goes m (refused 15) (rw (enough m i ∙ (q ∙ ap not z)) refl));
         }
 
-    module _ (z : t.room ≡ 0 → ⊥) where
-      long_enough : (m : Sections) → ModelIs buffer pairs mc m → leb (16 * sizes (m ∷ all_read.0) + 1024) (length work) ≡ true
-      long_enough m i = enough m i ∙ ap not (ne_eqb t.room 0 z)
+    module _ (z : none ≡ false) (cut : FewInOrder buffer pairs) where
+      long_enough : (m : Sections) → ModelIs mc m → leb (16 * sizes (m ∷ all_read.0) + 1024) (length work) ≡ true
+      long_enough m i = enough m i ∙ (q ∙ ap not z)
 
-      fitting : (m : Sections) → ModelIs buffer pairs mc m → Fitting mc t buffer pairs work m all_read.0
+      fitting : (m : Sections) → ModelIs mc m → Fitting mc t buffer pairs work m all_read.0
       fitting m i =
           record {
-            readable = record { pairs_hold = i.pairs_hold; reads = all_read.1 };
+            readable = record { pairs_hold = cut; reads = all_read.1 };
             model = i.counts;
             few = i.few;
             totals = record { inputs = counted.inputs ∙ omega arith; latches = counted.latches ∙ omega arith; gates = counted.gates ∙ omega arith };
             room = leb-true (16 * sizes (m ∷ all_read.0) + 1024) (length work) (long_enough m i);
           }
 
-      pub witnesses_fit : ModelSome buffer pairs mc → CanLay mc t buffer pairs work
+      pub witnesses_fit : ModelSome mc → CanLay mc t buffer pairs work
       witnesses_fit k = record { m = k.m; ws = all_read.0; holds = fitting k.m k.is }
 
       pub witnesses_composed : (out' : Bytes) (r : Result ℕ Refusal) → ComposesFitting mc t buffer pairs work out out' r → ComposesWitnesses mc buffer pairs work out out' r

@@ -4,7 +4,6 @@ use Rattle.std.specs.Result.{IsErrAnd}
 use Rattle.aiger.specs.declared.Refusal.{Refusal}
 use Rattle.aiger.specs.declared.Refusal.TheVariants as refusal
 use Rattle.aiger.specs.Refusals.{refusal_number}
-use Rattle.aiger.proofs.AnsweredLaws.{answered-err}
 use Prim.Native.Nat.{ℕ, ◌≤◌, ◌<◌}
 use mathlib.Core.Bool.{Bool, true, false, not}
 use mathlib.Core.List.{List, [], ◌∷◌, ◌++◌}
@@ -25,36 +24,34 @@ use Rattle.compose_spec.specs.Calling.{compose_sections, printed_within}
 use Rattle.compose_joint.proofs.AmountLaws.{leaf_count-most}
 use Rattle.compose_joint.proofs.GateLaws.{composed-gates-most}
 use Rattle.compose_gather.specs.declared.Totals.{Totals}
-use Rattle.compose_gather.specs.Inner.Checking.{FewInOrder}
 use Rattle.compose_layout.specs.declared.Layout.{Layout}
 use Rattle.compose_layout.specs.Inner.Laid.{OfSome}
 use Rattle.compose_merge.specs.declared.Merged.{Merged}
-use Rattle.compose_merge.specs.Inner.Merged.{Mergeable, Done, Outcome, Goes}
+use Rattle.compose_merge.specs.Inner.Merged.{Mergeable, Done, Goes}
 use Rattle.compose_merge.proofs.CallLaws.{readable-range, readable-few, ready_merge, ready-can, ready-kept, refused-composes, done-composes}
 use Rattle.compose_lines.proofs.PartLaws.{composed-parts}
-use Rattle.compose_print.specs.Inner.Written.{Printable, PrintableSome, PrintsText, from_header}
+use Rattle.compose_print.specs.Inner.Written.{Printable, PrintsWhole}
 use Rattle.compose.specs.Inner.Steps.{Answers, TestsSafety, all_safe, Measures, Writes, LaidRight, LaidSome, ComposesLaid}
 use Rattle.compose.proofs.ChainLaws.{refuses, refuses_on, answers-same}
 
-module _ (buffer : Bytes) (pairs work : List ℕ) (at : Layout) (c : Merged) (t : Totals) where
+module _ (Holds : Sections → List Sections → Type 0) where
   -- the whole text is printed
-  whole_text : (o : Bytes) (from : ℕ) (o' : Bytes) (r : ℕ) → PrintsText from_header buffer pairs work at c t o from o' r → (m : Sections) (ws : List Sections)
-      → Printable buffer pairs work at c t m ws → Prints o from (printed (composed m ws)) o' r
-  whole_text o from o' r p m ws k = subst (λ (x : Bytes). Prints o from x o' r) (sym (composed-parts m ws)) (p.each m ws k)
+  whole_text : (o o' : Bytes) (r : ℕ) → PrintsWhole Holds o o' r → (m : Sections) (ws : List Sections) → Holds m ws → Prints o 0 (printed (composed m ws)) o' r
+  whole_text o o' r p m ws k = subst (λ (x : Bytes). Prints o 0 x o' r) (sym (composed-parts m ws)) (p.each m ws k)
 
   empty : (l : Bytes) → length l ≡ 0 → l ≡ []
   empty [] e = refl
   empty (x ∷ xs) e = absurd (omega arith)
 
-  pub measured : (out l : Bytes) (r : ℕ) → length l ≡ 0 → PrintsText from_header buffer pairs work at c t (take 0 out) 0 l r → Measures buffer pairs work at c t out (l ++ drop 0 out) r
+  pub measured : (out l : Bytes) (r : ℕ) → length l ≡ 0 → PrintsWhole Holds (take 0 out) l r → Measures Holds out (l ++ drop 0 out) r
   measured out l r e p =
       record {
         same = ap (λ (x : Bytes). x ++ out) (empty l e);
-        size = λ m ws k. (whole_text (take 0 out) 0 l r p m ws k).next ∙ ap capped (zero-add (length (printed (composed m ws))));
+        size = λ m ws k. (whole_text (take 0 out) l r p m ws k).next ∙ ap capped (zero-add (length (printed (composed m ws))));
       }
 
-  module _ (out out₁ : Bytes) (size : ℕ) (h : Measures buffer pairs work at c t out out₁ size) where
-    pub too_long : length out₁ < size → Writes buffer pairs work at c t out out₁ (Err refusal.ResultRoom)
+  module _ (out out₁ : Bytes) (size : ℕ) (h : Measures Holds out out₁ size) where
+    pub too_long : length out₁ < size → Writes Holds out out₁ (Err refusal.ResultRoom)
     too_long l =
         record {
           each = λ m ws k.
@@ -62,11 +59,11 @@ module _ (buffer : Bytes) (pairs work : List ℕ) (at : Layout) (c : Merged) (t 
               (refuses out (printed_within (length out) (composed m ws)) refusal.ResultRoom (rw (lt-leb (length (printed (composed m ws))) (length out) (omega (arith, h.size m ws k, ap length h.same, l))) refl));
         }
 
-    pub written : length out < 9223372036854775808 → size ≤ length out₁ → (out' : Bytes) (r : ℕ) → PrintsText from_header buffer pairs work at c t out₁ 0 out' r → Writes buffer pairs work at c t out out' (Ok r)
+    pub written : length out < 9223372036854775808 → size ≤ length out₁ → (out' : Bytes) (r : ℕ) → PrintsWhole Holds out₁ out' r → Writes Holds out out' (Ok r)
     written small l out' r p =
         record {
           each = λ m ws k.
-              let x = whole_text out₁ 0 out' r p m ws k in
+              let x = whole_text out₁ out' r p m ws k in
               let text : Bytes = printed (composed m ws) in
               let fits : length text ≤ length out = omega (arith, h.size m ws k, ap length h.same, l, small) in
               let stands : out' ≡ put out₁ 0 text = x.stands (omega (arith, fits, ap length h.same)) in
@@ -85,9 +82,6 @@ module _ (buffer : Bytes) (pairs work : List ℕ) (at : Layout) (c : Merged) (t 
 module _ (mc : AagCounts) (t : Totals) (buffer : Bytes) (pairs work : List ℕ) (at : Layout) where
   pub laid_can : LaidSome mc t buffer pairs work at → OfSome (Mergeable mc t at work)
   laid_can k = ready-can mc t buffer pairs work work k.m k.ws at k.holds.fitting k.holds.ready
-
-  pub laid_pairs : LaidSome mc t buffer pairs work at → FewInOrder buffer pairs
-  laid_pairs k = k.holds.fitting.readable.pairs_hold
 
   module _ (work' : List ℕ) (same : length work' ≡ length work) where
     -- 16 to 20 of sections that compose to an answer
@@ -130,7 +124,7 @@ module _ (mc : AagCounts) (t : Totals) (buffer : Bytes) (pairs work : List ℕ) 
             fits = y.fits;
           }
 
-      pub laid_printable : LaidSome mc t buffer pairs work at → PrintableSome buffer pairs work' at c t
+      pub laid_printable : LaidSome mc t buffer pairs work at → OfSome (Printable buffer pairs work' at c t)
       laid_printable k = record { m = k.m; ws = k.ws; holds = printable k.m k.ws k.holds }
 
       module _ (b : Bool) (s : TestsSafety buffer pairs b) where
@@ -141,7 +135,7 @@ module _ (mc : AagCounts) (t : Totals) (buffer : Bytes) (pairs work : List ℕ) 
                   refuses out (compose_sections (length out) m ws) refusal.NoSafety (left (length out) m ws l ∙ rw (sym (s ws l.fitting.readable) ∙ not-true b f) refl);
             }
 
-        pub laid_written : not b ≡ false → (out out' : Bytes) (r : Result ℕ Refusal) → Writes buffer pairs work' at c t out out' r → ComposesLaid mc t buffer pairs work at out out' r
+        pub laid_written : not b ≡ false → (out out' : Bytes) (r : Result ℕ Refusal) → Writes (Printable buffer pairs work' at c t) out out' r → ComposesLaid mc t buffer pairs work at out out' r
         laid_written f out out' r h =
             record {
               each = λ m ws l.

@@ -4,13 +4,11 @@ use Rattle.std.specs.Result.{IsErrAnd}
 use Rattle.aiger.specs.declared.Refusal.{Refusal}
 use Rattle.aiger.specs.declared.Refusal.TheVariants as refusal
 use Rattle.aiger.specs.Refusals.{refusal_number, answered}
-use Rattle.aiger.proofs.AnsweredLaws.{answered-err}
 use Rattle.std.proofs.Common.{◌⊎◌, inl, inr}
 use Prim.Native.Nat.{ℕ, ◌+◌, ◌/◌, ◌≤◌, ◌<◌}
 use mathlib.Core.Bool.{Bool, true, false, not, and-false}
 use mathlib.Core.List.{List}
 use mathlib.Core.Path.{◌≡◌, refl, sym, ap, ◌∙◌, subst}
-use native.Mathlib.Omega.{arith}
 use borrow.Author.Tests.{not-true, not-false, le-leb, lt-leb}
 use lib.Dec.{leb}
 use lib.ListN.{length, take}
@@ -29,7 +27,6 @@ use Rattle.witness_read.proofs.AcceptedLaws.{read_accepted, read_got, read_refus
 use Rattle.compose_spec.specs.Calling.{read_all, compose_texts, texts_in, compose_call, compose_read}
 use Rattle.compose_spec.specs.Meaning.{Composition}
 use Rattle.compose_spec.proofs.DemandLaws.{composition-means}
-use Rattle.compose_gather.specs.Inner.Checking.{FewInOrder}
 use Rattle.compose.specs.Promise.{composed_answer, result_bytes, Composes}
 use Rattle.compose.specs.Inner.Steps.{Answers, ModelIs, ModelSome, ComposesWitnesses}
 use Rattle.compose.proofs.ChainLaws.{refuses, refuses_on, answers-same}
@@ -43,14 +40,14 @@ module _ (model buffer : Bytes) (pairs work : List ℕ) (out : Bytes) where
       refuses_on out (compose_texts (length work) (length out) model (texts_in buffer pairs)) m
       (rw (read_refused (read_aag limited false model) (refusal_number m) e) refl) r h
 
-  module _ (few : FewInOrder buffer pairs) (mc : AagCounts) (e : got mc ≡ counts_read (read_aag limited false model)) where
+  module _ (mc : AagCounts) (e : got mc ≡ counts_read (read_aag limited false model)) where
     accepted : (m : Sections) × (read_aag limited false model ≡ got m) × (mc ≡ counts_in m)
     accepted = read_got (read_aag limited false model) mc e
 
-    is : ModelIs buffer pairs mc accepted.0
-    is = record { pairs_hold = few; counts = accepted.2; few = (counted_facts (counts_in accepted.0) (read_accepted limited false model accepted.0 accepted.1).limits).most }
+    is : ModelIs mc accepted.0
+    is = record { counts = accepted.2; few = (counted_facts (counts_in accepted.0) (read_accepted limited false model accepted.0 accepted.1).limits).most }
 
-    pub model-some : ModelSome buffer pairs mc
+    pub model-some : ModelSome mc
     model-some = record { m = accepted.0; is = is }
 
     pub model-composed : (out' : Bytes) (r : Result ℕ Refusal) → ComposesWitnesses mc buffer pairs work out out' r → Answers out (compose_texts (length work) (length out) model (texts_in buffer pairs)) out' r
@@ -75,9 +72,6 @@ module _ (work room : ℕ) (model buffer : Bytes) (pairs : List ℕ) (out : Byte
     call_apart f = refuses out (compose_call work room model buffer pairs) refusal.WitnessPairs (rw (texts, le-leb 2 count some, le-leb count 64 most, sym e ∙ not-true b f) refl)
 
     module _ (t : not b ≡ false) where
-      pub call_in_order : FewInOrder buffer pairs
-      call_in_order = record { few = omega arith; order = sym e ∙ not-false b t }
-
       pub call_composed : (out' : Bytes) (r : Result ℕ Refusal) → Answers out (compose_texts work room model (texts_in buffer pairs)) out' r → Answers out (compose_call work room model buffer pairs) out' r
       unfolding compose_call
       call_composed out' r h =

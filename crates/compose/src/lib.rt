@@ -3,38 +3,30 @@
 
 ghost use Rattle.std.specs.Prelude.{◌≡◌, length, ◌+◌, ◌<◌};
 ghost use Rattle.compose_spec.specs.Calling.{texts_in, compose_texts, compose_call};
-ghost use Rattle.compose_gather.specs.Inner.Checking.{FewInOrder, SmallSums, none_yet};
-ghost use Rattle.compose_gather.specs.Inner.Counts.{CountsListed};
-ghost use Rattle.compose_layout.specs.Inner.Laid.{CanLay};
-ghost use Rattle.compose_print.specs.Inner.Written.{PrintableSome};
+ghost use Rattle.compose_layout.specs.Inner.Laid.{CanLay, OfSome};
+ghost use Rattle.compose_print.specs.Inner.Written.{PrintableOf};
 ghost use Rattle.compose.specs.Promise.{Composes};
-ghost use Rattle.compose.specs.Inner.Steps.{first_room, TestsSafety, room_beside, Answers, Measures, Writes, LaidSome, ComposesLaid, ComposesFitting, ModelSome, ComposesWitnesses};
+ghost use Rattle.compose.specs.Inner.Steps.{first_room, TestsSafety, Answers, Measures, Writes, LaidSome, ComposesLaid, ComposesFitting, ModelSome, ComposesWitnesses};
 
 use aiger::Refusal;
-use compose_gather::Totals;
+use compose_gather::{Texts, Totals, Witnesses};
 use compose_layout::Layout;
-use compose_merge::Merged;
+use compose_print::Composition;
 use witness_text::AagCounts;
 
-// How much room so many work words give.
-fn first_room(words: usize) -> usize
+// How much room so many work words give, where they are enough for the composer itself.
+fn first_room(words: usize) -> Option<usize>
     ensures { result ≡ first_room words }
 {
-    if words < 1024 {
-        return 0;
-    }
-    (words - 1024) / 16 + 1
+    Some(words.checked_sub(1024)? / 16)
 }
 
 // Whether each witness has a bad or an output (R9.19).
-fn all_safe(witnesses: &[u8], pairs: &[u64], counts: &[u64]) -> bool
-    requires few_in_order { FewInOrder witnesses.now pairs.now }
-    requires counts_listed { CountsListed witnesses.now pairs.now counts.now }
-    ensures { TestsSafety witnesses.now pairs.now result }
+fn all_safe(witnesses: &Witnesses) -> bool
+    ensures { TestsSafety witnesses.now.texts.bytes.now witnesses.now.texts.pairs.now result }
 {
-    let count = pairs.len() / 2;
-    for w in 0..count {
-        let n = compose_gather::counts::counts_at(counts, w);
+    for w in 0..witnesses.len() {
+        let n = witnesses.counts_of(w);
         if n.bads == 0 && n.outputs == 0 {
             return false;
         }
@@ -43,154 +35,103 @@ fn all_safe(witnesses: &[u8], pairs: &[u64], counts: &[u64]) -> bool
 }
 
 // How many bytes the text of a merged composition has; nothing is written.
-fn measure(
-    witnesses: &[u8],
-    pairs: &[u64],
-    counts: &[u64],
-    work: &[u64],
-    at: Layout,
-    merged: Merged,
-    totals: Totals,
-    out: &mut [u8],
-) -> usize
-    requires printable_some { PrintableSome witnesses.now pairs.now work.now at merged totals }
-    requires counts_listed { CountsListed witnesses.now pairs.now counts.now }
-    ensures { Measures witnesses.now pairs.now work.now at merged totals out.old out.new result }
+fn measure(composition: &Composition, out: &mut [u8]) -> usize
+    requires { OfSome (PrintableOf composition.now) }
+    ensures { Measures (PrintableOf composition.now) out.old out.new result }
 {
-    compose_print::print_composition(
-        &mut out[..0],
-        witnesses,
-        pairs,
-        counts,
-        work,
-        at,
-        merged,
-        totals,
-    )
+    composition.print(&mut out[..0])
 }
 
 // The text of a merged composition, where it fits.
-fn write_merged(
-    witnesses: &[u8],
-    pairs: &[u64],
-    counts: &[u64],
-    work: &[u64],
-    at: Layout,
-    merged: Merged,
-    totals: Totals,
-    out: &mut [u8],
-) -> Result<usize, Refusal>
-    requires printable_some { PrintableSome witnesses.now pairs.now work.now at merged totals }
-    requires counts_listed { CountsListed witnesses.now pairs.now counts.now }
-    ensures { Writes witnesses.now pairs.now work.now at merged totals out.old out.new result }
+fn write_merged(composition: &Composition, out: &mut [u8]) -> Result<usize, Refusal>
+    requires { OfSome (PrintableOf composition.now) }
+    ensures { Writes (PrintableOf composition.now) out.old out.new result }
 {
-    let size = measure(witnesses, pairs, counts, work, at, merged, totals, out);
+    let size = measure(composition, out);
     if out.len() < size {
         return Err(Refusal::ResultRoom);
     }
-    Ok(compose_print::print_composition(out, witnesses, pairs, counts, work, at, merged, totals))
+    Ok(composition.print(out))
 }
 
 // Composes witnesses that are laid out.
 fn compose_laid(
-    witnesses: &[u8],
-    pairs: &[u64],
-    counts: &[u64],
+    witnesses: &Witnesses,
     work: &mut [u64],
     model_counts: AagCounts,
     totals: Totals,
     at: Layout,
     out: &mut [u8],
 ) -> Result<usize, Refusal>
-    requires laid_some { LaidSome model_counts totals witnesses.now pairs.now work.old at }
-    requires counts_listed { CountsListed witnesses.now pairs.now counts.now }
-    ensures { ComposesLaid model_counts totals witnesses.now pairs.now work.old at out.old out.new result }
+    requires { LaidSome model_counts totals witnesses.now.texts.bytes.now witnesses.now.texts.pairs.now work.old at }
+    ensures { ComposesLaid model_counts totals witnesses.now.texts.bytes.now witnesses.now.texts.pairs.now work.old at out.old out.new result }
 {
     let merged = compose_merge::merge(work, at, model_counts, totals)?;
-    if !all_safe(witnesses, pairs, counts) {
+    if !all_safe(witnesses) {
         return Err(Refusal::NoSafety);
     }
-    write_merged(witnesses, pairs, counts, work, at, merged, totals, out)
+    let composition = Composition {
+        witnesses: *witnesses,
+        work,
+        at,
+        merged,
+        totals,
+    };
+    write_merged(&composition, out)
 }
 
 // Composes witnesses that are read and for which there are enough work words, for a model with these counts.
 fn compose_fitting(
-    witnesses: &[u8],
-    pairs: &[u64],
-    counts: &[u64],
+    witnesses: &Witnesses,
     work: &mut [u64],
     model_counts: AagCounts,
     totals: Totals,
     out: &mut [u8],
 ) -> Result<usize, Refusal>
-    requires can_lay { CanLay model_counts totals witnesses.now pairs.now work.old }
-    requires counts_listed { CountsListed witnesses.now pairs.now counts.now }
-    ensures { ComposesFitting model_counts totals witnesses.now pairs.now work.old out.old out.new result }
+    requires { CanLay model_counts totals witnesses.now.texts.bytes.now witnesses.now.texts.pairs.now work.old }
+    ensures { ComposesFitting model_counts totals witnesses.now.texts.bytes.now witnesses.now.texts.pairs.now work.old out.old out.new result }
 {
-    let Some(at) = compose_layout::lay(witnesses, pairs, counts, work, model_counts, totals) else {
+    let Some(at) = compose_layout::lay(witnesses, work, model_counts, totals) else {
         return Err(Refusal::Mapping);
     };
-    compose_laid(
-        witnesses,
-        pairs,
-        counts,
-        work,
-        model_counts,
-        totals,
-        at,
-        out,
-    )
-}
-
-// How much room the model leaves.
-fn room_beside(model_counts: AagCounts, words: usize) -> usize
-    requires { SmallSums (none_yet (first_room words)) model_counts }
-    ensures { result ≡ room_beside model_counts words }
-{
-    let none = Totals {
-        room: first_room(words),
-        inputs: 0,
-        latches: 0,
-        gates: 0,
-    };
-    let t = compose_gather::add_counts(none, model_counts);
-    t.room
+    compose_laid(witnesses, work, model_counts, totals, at, out)
 }
 
 // Reads the witnesses and composes them, for a model with these counts.
 fn compose_witnesses(
-    witnesses: &[u8],
-    pairs: &[u64],
+    texts: &Texts,
     work: &mut [u64],
     model_counts: AagCounts,
     out: &mut [u8],
 ) -> Result<usize, Refusal>
-    requires { ModelSome witnesses.now pairs.now model_counts }
-    ensures { ComposesWitnesses model_counts witnesses.now pairs.now work.old out.old out.new result }
+    requires { ModelSome model_counts }
+    ensures { ComposesWitnesses model_counts texts.now.bytes.now texts.now.pairs.now work.old out.old out.new result }
 {
-    let room = room_beside(model_counts, work.len());
+    let room = compose_gather::room_after(first_room(work.len()), model_counts);
     // nine for each of at most 64 witnesses
     let mut counts: [u64; 576] = [0; 576];
-    let totals = compose_gather::check_all(witnesses, pairs, room, &mut counts)?;
-    if totals.room == 0 {
+    let totals = compose_gather::check_all(texts, room, &mut counts)?;
+    if totals.room.is_none() {
         return Err(Refusal::ComposingRoom);
     }
-    compose_fitting(witnesses, pairs, &counts, work, model_counts, totals, out)
+    let witnesses = Witnesses {
+        texts: *texts,
+        counts: &counts,
+    };
+    compose_fitting(&witnesses, work, model_counts, totals, out)
 }
 
 // Reads the model, then the witnesses, and composes them.
 fn compose_texts(
     model: &[u8],
-    witnesses: &[u8],
-    pairs: &[u64],
+    texts: &Texts,
     work: &mut [u64],
     out: &mut [u8],
 ) -> Result<usize, Refusal>
-    requires { FewInOrder witnesses.now pairs.now }
-    ensures { Answers out.old (compose_texts (length work.old) (length out.old) model.now (texts_in witnesses.now pairs.now)) out.new result }
+    ensures { Answers out.old (compose_texts (length work.old) (length out.old) model.now (texts_in texts.now.bytes.now texts.now.pairs.now)) out.new result }
 {
     let model_counts = witness_read::parse_aag(model, false)?;
-    compose_witnesses(witnesses, pairs, work, model_counts, out)
+    compose_witnesses(texts, work, model_counts, out)
 }
 
 // The composition; the work words are not cleared here.
@@ -210,7 +151,11 @@ fn compose_in(
     if !lists::in_order(pairs, witnesses.len()) {
         return Err(Refusal::WitnessPairs);
     }
-    compose_texts(model, witnesses, pairs, work, out)
+    let texts = Texts {
+        bytes: witnesses,
+        pairs,
+    };
+    compose_texts(model, &texts, work, out)
 }
 
 // Composes safety witnesses for a model (R8).

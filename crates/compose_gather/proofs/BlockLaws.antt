@@ -22,7 +22,7 @@ use Rattle.witness_load.specs.Inner.Loading.{Loadable, LoadsText, HasRoom}
 use Rattle.witness_load.proofs.TextLaws.{words-counted}
 use Rattle.compose_spec.specs.Calling.{read_all, texts_in}
 use Rattle.compose_joint.specs.Inner.Joint.{total_of}
-use Rattle.compose_gather.specs.Inner.Counts.{counts_at, CountsListed}
+use Rattle.compose_gather.specs.Inner.Counts.{CountsOf}
 use Rattle.compose_gather.specs.Inner.Gathered.{words_for, LoadableAt, LoadedAt, LoadsAt, Block, Blocks, word_total, CanLoad, LoadsAll}
 use Rattle.compose_gather.proofs.TextLaws.{FirstRead, Left, left-more, left-none}
 
@@ -128,7 +128,7 @@ module _ (buffer : Bytes) (pairs work : List ℕ) (at w count : ℕ) (k : Loadin
       let whole : take w (texts_in buffer pairs) ≡ texts_in buffer pairs = take_all w (texts_in buffer pairs) (omega (arith, pairs-count (λ (o n : ℕ). part buffer o (o + n)) pairs)) in
       rw same (subst (λ (ts : List Bytes). Blocks ts k.before work) whole k.blocks, k.at-is)
 
-  module _ (less : w < count) (t : Bytes) (is : t ≡ get_or (texts_in buffer pairs) w []) (counts : List ℕ) (listed : CountsListed buffer pairs counts) (n : AagCounts) (c : n ≡ counts_at counts w) where
+  module _ (less : w < count) (t : Bytes) (is : t ≡ get_or (texts_in buffer pairs) w []) (n : AagCounts) (c : CountsOf (get_or (texts_in buffer pairs) w []) n) where
     first : FirstRead (get_or (texts_in buffer pairs) w []) (drop (w + 1) (texts_in buffer pairs)) k.rest
     first = left-more buffer pairs w k.rest k.left (omega arith)
 
@@ -136,7 +136,7 @@ module _ (buffer : Bytes) (pairs work : List ℕ) (at w count : ℕ) (k : Loadin
     reads_first = ap (read_aag limited true) is ∙ first.reads
 
     counts-first : n ≡ counts_in first.first
-    counts-first = c ∙ listed.before.each w (omega arith) first.first first.reads
+    counts-first = c first.first first.reads
 
     total : word_total (k.before ++ k.rest) ≡ at + word_count first.first + word_total first.others
     total = omega (arith, total_append word_count k.before k.rest, k.at-is, ap word_total first.is)

@@ -1,7 +1,7 @@
 -- Laws of `check_all`: what is counted of the witnesses that are read.
-use Rattle.std.specs.Prelude.{ℕ, ◌+◌, ◌-◌, ◌*◌, ◌/◌, ◌≤◌, ◌<◌, Result, Ok, Err}
+use Rattle.std.specs.Prelude.{ℕ, ◌+◌, ◌*◌, ◌/◌, ◌≤◌, ◌<◌, Option, Result, Ok, Err}
 use Rattle.std.specs.Result.{IsErrAnd}
-use mathlib.Core.Bool.{Bool, true, false}
+use mathlib.Core.Bool.{true}
 use mathlib.Core.List.{List, [], ◌∷◌}
 use mathlib.Core.Logic.{◌⊎◌, inl, inr}
 use mathlib.Core.Path.{◌≡◌, refl, sym, ap, ◌∙◌, subst}
@@ -11,7 +11,7 @@ use Rattle.lists.specs.Answer.{Answer, got, refused, and_then}
 use Rattle.lists.specs.Parts.{Bytes, put}
 use Rattle.lists.proofs.AnswerLaws.{got_same, got-refused}
 use Rattle.lists.proofs.PartLaws.{put-length}
-use Rattle.lists.proofs.BoolLaws.{below_or, true-false}
+use Rattle.lists.proofs.BoolLaws.{below_or}
 use Rattle.text.specs.Texts.{limited}
 use Rattle.aiger.specs.declared.Refusal.{Refusal}
 use Rattle.aiger.specs.Refusals.{refusal_number}
@@ -31,11 +31,6 @@ use Rattle.compose_gather.proofs.CountLaws.{counts_new, counts_old}
 -- the counts of an accepted text
 pub read_counted : (t : Bytes) (s : Sections) → read_aag limited true t ≡ got s → Counted (counts_in s)
 read_counted t s e = counted_facts (counts_in s) (read_accepted limited true t s e).limits
-
--- the room after one count and the others
-pub added_is : (t : Totals) (n : AagCounts) (a b c d : ℕ) → a ≡ t.room - n.max_variable → b ≡ a - n.outputs → c ≡ b - n.bads → d ≡ c - n.constraints
-    → ◌≡◌ {A = Totals} (record { room = d; inputs = t.inputs + n.inputs; latches = t.latches + n.latches; gates = t.gates + n.gates }) (added_counts t n)
-added_is t n a b c d e f g h = rw (h, g, f, e) refl
 
 -- ---- one text
 
@@ -71,7 +66,7 @@ module _ (x : Bytes) (w : ℕ) (t : Totals) (counts : List ℕ) where
 -- ---- all texts
 
 -- the witnesses before number w are counted, and their counts listed
-pub record Checking (buffer : Bytes) (pairs : List ℕ) (room : ℕ) (counts : List ℕ) (t : Totals) (w : ℕ) : Type 0 where
+pub record Checking (buffer : Bytes) (pairs : List ℕ) (room : Option ℕ) (counts : List ℕ) (t : Totals) (w : ℕ) : Type 0 where
   pub is : checked_from t (read_all (drop w (texts_in buffer pairs))) ≡ checked_from (none_yet room) (read_all (texts_in buffer pairs))
   pub inputs : t.inputs ≤ 2000000 * w
   pub latches : t.latches ≤ 2000000 * w
@@ -79,7 +74,7 @@ pub record Checking (buffer : Bytes) (pairs : List ℕ) (room : ℕ) (counts : L
   pub fits : 9 * (length pairs / 2) ≤ length counts
   pub listed : CountsBefore buffer pairs counts w
 
-pub checking-none : (buffer : Bytes) (pairs : List ℕ) (room : ℕ) (counts : List ℕ) → 9 * (length pairs / 2) ≤ length counts → Checking buffer pairs room counts (none_yet room) 0
+pub checking-none : (buffer : Bytes) (pairs : List ℕ) (room : Option ℕ) (counts : List ℕ) → 9 * (length pairs / 2) ≤ length counts → Checking buffer pairs room counts (none_yet room) 0
 checking-none buffer pairs room counts h =
     record { is = refl; inputs = omega arith; latches = omega arith; gates = omega arith; fits = h; listed = record { each = λ v g. absurd (omega arith) } }
 
@@ -97,7 +92,7 @@ read_sections : (t u : Totals) (x : Answer Sections) → checked_one t x ≡ got
 read_sections t u (got s) e = (s, refl, sym (got_same (added_counts t (counts_in s)) u e))
 read_sections t u (refused k) e = got-refused e refl
 
-module _ (buffer : Bytes) (pairs : List ℕ) (room : ℕ) (counts : List ℕ) (t : Totals) (w count : ℕ) (k : Checking buffer pairs room counts t w) (all : count ≡ length pairs / 2) where
+module _ (buffer : Bytes) (pairs : List ℕ) (room : Option ℕ) (counts : List ℕ) (t : Totals) (w count : ℕ) (k : Checking buffer pairs room counts t w) (all : count ≡ length pairs / 2) where
   pub checking-end : count ≤ w → ChecksAll room buffer pairs counts (Ok t)
   checking-end h =
       record {

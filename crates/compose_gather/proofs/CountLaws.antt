@@ -1,6 +1,6 @@
 -- Laws of the list of the witnesses' counts.
 use Prim.Native.Nat.{ℕ, ◌+◌, ◌-◌, ◌*◌, ◌≤◌, ◌<◌}
-use mathlib.Core.List.{List, [], ◌∷◌, append-nil}
+use mathlib.Core.List.{List, append-nil}
 use mathlib.Core.Path.{◌≡◌, refl, sym, ap, ◌∙◌, subst}
 use native.Mathlib.Omega.{arith}
 use borrow.Rule.Slice.PartMut.{put_mid}
@@ -12,7 +12,8 @@ use Rattle.witness_read.specs.Sections.{Sections}
 use Rattle.witness_read.specs.Reading.{counts_in}
 use Rattle.compose_joint.specs.declared.Leaves.{Leaves}
 use Rattle.compose_joint.specs.declared.Leaves.TheVariants as leaf
-use Rattle.compose_gather.specs.Inner.Counts.{count_words, counts_at, leaf_counts, names_before}
+use Rattle.compose_gather.specs.Inner.Counts.{count_words, counts_at}
+use Rattle.compose_joint.specs.Inner.Joint.{leaf_counts, names_before}
 use Rattle.compose_gather.specs.Inner.Gathered.{words_for, leaf_count_of}
 
 -- ---- stored and read
@@ -25,11 +26,6 @@ nine_stored o w n b h e =
     sym (rw (drop_of_length-le (part o (9 * w) (9 * w + 9)) {i = length b} (omega (arith, size, ap length e))) (append-nil b)) in
     ap (put_mid (9 * w) (9 * w + 9 - 9 * w) o) whole
     ∙ (put_back o (9 * w) b (omega arith) (9 * w + 9) (omega (arith, ap length e)) (omega arith) ∙ ap (put o (9 * w)) e)
-
-pub nine_read : (counts : List ℕ) (at w m i l o a b c j f : ℕ) → at ≡ 9 * w → m ≡ get_or counts at 0 → i ≡ get_or counts (at + 1) 0 → l ≡ get_or counts (at + 2) 0 → o ≡ get_or counts (at + 3) 0
-    → a ≡ get_or counts (at + 4) 0 → b ≡ get_or counts (at + 5) 0 → c ≡ get_or counts (at + 6) 0 → j ≡ get_or counts (at + 7) 0 → f ≡ get_or counts (at + 8) 0
-    → ◌≡◌ {A = AagCounts} (record { max_variable = m; inputs = i; latches = l; outputs = o; gates = a; bads = b; constraints = c; justice = j; fairness = f }) (counts_at counts w)
-nine_read counts at w m i l o a b c j f z p q r s t u v x y = rw (p, q, r, s, t, u, v, x, y, z) refl
 
 -- ---- witness by witness
 
@@ -59,10 +55,3 @@ counts-leaves leaf.Latches s = sym (length-map s.latches (λ q. q.name))
 pub leaves-within : (leaves : Leaves) (n : AagCounts) → names_before leaves n + 2 * leaf_counts leaves n ≤ words_for n
 leaves-within leaf.Inputs n = omega arith
 leaves-within leaf.Latches n = omega arith
-
-module _ (leaves : Leaves) (n : AagCounts) where
-  pub before-inputs : leaves ≡ leaf.Inputs → 0 ≡ names_before leaves n
-  before-inputs e = rw e refl
-
-  pub before-latches : leaves ≡ leaf.Latches → 2 * n.inputs ≡ names_before leaves n
-  before-latches e = rw e refl

@@ -1,6 +1,7 @@
 -- Laws of gathering.
 pub mod TextLaws
 pub mod CountLaws
+pub mod RoomLaws
 pub mod CheckLaws
 pub mod BlockLaws
 pub mod ShiftLaws

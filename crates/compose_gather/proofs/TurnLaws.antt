@@ -28,7 +28,7 @@ use Rattle.compose_joint.specs.declared.Before.{Before}
 use Rattle.compose_joint.specs.declared.Literals.{Literals}
 use Rattle.compose_joint.specs.declared.Literals.TheVariants as literals
 use Rattle.compose_joint.specs.Inner.Joint.{total_of, input_count, latch_count, gate_count, shift_of, shifted_literal, joint_literals, list_of, beyond}
-use Rattle.compose_gather.specs.Inner.Counts.{counts_at, CountsListed}
+use Rattle.compose_gather.specs.Inner.Counts.{CountsOf}
 use Rattle.compose_gather.specs.Inner.Gathered.{words_for, RightTotals, range_of, literal_count, shift_for, beyond_counts, SmallBefore, CanShiftList, ShiftsRange}
 use Rattle.compose_gather.proofs.TextLaws.{first_read, none_read}
 use Rattle.compose_gather.proofs.CheckLaws.{read_counted}
@@ -88,12 +88,12 @@ part-behind v w to from a c e h =
 
 module _ (kind : Literals) (i q : ℕ) (buffer : Bytes) (pairs work₀ work : List ℕ) (to from at : ℕ) (b : Before) (w all : ℕ)
     (k : Gathering (joint_literals (list_of kind) i q) (literal_count kind) buffer pairs work₀ work to from at b w) (number : all ≡ length pairs / 2) (less : w < all)
-    (right : RightTotals buffer pairs i q) (listed : List ℕ) (d : CountsListed buffer pairs listed) (n : AagCounts) (c : n ≡ counts_at listed w) where
+    (right : RightTotals buffer pairs i q) (n : AagCounts) (c : CountsOf (get_or (texts_in buffer pairs) w []) n) where
   next : Next (joint_literals (list_of kind) i q) (literal_count kind) buffer pairs work₀ work to from at b w k.ws
   next = gathering-next (joint_literals (list_of kind) i q) (literal_count kind) buffer pairs to work₀ work from at b w all k number less
 
   counts : n ≡ counts_in next.first
-  counts = c ∙ d.before.each w (omega arith) next.first next.reads
+  counts = c next.first next.reads
 
   totals : (i ≡ total_of input_count k.ws) × (q ≡ total_of latch_count k.ws)
   totals = right k.ws k.readable

@@ -1,14 +1,12 @@
 // The counts of all witnesses in a lent list, nine words for each, so that no pass reads headers for them.
 ghost use Rattle.std.specs.Prelude.{[], ◌∷◌, ◌≡◌, ◌+◌, ◌*◌, ◌<◌, length};
 ghost use Rattle.lists.specs.Parts.{put};
-ghost use Rattle.compose_gather.specs.Inner.Counts.{count_words, counts_at, leaf_counts, names_before};
-ghost use Rattle.compose_gather.specs.Inner.Gathered.{words_for};
+ghost use Rattle.compose_gather.specs.Inner.Counts.{count_words, counts_at};
 
-use compose_joint::Leaves;
 use witness_text::AagCounts;
 
 // Stores the counts of witness w.
-pub fn store(counts: &mut [u64], w: usize, witness: AagCounts)
+pub(crate) fn store(counts: &mut [u64], w: usize, witness: AagCounts)
     requires { 9 * w + 8 < length counts.old }
     ensures { counts.new ≡ put counts.old (9 * w) (count_words witness) }
 {
@@ -28,7 +26,7 @@ pub fn store(counts: &mut [u64], w: usize, witness: AagCounts)
 }
 
 // The counts of witness w.
-pub fn counts_at(counts: &[u64], w: usize) -> AagCounts
+pub(crate) fn counts_at(counts: &[u64], w: usize) -> AagCounts
     requires { 9 * w + 8 < length counts.now }
     ensures { result ≡ counts_at counts.now w }
 {
@@ -43,26 +41,5 @@ pub fn counts_at(counts: &[u64], w: usize) -> AagCounts
         constraints: counts[at + 6] as usize,
         justice: counts[at + 7] as usize,
         fairness: counts[at + 8] as usize,
-    }
-}
-
-// How many inputs, or latches, a text with these counts has.
-pub fn leaf_count(leaves: Leaves, counts: AagCounts) -> usize
-    ensures { result ≡ leaf_counts leaves counts }
-{
-    match leaves {
-        Leaves::Inputs => counts.inputs,
-        Leaves::Latches => counts.latches,
-    }
-}
-
-// Where their names begin among the words of the text.
-pub fn names_before(leaves: Leaves, counts: AagCounts) -> usize
-    requires { words_for counts < 18446744073709551616 }
-    ensures { result ≡ names_before leaves counts }
-{
-    match leaves {
-        Leaves::Inputs => 0,
-        Leaves::Latches => 2 * counts.inputs,
     }
 }

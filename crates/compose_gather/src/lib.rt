@@ -1,24 +1,24 @@
 // All witnesses of a call: read, loaded into the work words, and gathered into lists of the joint circuit.
 #![tactic(auto)]
 
-ghost use Rattle.std.specs.Prelude.{true, [], ◌≡◌, ◌+◌, ◌-◌, ◌*◌, ◌/◌, ◌≤◌, ◌<◌, length, get_or};
+ghost use Rattle.std.specs.Prelude.{◌≡◌, ◌+◌, ◌-◌, ◌*◌, ◌/◌, ◌≤◌, ◌<◌, length};
 ghost use Rattle.lists.specs.Parts.{part};
-ghost use Rattle.lists.specs.Words.{in_order};
-ghost use Rattle.compose_spec.specs.Calling.{texts_in};
-ghost use Rattle.compose_gather.specs.Inner.Checking.{added_counts, SmallSums, FewInOrder};
-ghost use Rattle.compose_gather.specs.Inner.Counts.{CanCheck, ChecksOne, CountsListed, ChecksAll};
+ghost use Rattle.compose_gather.specs.Inner.Checking.{less, room_after, added_counts, SmallSums};
+ghost use Rattle.compose_gather.specs.Inner.Counts.{CanCheck, ChecksOne, ChecksAll};
 ghost use Rattle.compose_gather.specs.Inner.Gathered.{words_for, LoadableAt, LoadsAt, CanLoad, LoadsAll};
 
 pub mod counts;
 pub mod literals;
+mod texts;
 
 use aiger::Refusal;
+pub use texts::{Texts, Witnesses};
 use witness_text::AagCounts;
 
-// What is counted of all witnesses, and how much of the room the texts leave: 0 where they need too much, else one more than is left.
+// What is counted of all witnesses, and how much of the room the texts leave, where it is enough for them.
 #[derive(Clone, Copy)]
 pub struct Totals {
-    pub room: usize,
+    pub room: Option<usize>,
     pub inputs: usize,
     pub latches: usize,
     pub gates: usize,
@@ -40,36 +40,30 @@ pub fn piece(s: &[u8], start: usize, size: usize) -> &[u8]
     &s[start..end]
 }
 
-// The text of witness w.
-pub fn text_at<'a>(witnesses: &'a [u8], pairs: &[u64], w: usize) -> &'a [u8]
-    requires { (in_order 0 (length witnesses.now) pairs.now ≡ true) × (w < length pairs.now / 2) }
-    ensures { result.now ≡ get_or (texts_in witnesses.now pairs.now) w [] }
+// The room without so much, where it is enough.
+fn less(room: Option<usize>, n: usize) -> Option<usize>
+    ensures { result ≡ less room n }
 {
-    let start = pairs[2 * w] as usize;
-    let size = pairs[2 * w + 1] as usize;
-    piece(witnesses, start, size)
+    room?.checked_sub(n)
 }
 
-// a - b, or 0 where b is more.
-fn less(a: usize, b: usize) -> usize
-    ensures { result ≡ a - b }
+// The room that a text with these counts leaves.
+pub fn room_after(room: Option<usize>, counts: AagCounts) -> Option<usize>
+    ensures { result ≡ room_after room counts }
 {
-    if a < b {
-        return 0;
-    }
-    a - b
+    let a = less(room, counts.max_variable);
+    let b = less(a, counts.outputs);
+    let c = less(b, counts.bads);
+    less(c, counts.constraints)
 }
 
 // The totals with one more text.
-pub fn add_counts(totals: Totals, counts: AagCounts) -> Totals
+fn add_counts(totals: Totals, counts: AagCounts) -> Totals
     requires { SmallSums totals counts }
     ensures { result ≡ added_counts totals counts }
 {
-    let a = less(totals.room, counts.max_variable);
-    let b = less(a, counts.outputs);
-    let c = less(b, counts.bads);
     Totals {
-        room: less(c, counts.constraints),
+        room: room_after(totals.room, counts),
         inputs: totals.inputs + counts.inputs,
         latches: totals.latches + counts.latches,
         gates: totals.gates + counts.gates,
@@ -87,25 +81,18 @@ fn check_one(text: &[u8], counts: &mut [u64], w: usize, totals: Totals) -> Resul
 }
 
 // Reads all witnesses in their order, and lists their counts.
-pub fn check_all(
-    witnesses: &[u8],
-    pairs: &[u64],
-    room: usize,
-    counts: &mut [u64],
-) -> Result<Totals, Refusal>
-    requires few_in_order { FewInOrder witnesses.now pairs.now }
-    requires pairs_in_bounds { 9 * (length pairs.now / 2) ≤ length counts.old }
-    ensures { ChecksAll room witnesses.now pairs.now counts.new result }
+pub fn check_all(texts: &Texts, room: Option<usize>, counts: &mut [u64]) -> Result<Totals, Refusal>
+    requires { 9 * (length texts.now.pairs.now / 2) ≤ length counts.old }
+    ensures { ChecksAll room texts.now.bytes.now texts.now.pairs.now counts.new result }
 {
-    let count = pairs.len() / 2;
     let mut totals = Totals {
         room,
         inputs: 0,
         latches: 0,
         gates: 0,
     };
-    for w in 0..count {
-        totals = check_one(text_at(witnesses, pairs, w), counts, w, totals)?;
+    for w in 0..texts.len() {
+        totals = check_one(texts.text(w), counts, w, totals)?;
     }
     Ok(totals)
 }
@@ -141,16 +128,13 @@ fn load_at(text: &[u8], counts: AagCounts, work: &mut [u64], at: usize) -> usize
 }
 
 // Loads all witnesses in front of the words, and returns how many words that takes.
-pub fn load_all(witnesses: &[u8], pairs: &[u64], counts: &[u64], work: &mut [u64]) -> usize
-    requires can_load { CanLoad witnesses.now pairs.now work.old }
-    requires counts_listed { CountsListed witnesses.now pairs.now counts.now }
-    ensures { LoadsAll witnesses.now pairs.now work.new result }
+pub fn load_all(witnesses: &Witnesses, work: &mut [u64]) -> usize
+    requires { CanLoad witnesses.now.texts.bytes.now witnesses.now.texts.pairs.now work.old }
+    ensures { LoadsAll witnesses.now.texts.bytes.now witnesses.now.texts.pairs.now work.new result }
 {
-    let count = pairs.len() / 2;
     let mut at = 0;
-    for w in 0..count {
-        let text = text_at(witnesses, pairs, w);
-        at = load_at(text, counts::counts_at(counts, w), work, at);
+    for w in 0..witnesses.len() {
+        at = load_at(witnesses.text(w), witnesses.counts_of(w), work, at);
     }
     at
 }

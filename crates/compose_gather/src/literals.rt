@@ -2,10 +2,9 @@
 ghost use Rattle.std.specs.Prelude.{map, ◌≡◌, ◌+◌, ◌<◌};
 ghost use Rattle.lists.specs.Parts.{part, put};
 ghost use Rattle.compose_joint.specs.Inner.Joint.{shifted, shifted_literal, joint_literals, list_of};
-ghost use Rattle.compose_gather.specs.Inner.Counts.{CountsListed};
 ghost use Rattle.compose_gather.specs.Inner.Gathered.{words_for, range_of, Shiftable, SmallWord, CanShift, shift_for, beyond_counts, SmallBefore, CanShiftList, ShiftsRange, literal_count, CanGather, RightTotals, Gathers};
 
-use crate::Range;
+use crate::{Range, Witnesses};
 use compose_joint::{Before, Literals, Shift};
 use witness_text::AagCounts;
 
@@ -134,23 +133,19 @@ fn shift_list(
     shift_range(range, by, work, from, to)
 }
 
-// A list of all witnesses, from a place on. Returns the place after it. The texts are lent for the contract alone, which says of which witnesses the words are.
+// A list of all witnesses, from a place on. Returns the place after it.
 pub fn gather(
-    witnesses: &[u8],
-    pairs: &[u64],
-    counts: &[u64],
+    witnesses: &Witnesses,
     work: &mut [u64],
     kind: Literals,
     inputs: usize,
     latches: usize,
     to: usize,
 ) -> usize
-    requires can_gather { CanGather (literal_count kind) witnesses.now pairs.now work.old to }
-    requires counts_listed { CountsListed witnesses.now pairs.now counts.now }
-    requires right_totals { RightTotals witnesses.now pairs.now inputs latches }
-    ensures { Gathers (joint_literals (list_of kind) inputs latches) (literal_count kind) witnesses.now pairs.now work.old to work.new result }
+    requires can_gather { CanGather (literal_count kind) witnesses.now.texts.bytes.now witnesses.now.texts.pairs.now work.old to }
+    requires right_totals { RightTotals witnesses.now.texts.bytes.now witnesses.now.texts.pairs.now inputs latches }
+    ensures { Gathers (joint_literals (list_of kind) inputs latches) (literal_count kind) witnesses.now.texts.bytes.now witnesses.now.texts.pairs.now work.old to work.new result }
 {
-    let count = pairs.len() / 2;
     let mut b = Before {
         inputs: 0,
         latches: 0,
@@ -158,8 +153,8 @@ pub fn gather(
     };
     let mut from = 0;
     let mut at = to;
-    for w in 0..count {
-        let n = crate::counts::counts_at(counts, w);
+    for w in 0..witnesses.len() {
+        let n = witnesses.counts_of(w);
         let next = crate::after_words(n, from, at);
         at = shift_list(kind, n, inputs, latches, b, work, from, at);
         from = next;

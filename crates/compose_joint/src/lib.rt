@@ -1,6 +1,8 @@
 // The composer works on all witnesses side by side, as one circuit with joint variables: 0, then all inputs, all latches, all gates. The definitions stand in specs/.
 #![tactic(auto)]
 
+use witness_text::AagCounts;
+
 // How the variables of one witness become joint ones: those up to `inputs`, those up to `leaves`, and the gates, each moved up by a number of its own.
 #[derive(Clone, Copy)]
 pub struct Shift {
@@ -33,4 +35,50 @@ pub enum Literals {
 pub enum Leaves {
     Inputs,
     Latches,
+}
+
+impl Leaves {
+    ghost use Rattle.std.specs.Prelude.{◌≡◌, ◌*◌, ◌<◌, ◌^◌};
+    ghost use Rattle.compose_joint.specs.Inner.Joint.{leaf_counts, names_before, kind_of, unnamed_of};
+
+    // How many a text with these counts has.
+    pub fn count(self, counts: AagCounts) -> usize
+        ensures { result ≡ leaf_counts self counts }
+    {
+        match self {
+            Leaves::Inputs => counts.inputs,
+            Leaves::Latches => counts.latches,
+        }
+    }
+
+    // Where their names begin among the words of the text.
+    pub fn names_before(self, counts: AagCounts) -> usize
+        requires { 2 * counts.inputs < 2 ^ 64 }
+        ensures { result ≡ names_before self counts }
+    {
+        match self {
+            Leaves::Inputs => 0,
+            Leaves::Latches => 2 * counts.inputs,
+        }
+    }
+
+    // The byte that begins their symbol lines.
+    pub fn kind(self) -> u8
+        ensures { result ≡ kind_of self }
+    {
+        match self {
+            Leaves::Inputs => b'i',
+            Leaves::Latches => b'l',
+        }
+    }
+
+    // What stands for a name where there is none.
+    pub fn unnamed(self) -> &'static [u8]
+        ensures { result.now ≡ unnamed_of self }
+    {
+        match self {
+            Leaves::Inputs => b"private-input",
+            Leaves::Latches => b"private-latch",
+        }
+    }
 }

@@ -2,10 +2,9 @@
 #![tactic(auto)]
 
 ghost use Rattle.std.specs.Prelude.{◌≡◌};
-ghost use Rattle.compose_gather.specs.Inner.Counts.{CountsListed};
 ghost use Rattle.compose_layout.specs.Inner.Laid.{CanLay, Lays, CanList, ListsLaid, LayoutFits, layout_of};
 
-use compose_gather::Totals;
+use compose_gather::{Totals, Witnesses};
 use compose_joint::{Leaves, Literals};
 use compose_spec::ModelLeaves;
 use witness_text::AagCounts;
@@ -77,22 +76,13 @@ fn place_regions(
 }
 
 // Loads the witnesses, and lists their literals behind the words of the texts: of the latches, the operands of the gates, the safety literals, the constraints.
-fn lay_lists(
-    witnesses: &[u8],
-    pairs: &[u64],
-    counts: &[u64],
-    work: &mut [u64],
-    totals: Totals,
-) -> Lists
-    requires can_list { CanList totals witnesses.now pairs.now work.old }
-    requires counts_listed { CountsListed witnesses.now pairs.now counts.now }
-    ensures { ListsLaid totals witnesses.now pairs.now work.old work.new result }
+fn lay_lists(witnesses: &Witnesses, work: &mut [u64], totals: Totals) -> Lists
+    requires { CanList totals witnesses.now.texts.bytes.now witnesses.now.texts.pairs.now work.old }
+    ensures { ListsLaid totals witnesses.now.texts.bytes.now witnesses.now.texts.pairs.now work.old work.new result }
 {
-    let latches = compose_gather::load_all(witnesses, pairs, counts, work);
+    let latches = compose_gather::load_all(witnesses, work);
     let operands = compose_gather::literals::gather(
         witnesses,
-        pairs,
-        counts,
         work,
         Literals::Latches,
         totals.inputs,
@@ -101,8 +91,6 @@ fn lay_lists(
     );
     let safety = compose_gather::literals::gather(
         witnesses,
-        pairs,
-        counts,
         work,
         Literals::Operands,
         totals.inputs,
@@ -111,8 +99,6 @@ fn lay_lists(
     );
     let constraints = compose_gather::literals::gather(
         witnesses,
-        pairs,
-        counts,
         work,
         Literals::Safety,
         totals.inputs,
@@ -121,8 +107,6 @@ fn lay_lists(
     );
     let end = compose_gather::literals::gather(
         witnesses,
-        pairs,
-        counts,
         work,
         Literals::Constraints,
         totals.inputs,
@@ -140,26 +124,21 @@ fn lay_lists(
 
 // Loads the witnesses and lays out what is read of them: the lists, then the origins of the inputs and of the latches. Nothing where a literal is wrong (R9.16).
 pub fn lay(
-    witnesses: &[u8],
-    pairs: &[u64],
-    counts: &[u64],
+    witnesses: &Witnesses,
     work: &mut [u64],
     model_counts: AagCounts,
     totals: Totals,
 ) -> Option<Layout>
-    requires can_lay { CanLay model_counts totals witnesses.now pairs.now work.old }
-    requires counts_listed { CountsListed witnesses.now pairs.now counts.now }
-    ensures { Lays model_counts totals witnesses.now pairs.now work.old work.new result }
+    requires { CanLay model_counts totals witnesses.now.texts.bytes.now witnesses.now.texts.pairs.now work.old }
+    ensures { Lays model_counts totals witnesses.now.texts.bytes.now witnesses.now.texts.pairs.now work.old work.new result }
 {
-    let lists = lay_lists(witnesses, pairs, counts, work, totals);
+    let lists = lay_lists(witnesses, work, totals);
     let model_inputs = ModelLeaves {
         before: 0,
         count: model_counts.inputs,
     };
     let latch_origins = compose_origins::gather_origins(
         witnesses,
-        pairs,
-        counts,
         work,
         Leaves::Inputs,
         model_inputs,
@@ -171,8 +150,6 @@ pub fn lay(
     };
     let assigned = compose_origins::gather_origins(
         witnesses,
-        pairs,
-        counts,
         work,
         Leaves::Latches,
         model_latches,

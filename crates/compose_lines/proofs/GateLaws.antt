@@ -8,12 +8,12 @@ use lib.ListN.{length, get_or, length-map}
 use Rattle.lists.specs.Parts.{Bytes}
 use Rattle.lists.specs.Tests.{Each}
 use Rattle.text_decimal.specs.Printed.{number_line, text_of}
-use Rattle.text_print.specs.Inner.Prints.{Prints}
-use Rattle.text_print.proofs.PrintsLaws.{Word, Printing, printing-none, printing-more, printing-done}
+use Rattle.text_print.specs.declared.Printer.{Printer}
+use Rattle.text_print.specs.Inner.Prints.{PrintsOn}
+use Rattle.text_print.proofs.PrintsLaws.{Printing, prints_as, printing-none, printing-more, printing-done}
 use Rattle.compose_spec.specs.Sharing.{Operands, gates_from}
 use Rattle.compose_spec.specs.Inner.Keys.{key_of}
 use Rattle.compose_spec.specs.Printing.{gate_lines}
-use Rattle.compose_names.proofs.PieceLaws.{prints_as}
 use Rattle.compose_lines.specs.Inner.GateText.{Narrow, CanPrintGates, PrintsGates}
 
 -- key k of the words
@@ -53,35 +53,33 @@ module _ (first : ℕ) (table : List ℕ) (heads count : ℕ) where
   all = text_of (key_lines table heads first 0 count)
 
   -- the gates in front of number k are printed; x is the next variable
-  pub record GateWalk (o₀ : Bytes) (at : ℕ) (o : Bytes) (to x k : ℕ) : Type 0 where
-    pub printing : Printing o₀ at all o to (text_of (key_lines table heads x k (count - k)))
+  pub record GateWalk (p₀ p : Printer) (x k : ℕ) : Type 0 where
+    pub printing : Printing p₀ all p (text_of (key_lines table heads x k (count - k)))
     pub number : x ≡ first + k
     pub passed : k ≤ count
     pub fits : heads + 3 * count ≤ length table
     pub small : first + count < 4294967296
-    pub lent : Word (length o₀)
 
   -- before the loop
-  pub walk_none : (o : Bytes) (at : ℕ) → CanPrintGates first table heads count → Word at → Word (length o) → GateWalk o at o at first 0
-  walk_none o at c h lent =
+  pub walk_none : (p : Printer) → CanPrintGates first table heads count → GateWalk p p first 0
+  walk_none p c =
       let z : count - 0 ≡ count = omega arith in
       record {
-        printing = rw z (printing-none o at all h);
+        printing = rw z (printing-none p all);
         number = omega arith;
         passed = omega arith;
         fits = omega (arith, c.keys.held.fits, c.keys.counted, length-map c.gs key_of);
         small = c.keys.small;
-        lent = lent;
       }
 
   -- there is a key
   pub key-some : (k : ℕ) → CanPrintGates first table heads count → k < count → 1 ≤ get_or table (heads + 3 * k) 0
   key-some k c h = omega (arith, c.keys.held.key k (omega (arith, c.keys.counted, length-map c.gs key_of)))
 
-  module _ (o₀ : Bytes) (at : ℕ) (o : Bytes) (to x k : ℕ) (w : GateWalk o₀ at o to x k) where
+  module _ (p₀ p : Printer) (x k : ℕ) (w : GateWalk p₀ p x k) where
     -- a turn
-    pub walk_more : (o' : Bytes) (to' : ℕ) → k < count → length o' ≡ length o → Prints o to (key_line x (key_at table heads k) ++ 10 ∷ []) o' to' → GateWalk o₀ at o' to' (x + 1) (k + 1)
-    walk_more o' to' h same p =
+    pub walk_more : (p' : Printer) → k < count → PrintsOn p (key_line x (key_at table heads k) ++ 10 ∷ []) p' → GateWalk p₀ p' (x + 1) (k + 1)
+    walk_more p' h q =
         let n : count - k ≡ suc (count - (k + 1)) = omega arith in
         let split : text_of (key_lines table heads x k (count - k)) ≡ (key_line x (key_at table heads k) ++ 10 ∷ []) ++ text_of (key_lines table heads (x + 1) (k + 1) (count - (k + 1))) =
         ap (λ (l : ℕ). text_of (key_lines table heads x k l)) n
@@ -89,17 +87,16 @@ module _ (first : ℕ) (table : List ℕ) (heads count : ℕ) where
         ∙ ap₂ (λ (y j : ℕ). (key_line x (key_at table heads k) ++ 10 ∷ []) ++ text_of (key_lines table heads y j (count - (k + 1)))) (sym (add-one x)) (sym (add-one k))) in
         record {
           printing =
-              printing-more o₀ at all o to (text_of (key_lines table heads x k (count - k))) w.printing (key_line x (key_at table heads k) ++ 10 ∷ [])
-              (text_of (key_lines table heads (x + 1) (k + 1) (count - (k + 1)))) o' to' w.lent split same p;
+              printing-more p₀ all p (text_of (key_lines table heads x k (count - k))) w.printing (key_line x (key_at table heads k) ++ 10 ∷ [])
+              (text_of (key_lines table heads (x + 1) (k + 1) (count - (k + 1)))) p' split q;
           number = omega (arith, w.number);
           passed = omega arith;
           fits = w.fits;
           small = w.small;
-          lent = w.lent;
         }
 
     -- after the loop, whichever gates the keys are of
-    pub walk_end : count ≤ k → PrintsGates first table heads count o₀ at o to
+    pub walk_end : count ≤ k → PrintsGates first table heads count p₀ p
     walk_end h gs c =
         let n : count - k ≡ 0 = omega arith in
         let none : text_of (key_lines table heads x k (count - k)) ≡ [] = ap (λ (l : ℕ). text_of (key_lines table heads x k l)) n in
@@ -107,5 +104,5 @@ module _ (first : ℕ) (table : List ℕ) (heads count : ℕ) where
         λ j l. let z : 0 + j ≡ j = omega arith in ap (λ (i : ℕ). get_or table (heads + 3 * i) 0) z ∙ c.held.key j (omega (arith, length-map gs key_of)) in
         let lines : key_lines table heads first 0 count ≡ gate_lines (gates_from first gs) =
         ap (key_lines table heads first 0) (sym c.counted) ∙ lines_are table heads first 0 gs keys c.narrow in
-        prints_as o₀ at all (text_of (gate_lines (gates_from first gs))) o to (ap text_of lines)
-        (printing-done o₀ at all o to (text_of (key_lines table heads x k (count - k))) w.printing none)
+        prints_as p₀ all p (text_of (gate_lines (gates_from first gs))) (ap text_of lines)
+        (printing-done p₀ all p (text_of (key_lines table heads x k (count - k))) w.printing none)

@@ -1,43 +1,41 @@
 -- The header, piece by piece.
-use Prim.Native.Nat.{ℕ, ◌+◌, ◌<◌}
+use Prim.Native.Nat.{ℕ}
 use mathlib.Core.List.{List, [], ◌∷◌, ◌++◌, map, append-nil}
-use mathlib.Core.Path.{◌≡◌, refl, sym, ap, ◌∙◌}
-use lib.ListN.{length, get_or, drop}
+use mathlib.Core.Path.{◌≡◌, refl, sym, ap}
 use Rattle.lists.specs.Parts.{Bytes}
-use Rattle.lists.proofs.RestLaws.{rest_more}
 use Rattle.text.specs.Fields.{aag}
 use Rattle.text_decimal.specs.Decimal.{decimal}
 use Rattle.text_decimal.specs.Printed.{spaced}
-use Rattle.text_print.specs.Inner.Prints.{Prints}
-use Rattle.text_print.proofs.PrintsLaws.{Word, prints_then}
+use Rattle.text_print.specs.declared.Printer.{Printer}
+use Rattle.text_print.specs.Inner.Lines.{fields_text}
+use Rattle.text_print.specs.Inner.Prints.{PrintsOn}
+use Rattle.text_print.proofs.PrintsLaws.{prints_as, prints_then}
 use Rattle.witness_read.specs.Sections.{Sections}
 use Rattle.compose_spec.specs.Printing.{header_line}
-use Rattle.compose_names.proofs.PieceLaws.{prints_as}
 use Rattle.compose_lines.specs.declared.Counts.{Counts}
-use Rattle.compose_lines.specs.Inner.Header.{fields_text, header_of, counts_of}
+use Rattle.compose_lines.specs.Inner.Header.{header_of, counts_of}
+
+-- numbers, each with a space before it
+abbrev fields : List ℕ → Bytes
+fields ns = fields_text (λ n. n) ns
 
 -- the numbers of the header
 abbrev pub header_numbers : Counts → List ℕ
 header_numbers n = n.variables ∷ n.inputs ∷ n.latches ∷ 0 ∷ n.gates ∷ n.bads ∷ n.constraints ∷ 0 ∷ 0 ∷ []
 
 -- fields behind a first one
-spaced_fields : (f : Bytes) (ns : List ℕ) → spaced (f ∷ map decimal ns) ≡ f ++ fields_text ns
+spaced_fields : (f : Bytes) (ns : List ℕ) → spaced (f ∷ map decimal ns) ≡ f ++ fields ns
 spaced_fields f [] = sym (append-nil f)
 spaced_fields f (n ∷ ns) = ap (λ (x : Bytes). f ++ 32 ∷ x) (spaced_fields (decimal n) ns)
 
--- the first field of those from number i on
-pub fields-first : (ns : List ℕ) (i n : ℕ) → i < length ns → n ≡ get_or ns i 0 → fields_text (drop i ns) ≡ (32 ∷ decimal n) ++ fields_text (drop (i + 1) ns)
-fields-first ns i n h e = ap fields_text (rest_more ns i 0 h) ∙ ap (λ (k : ℕ). (32 ∷ decimal k) ++ fields_text (drop (i + 1) ns)) (sym e)
-
 -- `aag`, the fields, and the end of the line
-pub header_printed : (o : Bytes) (at : ℕ) (n : Counts) (o₁ : Bytes) (r₁ : ℕ) (o₂ : Bytes) (r₂ : ℕ) (o₃ : Bytes) (r₃ : ℕ) → Word (length o) → length o₁ ≡ length o → length o₂ ≡ length o
-    → Prints o at aag o₁ r₁ → Prints o₁ r₁ (fields_text (header_numbers n)) o₂ r₂ → Prints o₂ r₂ (10 ∷ []) o₃ r₃ → Prints o at (header_of n ++ 10 ∷ []) o₃ r₃
+pub header_printed : (p : Printer) (n : Counts) (p₁ p₂ p₃ : Printer) → PrintsOn p aag p₁ → PrintsOn p₁ (fields (header_numbers n)) p₂ → PrintsOn p₂ (10 ∷ []) p₃
+    → PrintsOn p (header_of n ++ 10 ∷ []) p₃
 unfolding header_of
-header_printed o at n o₁ r₁ o₂ r₂ o₃ r₃ small same same₂ p q s =
-    prints_as o at ((aag ++ fields_text (header_numbers n)) ++ 10 ∷ []) (header_of n ++ 10 ∷ []) o₃ r₃
-    (ap (λ (x : Bytes). x ++ 10 ∷ []) (sym (spaced_fields aag (header_numbers n))))
-    (prints_then o at (aag ++ fields_text (header_numbers n)) o₂ r₂ (10 ∷ []) o₃ r₃ small same₂
-    (prints_then o at aag o₁ r₁ (fields_text (header_numbers n)) o₂ r₂ small same p q) s)
+header_printed p n p₁ p₂ p₃ q r s =
+    let line : Bytes = aag ++ fields (header_numbers n) in
+    prints_as p (line ++ 10 ∷ []) p₃ (header_of n ++ 10 ∷ []) (ap (λ (x : Bytes). x ++ 10 ∷ []) (sym (spaced_fields aag (header_numbers n))))
+    (prints_then p line p₂ (10 ∷ []) p₃ (prints_then p aag p₁ (fields (header_numbers n)) p₂ q r) s)
 
 -- the header of sections without outputs
 pub header_is : (s : Sections) → s.outputs ≡ [] → header_line s ≡ header_of (counts_of s)

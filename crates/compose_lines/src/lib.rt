@@ -3,11 +3,12 @@
 #![tactic(auto)]
 
 ghost use Rattle.std.specs.Prelude.{[], ◌∷◌, ◌++◌};
-ghost use Rattle.text_print.specs.Inner.Prints.{Prints};
-ghost use Rattle.text_decimal.specs.Decimal.{decimal};
-ghost use Rattle.compose_lines.specs.Inner.Header.{fields_text, header_of};
+ghost use Rattle.text_print.specs.Inner.Prints.{PrintsOn};
+ghost use Rattle.compose_lines.specs.Inner.Header.{header_of};
 ghost use Rattle.compose_lines.specs.Inner.GateText.{CanPrintGates, PrintsGates};
 ghost use Rattle.compose_lines.specs.Inner.Text.{closing_text};
+
+use text_print::Printer;
 
 // What the header says of the composition.
 #[derive(Clone, Copy)]
@@ -20,28 +21,9 @@ pub struct Counts {
     pub constraints: u64,
 }
 
-// Prints a space and a number.
-fn print_field(out: &mut [u8], at: usize, n: u64) -> usize
-    ensures { Prints out.old at (32 ∷ decimal n) out.new result }
-{
-    let digits = text_print::print_byte(out, at, 32);
-    text_print::print_number(out, digits, n)
-}
-
-// Prints numbers, each with a space before it.
-fn print_fields(out: &mut [u8], at: usize, numbers: &[u64]) -> usize
-    ensures { Prints out.old at (fields_text numbers.now) out.new result }
-{
-    let mut to = at;
-    for n in numbers {
-        to = print_field(out, to, *n);
-    }
-    to
-}
-
 // Prints the line of the header.
-pub fn print_header(out: &mut [u8], at: usize, counts: Counts) -> usize
-    ensures { Prints out.old at (header_of counts ++ 10 ∷ []) out.new result }
+pub fn print_header(to: &mut Printer, counts: Counts)
+    ensures { PrintsOn to.old (header_of counts ++ 10 ∷ []) to.new }
 {
     let numbers = [
         counts.variables,
@@ -54,36 +36,27 @@ pub fn print_header(out: &mut [u8], at: usize, counts: Counts) -> usize
         0,
         0,
     ];
-    let fields = text_print::print_bytes(out, at, b"aag");
-    let end = print_fields(out, fields, &numbers);
-    text_print::print_byte(out, end, 10)
+    to.bytes(b"aag");
+    to.fields(&numbers);
+    to.byte(10);
 }
 
 // Prints the lines of the gates whose keys a table holds; the first gate has the variable `first`.
-pub fn print_gates(
-    out: &mut [u8],
-    at: usize,
-    first: u64,
-    table: &[u64],
-    heads: usize,
-    count: usize,
-) -> usize
+pub fn print_gates(to: &mut Printer, first: u64, table: &[u64], heads: usize, count: usize)
     requires { CanPrintGates first table.now heads count }
-    ensures { PrintsGates first table.now heads count out.old at out.new result }
+    ensures { PrintsGates first table.now heads count to.old to.new }
 {
-    let mut to = at;
     let mut x = first;
     for k in 0..count {
         let key = table[heads + 3 * k] - 1;
-        to = text_print::print_three(out, to, 2 * x, key % 4294967296, key / 4294967296);
+        to.three(2 * x, key % 4294967296, key / 4294967296);
         x += 1;
     }
-    to
 }
 
 // Prints the lines behind the symbols.
-pub fn print_closing(out: &mut [u8], at: usize) -> usize
-    ensures { Prints out.old at closing_text out.new result }
+pub fn print_closing(to: &mut Printer)
+    ensures { PrintsOn to.old closing_text to.new }
 {
-    text_print::print_bytes(out, at, b"c\nGCC FM 2026 composed-witness baseline v1\n")
+    to.bytes(b"c\nGCC FM 2026 composed-witness baseline v1\n");
 }

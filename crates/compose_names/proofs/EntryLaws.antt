@@ -33,15 +33,14 @@ use Rattle.compose_spec.proofs.PlacedLaws.{entries_length}
 use Rattle.compose_joint.specs.declared.Before.{Before}
 use Rattle.compose_joint.specs.declared.Leaves.{Leaves}
 use Rattle.compose_joint.proofs.AmountLaws.{origin-words}
-use Rattle.compose_joint.specs.Inner.Joint.{total_of, beyond, gathered_from, names_of, model_of, origin_word, origins_from, joint_origins, unnamed_of, entries_of}
+use Rattle.compose_joint.specs.Inner.Joint.{total_of, beyond, gathered_from, names_of, model_of, origin_word, origins_from, joint_origins, unnamed_of, entries_of, leaf_counts}
 use Rattle.compose_joint.proofs.OriginLaws.{entries_in, entries_none, entries_split}
 use Rattle.compose_gather.specs.Inner.Gathered.{Block, Blocks, leaf_count_of}
-use Rattle.compose_gather.specs.Inner.Counts.{leaf_counts}
 use Rattle.compose_gather.proofs.CountLaws.{counts-leaves}
 use Rattle.compose_gather.proofs.BlockLaws.{words_for_lem}
 use Rattle.compose_names.specs.declared.Starts.{Starts}
 use Rattle.compose_names.specs.Inner.Names.{name_for}
-use Rattle.compose_names.specs.Inner.Symbols.{Row, row_at, rows_from, names_at, rows_in, passed}
+use Rattle.compose_names.specs.Inner.Symbols.{Row, row_at, rows_from, names_at, rows_at, passed}
 use Rattle.compose_names.proofs.FirstLaws.{row_of}
 use Rattle.compose_names.proofs.RowLaws.{leaf_said}
 
@@ -131,7 +130,7 @@ rows-map row f d k (e ∷ es) h =
 abbrev pub rows_all : Leaves → List ℕ → ℕ → List Bytes → List Sections → Starts → List Row
 rows_all kind work w [] ss p = []
 rows_all kind work w (t ∷ ts) [] p = []
-rows_all kind work w (t ∷ ts) (s ∷ ss) p = rows_in t (counts_in s) work kind w p ++ rows_all kind work (suc w) ts ss (passed kind (counts_in s) p)
+rows_all kind work w (t ∷ ts) (s ∷ ss) p = rows_at t (counts_in s) work kind w p ++ rows_all kind work (suc w) ts ss (passed kind (counts_in s) p)
 
 -- no witness is left
 pub rows_none : (kind : Leaves) (work : List ℕ) (w : ℕ) (ts : List Bytes) (p : Starts) → rows_all kind work w ts [] p ≡ []
@@ -142,7 +141,7 @@ module _ (kind : Leaves) (m : Sections) (first : ℕ) (firsts : List Entry) (wor
   -- the rows of a witness are its entries
   rows_in_lem : (w : ℕ) (t : Bytes) (s : Sections) (p : Starts) → Block t s (drop p.names work)
       → StandsAt work p.origins (origins_from (model_of kind m) w (maps_by_name s) 0 (names_of kind s)) → StandsAt work p.numbers (map (numbered first firsts) (entries_in kind m w s))
-      → rows_in t (counts_in s) work kind w p ≡ map (row_of first firsts) (entries_in kind m w s)
+      → rows_at t (counts_in s) work kind w p ≡ map (row_of first firsts) (entries_in kind m w s)
   rows_in_lem w t s p block os ns =
       ap (rows_from row 0) (counts-leaves kind s ∙ sym long) ∙ rows-map row (row_of first firsts) d 0 es (λ j h. let z : 0 + j ≡ j = omega arith in ap row z ∙ same j h)
     where

@@ -16,10 +16,9 @@ use Rattle.witness_read.specs.Reading.{counts_in}
 use Rattle.witness_load.specs.Inner.Loaded.{name_from, literal_words, word_count}
 use Rattle.compose_joint.specs.declared.Leaves.{Leaves}
 use Rattle.compose_joint.specs.declared.Leaves.TheVariants as leaf
-use Rattle.compose_joint.specs.Inner.Joint.{names_of}
+use Rattle.compose_joint.specs.Inner.Joint.{names_of, names_before}
 use Rattle.compose_gather.specs.Inner.Gathered.{Block, leaf_count_of}
 use Rattle.compose_names.specs.Inner.Names.{own_name}
-use Rattle.compose_gather.specs.Inner.Counts.{names_before}
 
 -- ---- the names of a witness
 

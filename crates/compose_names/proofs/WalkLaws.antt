@@ -10,11 +10,12 @@ use lib.Dec.{eqb}
 use lib.ListN.{length}
 use Rattle.lists.specs.Parts.{Bytes}
 use Rattle.text_decimal.specs.Printed.{text_of}
-use Rattle.text_print.specs.Inner.Prints.{Prints}
-use Rattle.text_print.proofs.PrintsLaws.{Word, Printing, printing-none, printing-more, printing_as, printing-done}
+use Rattle.text_print.specs.declared.Printer.{Printer}
+use Rattle.text_print.specs.Inner.Prints.{PrintsOn}
+use Rattle.text_print.proofs.PrintsLaws.{Printing, printing-none, printing-more, printing_as, printing-done}
 use Rattle.compose_spec.specs.Printing.{symbol_line}
 use Rattle.compose_joint.specs.declared.Leaves.{Leaves}
-use Rattle.compose_names.specs.Inner.Names.{kind_of}
+use Rattle.compose_joint.specs.Inner.Joint.{kind_of}
 use Rattle.compose_names.specs.Inner.Symbols.{Row, new_lines, next_after, rows_from, PrintsNew}
 
 -- the text of the new ones
@@ -91,31 +92,31 @@ rest-first row count k h =
     rw (e, add-one k) refl
 
 -- the rows in front of number k are walked
-pub record Walk (leaves : Leaves) (row : ℕ → Row) (count first new : ℕ) (o₀ : Bytes) (at : ℕ) (o : Bytes) (to next k : ℕ) : Type 0 where
-  pub printing : Printing o₀ at (new_text (kind_of leaves) first new (rows_from row 0 count)) o to (new_text (kind_of leaves) first next (rest row count k))
+pub record Walk (leaves : Leaves) (row : ℕ → Row) (count first new : ℕ) (p₀ p : Printer) (next k : ℕ) : Type 0 where
+  pub printing : Printing p₀ (new_text (kind_of leaves) first new (rows_from row 0 count)) p (new_text (kind_of leaves) first next (rest row count k))
   pub after : next_after next (rest row count k) ≡ next_after new (rows_from row 0 count)
   pub low : first ≤ next
   pub few : next ≤ new + k
 
-module _ (leaves : Leaves) (row : ℕ → Row) (count first new : ℕ) (o₀ : Bytes) (at : ℕ) where
+module _ (leaves : Leaves) (row : ℕ → Row) (count first new : ℕ) (p₀ : Printer) where
   -- what is printed in all
   abbrev all : Bytes
   all = new_text (kind_of leaves) first new (rows_from row 0 count)
 
   -- before the loop
-  pub walk_none : first ≤ new → Word at → Walk leaves row count first new o₀ at o₀ at new 0
-  walk_none h small =
+  pub walk_none : first ≤ new → Walk leaves row count first new p₀ p₀ new 0
+  walk_none h =
       let e : count - 0 ≡ count = omega arith in
-      record { printing = rw e (printing-none o₀ at all small); after = rw e refl; low = h; few = omega arith }
+      record { printing = rw e (printing-none p₀ all); after = rw e refl; low = h; few = omega arith }
 
-  module _ (o : Bytes) (to next k : ℕ) (walk : Walk leaves row count first new o₀ at o to next k) where
+  module _ (p : Printer) (next k : ℕ) (walk : Walk leaves row count first new p₀ p next k) where
     -- a row that is not new
-    pub walk_old : k < count → ((row k).number ≡ next → ⊥) → Walk leaves row count first new o₀ at o to next (k + 1)
+    pub walk_old : k < count → ((row k).number ≡ next → ⊥) → Walk leaves row count first new p₀ p next (k + 1)
     walk_old h e =
         let split : rest row count k ≡ row k ∷ rest row count (k + 1) = rest-first row count k h in
         record {
           printing =
-              printing_as o₀ at all o to (new_text (kind_of leaves) first next (rest row count k)) walk.printing (new_text (kind_of leaves) first next (rest row count (k + 1)))
+              printing_as p₀ all p (new_text (kind_of leaves) first next (rest row count k)) walk.printing (new_text (kind_of leaves) first next (rest row count (k + 1)))
               (ap (new_text (kind_of leaves) first next) split ∙ row_old (kind_of leaves) first next (row k) (rest row count (k + 1)) e);
           after = sym (ap (next_after next) split ∙ after_old next (row k) (rest row count (k + 1)) e) ∙ walk.after;
           low = walk.low;
@@ -123,28 +124,28 @@ module _ (leaves : Leaves) (row : ℕ → Row) (count first new : ℕ) (o₀ : B
         }
 
     -- a row that is new
-    pub walk_new : (o' : Bytes) (to' : ℕ) → k < count → (row k).number ≡ next → Word (length o₀) → length o' ≡ length o
-        → Prints o to (symbol_line (kind_of leaves) (next - first) (row k).name ++ 10 ∷ []) o' to' → Walk leaves row count first new o₀ at o' to' (next + 1) (k + 1)
-    walk_new o' to' h e small same p =
+    pub walk_new : (p' : Printer) → k < count → (row k).number ≡ next
+        → PrintsOn p (symbol_line (kind_of leaves) (next - first) (row k).name ++ 10 ∷ []) p' → Walk leaves row count first new p₀ p' (next + 1) (k + 1)
+    walk_new p' h e q =
         let split : rest row count k ≡ row k ∷ rest row count (k + 1) = rest-first row count k h in
         let suc-next : suc next ≡ next + 1 = omega arith in
-        subst (λ (j : ℕ). Walk leaves row count first new o₀ at o' to' j (k + 1)) suc-next
+        subst (λ (j : ℕ). Walk leaves row count first new p₀ p' j (k + 1)) suc-next
         (record {
           printing =
-              printing-more o₀ at all o to (new_text (kind_of leaves) first next (rest row count k)) walk.printing (symbol_line (kind_of leaves) (next - first) (row k).name ++ 10 ∷ [])
-              (new_text (kind_of leaves) first (suc next) (rest row count (k + 1))) o' to' small
-              (ap (new_text (kind_of leaves) first next) split ∙ row_new (kind_of leaves) first next (row k) (rest row count (k + 1)) e) same p;
+              printing-more p₀ all p (new_text (kind_of leaves) first next (rest row count k)) walk.printing (symbol_line (kind_of leaves) (next - first) (row k).name ++ 10 ∷ [])
+              (new_text (kind_of leaves) first (suc next) (rest row count (k + 1))) p'
+              (ap (new_text (kind_of leaves) first next) split ∙ row_new (kind_of leaves) first next (row k) (rest row count (k + 1)) e) q;
           after = sym (ap (next_after next) split ∙ after_new next (row k) (rest row count (k + 1)) e) ∙ walk.after;
           low = omega (arith, walk.low);
           few = omega (arith, walk.few);
         })
 
     -- after the loop
-    pub walk_end : count ≤ k → PrintsNew leaves first new (rows_from row 0 count) o₀ at o (record { at = to; next = next })
+    pub walk_end : count ≤ k → PrintsNew leaves first new (rows_from row 0 count) p₀ p next
     walk_end h =
         let e : count - k ≡ 0 = omega arith in
         let none : rest row count k ≡ [] = ap (rows_from row k) e in
         record {
-          prints = printing-done o₀ at all o to (new_text (kind_of leaves) first next (rest row count k)) walk.printing (ap (new_text (kind_of leaves) first next) none);
+          prints = printing-done p₀ all p (new_text (kind_of leaves) first next (rest row count k)) walk.printing (ap (new_text (kind_of leaves) first next) none);
           after = sym (ap (next_after next) none) ∙ walk.after;
         }

@@ -1,37 +1,22 @@
 -- The names of one witness: where their words stand.
-use Prim.Native.Nat.{ℕ, ◌+◌, ◌*◌, ◌≤◌, ◌<◌}
-use mathlib.Core.List.{List, [], ◌∷◌, ◌++◌}
+use Prim.Native.Nat.{ℕ, ◌+◌, ◌<◌}
+use mathlib.Core.List.{List}
 use mathlib.Core.Path.{◌≡◌, refl}
 use native.Mathlib.Omega.{arith}
-use lib.ListN.{length, get_or}
 use Rattle.lists.specs.Parts.{Bytes}
-use Rattle.text_print.specs.Inner.Prints.{Prints}
+use Rattle.text_print.specs.declared.Printer.{Printer}
 use Rattle.witness_text.specs.declared.AagCounts.{AagCounts}
-use Rattle.compose_spec.specs.Printing.{symbol_line}
 use Rattle.compose_joint.specs.declared.Leaves.{Leaves}
-use Rattle.compose_gather.specs.Inner.Counts.{leaf_counts, names_before}
+use Rattle.compose_joint.specs.Inner.Joint.{leaf_counts, names_before}
 use Rattle.compose_gather.specs.Inner.Gathered.{words_for}
 use Rattle.compose_names.specs.declared.Starts.{Starts}
-use Rattle.compose_names.specs.declared.Printed.{Printed}
-use Rattle.compose_names.specs.Inner.Names.{kind_of, own_name, name_for}
-use Rattle.compose_names.specs.Inner.Symbols.{row_at, rows_from, RowWords, CanPrintNames, PrintsNew, rows_in, CanPrintWitness, passed}
+use Rattle.compose_names.specs.Inner.Symbols.{row_at, rows_from, RowWords, CanPrintNames, PrintsNew, rows_at, CanPrintWitness, passed}
 
 module _ (t : Bytes) (work : List ℕ) (p : Starts) where
   -- each row of so many
   pub row_words : (count first next k : ℕ) → CanPrintNames t work p count first next → k < count → RowWords t work p k
   row_words count first next k c h =
       record { name = omega (arith, c.named); origin = omega (arith, c.origins_fit); within = c.within k h }
-
-  module _ (k start size : ℕ) (a : start ≡ get_or work (p.names + 2 * k) 0) (b : size ≡ get_or work (p.names + 2 * k + 1) 0) where
-    -- its name ends within the text
-    pub row_within : RowWords t work p k → start + size ≤ length t
-    row_within c = omega (arith, c.within)
-
-    -- its line
-    pub row-printed : (leaves : Leaves) (w number : ℕ) (o : Bytes) (at : ℕ) (o' : Bytes) (r : ℕ)
-        → Prints o at (symbol_line (kind_of leaves) number (name_for leaves w (get_or work (p.origins + k) 0) (own_name t start size)) ++ 10 ∷ []) o' r
-        → Prints o at (symbol_line (kind_of leaves) number (row_at t work leaves w p k).name ++ 10 ∷ []) o' r
-    row-printed leaves w number o at o' r q = rw (← a, ← b) q
 
 -- the places with a start of the names
 abbrev from : Starts → ℕ → Starts
@@ -43,9 +28,9 @@ module _ (leaves : Leaves) (n : AagCounts) (p : Starts) (start count : ℕ) (a :
   witness-can k = rw (a, c) k.can
 
   -- and what is printed are the rows of the witness
-  pub witness-prints : (w : ℕ) (o : Bytes) (at : ℕ) (o' : Bytes) (r : Printed) → PrintsNew leaves first next (rows_from (row_at t work leaves w (from p start)) 0 count) o at o' r
-      → PrintsNew leaves first next (rows_in t n work leaves w p) o at o' r
-  witness-prints w o at o' r k = rw (← a, ← c) k
+  pub witness-prints : (w : ℕ) (q q' : Printer) (r : ℕ) → PrintsNew leaves first next (rows_from (row_at t work leaves w (from p start)) 0 count) q q' r
+      → PrintsNew leaves first next (rows_at t n work leaves w p) q q' r
+  witness-prints w q q' r k = rw (← a, ← c) k
 
 -- the places of the next witness
 pub passed_is : (leaves : Leaves) (n : AagCounts) (p : Starts) (names count : ℕ) → names ≡ p.names + words_for n → count ≡ leaf_counts leaves n

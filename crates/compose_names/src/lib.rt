@@ -1,17 +1,18 @@
 // The symbol lines of the composition's inputs, or latches: each where it first appears among those of all witnesses.
 #![tactic(auto)]
 
-ghost use Rattle.std.specs.Prelude.{◌+◌, ◌≤◌, ◌<◌, [], ◌∷◌, ◌++◌, ◌≡◌, length};
+ghost use Rattle.std.specs.Prelude.{[], ◌∷◌, ◌++◌, ◌≡◌, get_or, ◌+◌, ◌*◌};
 ghost use Rattle.std.proofs.Math.Option.{some};
-ghost use Rattle.text_print.specs.Inner.Prints.{Prints};
+ghost use Rattle.text_print.specs.Inner.Prints.{PrintsOn};
 ghost use Rattle.compose_spec.specs.Numbering.{or_else, private_name};
 ghost use Rattle.compose_spec.specs.Printing.{symbol_line};
-ghost use Rattle.compose_joint.specs.Inner.Joint.{unnamed_of};
-ghost use Rattle.compose_gather.specs.Inner.Counts.{CountsListed};
-ghost use Rattle.compose_names.specs.Inner.Names.{kind_of, own_name, name_for};
-ghost use Rattle.compose_names.specs.Inner.Symbols.{row_at, rows_from, RowWords, CanPrintNames, PrintsNew, CanPrintWitness, rows_in, CanPass, passed, CanPrintSymbols, PrintsSymbols};
+ghost use Rattle.compose_joint.specs.Inner.Joint.{unnamed_of, kind_of};
+ghost use Rattle.compose_names.specs.Inner.Names.{own_name};
+ghost use Rattle.compose_names.specs.Inner.Symbols.{row_in, own_in, rows_from, RowWords, CanPrintNames, PrintsNew, CanPrintWitness, rows_in, CanPass, passed, CanPrintSymbols, PrintsSymbols};
 
+use compose_gather::Witnesses;
 use compose_joint::Leaves;
+use text_print::Printer;
 use witness_text::AagCounts;
 
 // Where words of one witness begin: those of its names, its origin words, its composed variables.
@@ -22,195 +23,95 @@ pub struct Starts {
     pub numbers: usize,
 }
 
-// The place after what is printed, and the composed variable that is the next new one.
+// The inputs, or latches, of witness w: a row for each, of the words that say its name, its origin and its composed variable.
 #[derive(Clone, Copy)]
-pub struct Printed {
-    pub at: usize,
-    pub next: u64,
-}
-
-// The byte that begins the symbol lines.
-fn kind_of(leaves: Leaves) -> u8
-    ensures { result ≡ kind_of leaves }
-{
-    match leaves {
-        Leaves::Inputs => 105,
-        Leaves::Latches => 108,
-    }
-}
-
-// Prints what stands for a name where there is none.
-fn print_unnamed(out: &mut [u8], at: usize, leaves: Leaves) -> usize
-    ensures { Prints out.old at (unnamed_of leaves) out.new result }
-{
-    match leaves {
-        Leaves::Inputs => text_print::print_bytes(out, at, b"private-input"),
-        Leaves::Latches => text_print::print_bytes(out, at, b"private-latch"),
-    }
-}
-
-// Prints the name that two words say, or what stands for it.
-fn print_own(
-    out: &mut [u8],
-    at: usize,
-    text: &[u8],
-    leaves: Leaves,
-    start: usize,
-    size: usize,
-) -> usize
-    requires { start + size ≤ length text.now }
-    ensures { Prints out.old at (or_else (unnamed_of leaves) (own_name text.now start size)) out.new result }
-{
-    if start == 0 {
-        return print_unnamed(out, at, leaves);
-    }
-    let end = start + size;
-    text_print::print_bytes(out, at, &text[start..end])
+pub struct Rows<'a> {
+    pub text: &'a [u8],
+    pub work: &'a [u64],
+    pub leaves: Leaves,
+    pub w: usize,
+    pub starts: Starts,
 }
 
 // Prints what stands in front of a private name of witness w.
-fn print_owner(out: &mut [u8], at: usize, w: usize) -> usize
-    ensures { Prints out.old at (private_name [] w (some [])) out.new result }
+fn print_owner(to: &mut Printer, w: usize)
+    ensures { PrintsOn to.old (private_name [] w (some [])) to.new }
 {
-    let digits = text_print::print_byte(out, at, 119);
-    let colon = text_print::print_number(out, digits, w as u64);
-    text_print::print_byte(out, colon, 58)
+    to.byte(b'w');
+    to.number(w as u64);
+    to.byte(b':');
 }
 
-// Prints a name of the composition, by its origin word.
-fn print_name(
-    out: &mut [u8],
-    at: usize,
-    text: &[u8],
-    leaves: Leaves,
-    w: usize,
-    origin: u64,
-    start: usize,
-    size: usize,
-) -> usize
-    requires { start + size ≤ length text.now }
-    ensures { Prints out.old at (name_for leaves w origin (own_name text.now start size)) out.new result }
-{
-    if origin % 2 == 0 {
-        let digits = text_print::print_bytes(out, at, b"= ");
-        return text_print::print_number(out, digits, origin);
-    }
-    let name = print_owner(out, at, w);
-    print_own(out, name, text, leaves, start, size)
-}
-
-// Prints a symbol line up to its name.
-fn print_head(out: &mut [u8], at: usize, leaves: Leaves, k: u64) -> usize
-    ensures { Prints out.old at (symbol_line (kind_of leaves) k []) out.new result }
-{
-    let kind = kind_of(leaves);
-    let digits = text_print::print_byte(out, at, kind);
-    let space = text_print::print_number(out, digits, k);
-    text_print::print_byte(out, space, 32)
-}
-
-// Prints a symbol line.
-fn print_symbol(
-    out: &mut [u8],
-    at: usize,
-    text: &[u8],
-    leaves: Leaves,
-    w: usize,
-    k: u64,
-    origin: u64,
-    start: usize,
-    size: usize,
-) -> usize
-    requires { start + size ≤ length text.now }
-    ensures { Prints out.old at (symbol_line (kind_of leaves) k (name_for leaves w origin (own_name text.now start size)) ++ 10 ∷ []) out.new result }
-{
-    let name = print_head(out, at, leaves, k);
-    let end = print_name(out, name, text, leaves, w, origin, start, size);
-    text_print::print_byte(out, end, 10)
-}
-
-// Prints the symbol line of row k of a witness.
-fn print_row(
-    out: &mut [u8],
-    at: usize,
-    text: &[u8],
-    work: &[u64],
-    leaves: Leaves,
-    w: usize,
-    starts: Starts,
-    k: usize,
-    number: u64,
-) -> usize
-    requires { RowWords text.now work.now starts k }
-    ensures { Prints out.old at (symbol_line (kind_of leaves) number (row_at text.now work.now leaves w starts k).name ++ 10 ∷ []) out.new result }
-{
-    let start = work[starts.names + 2 * k] as usize;
-    let size = work[starts.names + 2 * k + 1] as usize;
-    print_symbol(
-        out,
-        at,
-        text,
-        leaves,
-        w,
-        number,
-        work[starts.origins + k],
-        start,
-        size,
-    )
-}
-
-// Prints the symbol lines of one witness: of those whose composed variable is a new one.
-fn print_names(
-    out: &mut [u8],
-    at: usize,
-    text: &[u8],
-    work: &[u64],
-    leaves: Leaves,
-    w: usize,
-    starts: Starts,
-    count: usize,
-    first: u64,
-    new: u64,
-) -> Printed
-    requires { CanPrintNames text.now work.now starts count first new }
-    ensures { PrintsNew leaves first new (rows_from (row_at text.now work.now leaves w starts) 0 count) out.old at out.new result }
-{
-    let mut to = at;
-    let mut next = new;
-    for k in 0..count {
-        if work[starts.numbers + k] != next {
-            continue;
+impl<'a> Rows<'a> {
+    // Prints the witness's own name of row k, or what stands for it.
+    fn print_own(&self, to: &mut Printer, k: usize)
+        requires { RowWords self.now.text.now self.now.work.now self.now.starts k }
+        ensures { PrintsOn to.old (or_else (unnamed_of self.now.leaves) (own_in self.now k)) to.new }
+    {
+        let start = self.work[self.starts.names + 2 * k] as usize;
+        let size = self.work[self.starts.names + 2 * k + 1] as usize;
+        if start == 0 {
+            to.bytes(self.leaves.unnamed());
+            return;
         }
-        to = print_row(out, to, text, work, leaves, w, starts, k, next - first);
-        next += 1;
+        to.bytes(&self.text[start..start + size]);
     }
-    Printed { at: to, next }
-}
 
-// Prints the symbol lines of a witness with these counts, whose words begin at `names`.
-fn print_witness(
-    out: &mut [u8],
-    at: usize,
-    text: &[u8],
-    counts: AagCounts,
-    work: &[u64],
-    leaves: Leaves,
-    w: usize,
-    starts: Starts,
-    first: u64,
-    new: u64,
-) -> Printed
-    requires { CanPrintWitness text.now counts work.now leaves starts first new }
-    ensures { PrintsNew leaves first new (rows_in text.now counts work.now leaves w starts) out.old at out.new result }
-{
-    let count = compose_gather::counts::leaf_count(leaves, counts);
-    let start = compose_gather::counts::names_before(leaves, counts);
-    let q = Starts {
-        names: starts.names + start,
-        origins: starts.origins,
-        numbers: starts.numbers,
-    };
-    print_names(out, at, text, work, leaves, w, q, count, first, new)
+    // Prints the name that row k has in the composition, by its origin word.
+    fn print_name(&self, to: &mut Printer, k: usize)
+        requires { RowWords self.now.text.now self.now.work.now self.now.starts k }
+        ensures { PrintsOn to.old (row_in self.now k).name to.new }
+    {
+        let origin = self.work[self.starts.origins + k];
+        if origin % 2 == 0 {
+            to.bytes(b"= ");
+            to.number(origin);
+            return;
+        }
+        print_owner(to, self.w);
+        self.print_own(to, k);
+    }
+
+    // Prints the symbol line of row k.
+    fn print_row(&self, to: &mut Printer, k: usize, number: u64)
+        requires { RowWords self.now.text.now self.now.work.now self.now.starts k }
+        ensures { PrintsOn to.old (symbol_line (kind_of self.now.leaves) number (row_in self.now k).name ++ 10 ∷ []) to.new }
+    {
+        to.byte(self.leaves.kind());
+        to.number(number);
+        to.byte(b' ');
+        self.print_name(to, k);
+        to.byte(b'\n');
+    }
+
+    // Prints the symbol lines of so many rows, of those whose composed variable is a new one. Returns the next new one.
+    fn print_new(&self, to: &mut Printer, count: usize, first: u64, new: u64) -> u64
+        requires { CanPrintNames self.now.text.now self.now.work.now self.now.starts count first new }
+        ensures { PrintsNew self.now.leaves first new (rows_from (row_in self.now) 0 count) to.old to.new result }
+    {
+        let mut next = new;
+        for k in 0..count {
+            if self.work[self.starts.numbers + k] != next {
+                continue;
+            }
+            self.print_row(to, k, next - first);
+            next += 1;
+        }
+        next
+    }
+
+    // The same, of all rows of a witness with these counts, whose words begin at `names`.
+    fn print_witness(&self, to: &mut Printer, counts: AagCounts, first: u64, new: u64) -> u64
+        requires { CanPrintWitness self.now.text.now counts self.now.work.now self.now.leaves self.now.starts first new }
+        ensures { PrintsNew self.now.leaves first new (rows_in self.now counts) to.old to.new result }
+    {
+        let starts = Starts {
+            names: self.starts.names + self.leaves.names_before(counts),
+            ..self.starts
+        };
+        let rows = Rows { starts, ..*self };
+        rows.print_new(to, self.leaves.count(counts), first, new)
+    }
 }
 
 // The places of the next witness, within so many words.
@@ -218,7 +119,7 @@ fn pass(leaves: Leaves, counts: AagCounts, starts: Starts, size: usize) -> Start
     requires { CanPass leaves counts starts size }
     ensures { result ≡ passed leaves counts starts }
 {
-    let count = compose_gather::counts::leaf_count(leaves, counts);
+    let count = leaves.count(counts);
     Starts {
         names: compose_gather::after_words(counts, starts.names, size),
         origins: starts.origins + count,
@@ -229,33 +130,33 @@ fn pass(leaves: Leaves, counts: AagCounts, starts: Starts, size: usize) -> Start
 // Prints the symbol lines of the composition's inputs, or latches. The words hold all witnesses in front, their origin words from one place on, and
 // their composed variables from another place on, of which the lowest is `first`.
 pub fn print_symbols(
-    out: &mut [u8],
-    at: usize,
-    witnesses: &[u8],
-    pairs: &[u64],
-    counts: &[u64],
+    to: &mut Printer,
+    witnesses: &Witnesses,
     work: &[u64],
     leaves: Leaves,
     origins: usize,
     numbers: usize,
     first: u64,
-) -> usize
-    requires can_print_symbols { CanPrintSymbols leaves witnesses.now pairs.now work.now origins numbers first }
-    requires counts_listed { CountsListed witnesses.now pairs.now counts.now }
-    ensures { PrintsSymbols leaves witnesses.now pairs.now work.now origins numbers first out.old at out.new result }
+)
+    requires { CanPrintSymbols leaves witnesses.now.texts.bytes.now witnesses.now.texts.pairs.now work.now origins numbers first }
+    ensures { PrintsSymbols leaves witnesses.now.texts.bytes.now witnesses.now.texts.pairs.now work.now origins numbers first to.old to.new }
 {
-    let count = pairs.len() / 2;
-    let mut p = Starts {
+    let mut starts = Starts {
         names: 0,
         origins,
         numbers,
     };
-    let mut done = Printed { at, next: first };
-    for w in 0..count {
-        let text = compose_gather::text_at(witnesses, pairs, w);
-        let n = compose_gather::counts::counts_at(counts, w);
-        done = print_witness(out, done.at, text, n, work, leaves, w, p, first, done.next);
-        p = pass(leaves, n, p, work.len());
+    let mut next = first;
+    for w in 0..witnesses.len() {
+        let rows = Rows {
+            text: witnesses.text(w),
+            work,
+            leaves,
+            w,
+            starts,
+        };
+        let n = witnesses.counts_of(w);
+        next = rows.print_witness(to, n, first, next);
+        starts = pass(leaves, n, starts, work.len());
     }
-    done.at
 }

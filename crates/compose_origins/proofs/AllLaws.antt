@@ -1,6 +1,6 @@
 -- Laws of the origins of all witnesses.
-use Rattle.std.specs.Prelude.{ℕ, ◌+◌, ◌/◌, ◌≤◌, ◌<◌, Option, Some, None}
-use mathlib.Core.Bool.{Bool, false, ◌&&◌}
+use Rattle.std.specs.Prelude.{ℕ, ◌+◌, ◌/◌, ◌≤◌, ◌<◌, Some, None}
+use mathlib.Core.Bool.{Bool, ◌&&◌}
 use mathlib.Core.List.{List, []}
 use mathlib.Core.Path.{◌≡◌, sym, ap, ◌∙◌, subst}
 use native.Mathlib.Omega.{arith}
@@ -17,9 +17,9 @@ use Rattle.compose_spec.specs.Mapping.{maps_by_name}
 use Rattle.compose_spec.specs.Calling.{texts_in}
 use Rattle.compose_joint.specs.declared.Before.{Before}
 use Rattle.compose_joint.specs.declared.Leaves.{Leaves}
-use Rattle.compose_joint.specs.Inner.Joint.{nothing_before, beyond, names_of}
+use Rattle.compose_joint.specs.Inner.Joint.{nothing_before, beyond, names_of, leaf_counts}
 use Rattle.compose_joint.proofs.AmountLaws.{origin-words}
-use Rattle.compose_gather.specs.Inner.Counts.{counts_at, leaf_counts, CountsListed}
+use Rattle.compose_gather.specs.Inner.Counts.{CountsOf}
 use Rattle.compose_gather.specs.Inner.Gathered.{words_for, Block, Readable, leaf_count_of}
 use Rattle.compose_gather.proofs.TextLaws.{FirstRead, Left, left-more, left-none}
 use Rattle.compose_gather.proofs.CountLaws.{counts-leaves}
@@ -51,12 +51,12 @@ module _ (p : ModelLeaves) (leaves : Leaves) (buffer : Bytes) (pairs work₀ wor
       let none : k.gathering.rest ≡ [] = left-none buffer pairs w k.gathering.rest k.gathering.left (omega arith) in
       (sym (k.right ws k.gathering.rest r k.gathering.left) ∙ ap (all (right_by p leaves)) none, (g.0, g.1))
 
-  module _ (less : w < count) (t : Bytes) (is : t ≡ get_or (texts_in buffer pairs) w []) (listed : List ℕ) (d : CountsListed buffer pairs listed) (n : AagCounts) (c : n ≡ counts_at listed w) where
+  module _ (less : w < count) (t : Bytes) (is : t ≡ get_or (texts_in buffer pairs) w []) (n : AagCounts) (c : CountsOf (get_or (texts_in buffer pairs) w []) n) where
     next : Next (origins_by p leaves) (leaf_count_of leaves) buffer pairs work₀ work to from at k.b w k.gathering.ws
     next = gathering-next (origins_by p leaves) (leaf_count_of leaves) buffer pairs to work₀ work from at k.b w count k.gathering number less
 
     counts : n ≡ counts_in next.first
-    counts = c ∙ d.before.each w (omega arith) next.first next.reads
+    counts = c next.first next.reads
 
     short : words_for n ≡ word_count next.first
     short = ap words_for counts ∙ sym (words_for_lem next.first)

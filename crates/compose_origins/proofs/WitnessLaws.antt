@@ -1,9 +1,9 @@
 -- Laws of the origins of one witness.
 use Rattle.std.specs.Prelude.{ℕ, ◌+◌, ◌-◌, ◌*◌, ◌≤◌, Option, Some, None}
-use mathlib.Core.Bool.{Bool, true, false, cond}
+use mathlib.Core.Bool.{Bool}
 use mathlib.Core.List.{List, map, map-append}
 use mathlib.Core.Option.{some}
-use mathlib.Core.Path.{◌≡◌, refl, sym, ap, ◌∙◌, subst}
+use mathlib.Core.Path.{◌≡◌, sym, ap, ◌∙◌, subst}
 use native.Mathlib.Omega.{arith}
 use lib.ListN.{length, take, drop, length-map}
 use lib.Seq.{take_at, drop_at, drop-drop, take-take}
@@ -19,8 +19,7 @@ use Rattle.compose_spec.specs.declared.ModelLeaves.{ModelLeaves}
 use Rattle.compose_spec.specs.Mapping.{maps_by_name}
 use Rattle.compose_joint.specs.declared.Leaves.{Leaves}
 use Rattle.compose_joint.specs.declared.Leaves.TheVariants as leaf
-use Rattle.compose_joint.specs.Inner.Joint.{names_of}
-use Rattle.compose_gather.specs.Inner.Counts.{leaf_counts, names_before}
+use Rattle.compose_joint.specs.Inner.Joint.{names_of, leaf_counts, names_before}
 use Rattle.compose_gather.specs.Inner.Gathered.{Block}
 use Rattle.compose_gather.proofs.CountLaws.{leaves-within}
 use Rattle.compose_origins.specs.Inner.Mapped.{SaysNames, SayNames, AnyMapped, CanMap, OriginsIf, StoresOrigins, CanTest, TestsWitness, CanMapWitness, WitnessOrigins, MapsWitness}

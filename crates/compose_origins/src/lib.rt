@@ -5,13 +5,13 @@ ghost use Rattle.std.proofs.Math.Option.{some};
 ghost use Rattle.std.specs.Prelude.{Some, ◌≡◌, ◌+◌, ◌≤◌, ◌<◌};
 ghost use Rattle.text.specs.declared.Reader.TheVariants.{Witness};
 ghost use Rattle.text.specs.Numbers.{number_of};
-ghost use Rattle.compose_gather.specs.Inner.Counts.{names_before, CountsListed};
 ghost use Rattle.compose_gather.specs.Inner.Gathered.{words_for};
 ghost use Rattle.compose_spec.specs.Mapping.{onto_number, by_name, by_position};
 ghost use Rattle.compose_spec.specs.Composing.{is_right};
-ghost use Rattle.compose_joint.specs.Inner.Joint.{origin_word};
+ghost use Rattle.compose_joint.specs.Inner.Joint.{origin_word, names_before};
 ghost use Rattle.compose_origins.specs.Inner.Mapped.{FewLeaves, SaysName, MapsTo, MappedAt, MapsAt, TestsName, SaysAt, TestsAt, SayNames, AnyMapped, CanMap, StoresOrigins, CanTest, TestsWitness, CanMapWitness, MapsWitness, CanMapAll, MapsAll};
 
+use compose_gather::Witnesses;
 use compose_joint::Leaves;
 use compose_spec::{Mapping, ModelLeaves};
 use witness_text::AagCounts;
@@ -190,7 +190,7 @@ fn names_at(leaves: Leaves, counts: AagCounts, from: usize, end: usize) -> usize
     requires { from + words_for counts ≤ end }
     ensures { result ≡ from + names_before leaves counts }
 {
-    from + compose_gather::counts::names_before(leaves, counts)
+    from + leaves.names_before(counts)
 }
 
 // Whether a witness maps by name; its words begin at a place.
@@ -218,30 +218,26 @@ fn witness_origins(
 {
     let named = maps_by_name(text, counts, work, from);
     let names = names_at(leaves, counts, from, to);
-    let count = compose_gather::counts::leaf_count(leaves, counts);
+    let count = leaves.count(counts);
     store_origins(text, work, names, count, named, model_leaves, w, to)
 }
 
 // The origins of the inputs, or latches, of all witnesses, from a place on. Returns the place after them, or nothing where a literal is wrong (R9.16).
 pub fn gather_origins(
-    witnesses: &[u8],
-    pairs: &[u64],
-    counts: &[u64],
+    witnesses: &Witnesses,
     work: &mut [u64],
     leaves: Leaves,
     model_leaves: ModelLeaves,
     to: usize,
 ) -> Option<usize>
-    requires can_map_all { CanMapAll model_leaves leaves witnesses.now pairs.now work.old to }
-    requires counts_listed { CountsListed witnesses.now pairs.now counts.now }
-    ensures { MapsAll model_leaves leaves witnesses.now pairs.now work.old to work.new result }
+    requires { CanMapAll model_leaves leaves witnesses.now.texts.bytes.now witnesses.now.texts.pairs.now work.old to }
+    ensures { MapsAll model_leaves leaves witnesses.now.texts.bytes.now witnesses.now.texts.pairs.now work.old to work.new result }
 {
-    let count = pairs.len() / 2;
     let mut from = 0;
     let mut at = to;
-    for w in 0..count {
-        let text = compose_gather::text_at(witnesses, pairs, w);
-        let n = compose_gather::counts::counts_at(counts, w);
+    for w in 0..witnesses.len() {
+        let text = witnesses.text(w);
+        let n = witnesses.counts_of(w);
         let next = compose_gather::after_words(n, from, at);
         at = witness_origins(text, n, work, from, leaves, model_leaves, w, at)?;
         from = next;

@@ -10,10 +10,11 @@ use Rattle.lists.proofs.PartLaws.{part_length}
 use Rattle.lists.proofs.TestLaws.{each-so}
 use Rattle.lists.proofs.WordLaws.{words-length}
 use Rattle.text_decimal.specs.Printed.{text_of}
-use Rattle.text_print.specs.Inner.Prints.{Prints}
+use Rattle.text_print.specs.declared.Printer.{Printer}
+use Rattle.text_print.specs.Inner.Prints.{PrintsOn}
 use Rattle.text_print.specs.Inner.Elements.{elements}
 use Rattle.text_print.specs.Inner.Lines as lines
-use Rattle.text_print.proofs.PrintsLaws.{Word, prints_then}
+use Rattle.text_print.proofs.PrintsLaws.{prints_then}
 use Rattle.witness_read.specs.Sections.{Sections}
 use Rattle.witness_load.specs.Inner.Loaded.{latch_words}
 use Rattle.compose_spec.specs.Numbering.{input_entries, latch_entries, input_firsts, latch_firsts, numbered, leaf_count}
@@ -28,7 +29,7 @@ use Rattle.compose_joint.proofs.AmountLaws.{origins-length}
 use Rattle.compose_gather.specs.declared.Totals.{Totals}
 use Rattle.compose_gather.specs.Inner.Gathered.{leaf_count_of}
 use Rattle.compose_layout.specs.declared.Layout.{Layout}
-use Rattle.compose_layout.specs.Inner.Laid.{Has}
+use Rattle.compose_layout.specs.Inner.Laid.{Has, OfSome}
 use Rattle.compose_merge.specs.declared.Merged.{Merged}
 use Rattle.key_table.specs.Inner.Table.{Held}
 use Rattle.compose_merge.specs.Inner.Merged.{SmallOperands, Counted, input_numbers, latch_numbers, definition_words}
@@ -38,7 +39,7 @@ use Rattle.compose_lines.specs.declared.Counts.{Counts}
 use Rattle.compose_lines.specs.Inner.GateText.{Narrow, GateKeys, CanPrintGates, PrintsGates}
 use Rattle.compose_lines.specs.Inner.Header.{header_of}
 use Rattle.compose_lines.specs.Inner.Text.{closing_text, latches_of, composed_counts, entry_names}
-use Rattle.compose_print.specs.Inner.Written.{Printable, PrintableSome, PrintsText, from_latch_names, from_input_names, from_gates, from_constraints, from_bads, from_latches, from_inputs, from_header}
+use Rattle.compose_print.specs.Inner.Written.{Printable, PrintsText, from_latch_names, from_input_names, from_gates, from_constraints, from_bads, from_latches, from_inputs, from_header}
 
 -- a list that stands, by its length
 has_part : (work : List ℕ) (a n : ℕ) (xs : List ℕ) → length xs ≡ n → Has work a xs → part work a (a + n) ≡ xs
@@ -72,10 +73,6 @@ counts_of c =
 counts-are : {m : Sections} {ws : List Sections} {c : Merged} → Counted m ws c → counts_of c ≡ composed_counts m ws
 counts-are n = rw (n.inputs, n.latches, n.gates, n.bads, n.constraints) refl
 
--- a text of the composition is printed, if the length of the slice is a word
-abbrev Printed : (Sections → List Sections → Bytes) → Bytes → List ℕ → List ℕ → Layout → Merged → Totals → Bytes → ℕ → Bytes → ℕ → Type 0
-Printed text buffer pairs work at c t o from o' r = Word (length o) → PrintsText text buffer pairs work at c t o from o' r
-
 module _ {buffer : Bytes} {pairs work : List ℕ} {at : Layout} {c : Merged} {t : Totals} where
   -- ---- symbols
 
@@ -97,7 +94,7 @@ module _ {buffer : Bytes} {pairs work : List ℕ} {at : Layout} {c : Merged} {t 
         small = omega arith;
       }
 
-  pub input-symbols : PrintableSome buffer pairs work at c t → CanPrintSymbols leaf.Inputs buffer pairs work at.input_origins (at.vars + 1) 1
+  pub input-symbols : OfSome (Printable buffer pairs work at c t) → CanPrintSymbols leaf.Inputs buffer pairs work at.input_origins (at.vars + 1) 1
   input-symbols k = record { m = k.m; ws = k.ws; holds = input-words k.m k.ws k.holds }
 
   latch_words_lem : (m : Sections) (ws : List Sections) → Printable buffer pairs work at c t m ws
@@ -123,7 +120,7 @@ module _ {buffer : Bytes} {pairs work : List ℕ} {at : Layout} {c : Merged} {t 
         small = omega (arith, k.few, k.result.counted.inputs);
       }))
 
-  pub latch_symbols_lem : PrintableSome buffer pairs work at c t
+  pub latch_symbols_lem : OfSome (Printable buffer pairs work at c t)
       → CanPrintSymbols leaf.Latches buffer pairs work at.latch_origins (at.vars + 1 + t.inputs) (c.inputs + 1)
   latch_symbols_lem k = record { m = k.m; ws = k.ws; holds = latch_words_lem k.m k.ws k.holds }
 
@@ -143,63 +140,63 @@ module _ {buffer : Bytes} {pairs work : List ℕ} {at : Layout} {c : Merged} {t 
         small = omega (arith, k.few, n.inputs, n.latches, n.gates);
       }
 
-  pub gates-can : PrintableSome buffer pairs work at c t
+  pub gates-can : OfSome (Printable buffer pairs work at c t)
       → CanPrintGates (c.inputs + c.latches + 1) (part work at.gates at.definitions) (t.gates + 1) c.gates
   gates-can k = record { gs = composed_gates k.m k.ws; keys = gate_keys k.m k.ws k.holds }
 
-  -- ---- a part, and then the rest: the slice keeps its length
+  -- ---- a part, and then the rest
 
-  module _ {o o' o'' : Bytes} {from r r' : ℕ} (same : length o' ≡ length o) where
+  module _ {p p' p'' : Printer} where
     then_printed : (part' rest : Sections → List Sections → Bytes)
-        → ((m : Sections) (ws : List Sections) → Printable buffer pairs work at c t m ws → Prints o from (part' m ws) o' r)
-        → Printed rest buffer pairs work at c t o' r o'' r' → Printed (λ m ws. part' m ws ++ rest m ws) buffer pairs work at c t o from o'' r'
-    then_printed part' rest p q small =
-        record { each = λ m ws k. prints_then o from (part' m ws) o' r (rest m ws) o'' r' small same (p m ws k) ((q (omega arith)).each m ws k) }
+        → ((m : Sections) (ws : List Sections) → Printable buffer pairs work at c t m ws → PrintsOn p (part' m ws) p')
+        → PrintsText (Printable buffer pairs work at c t) rest p' p'' → PrintsText (Printable buffer pairs work at c t) (λ m ws. part' m ws ++ rest m ws) p p''
+    then_printed part' rest q r =
+        record { each = λ m ws k. prints_then p (part' m ws) p' (rest m ws) p'' (q m ws k) (r.each m ws k) }
 
-    pub latch_names-printed : PrintsSymbols leaf.Latches buffer pairs work at.latch_origins (at.vars + 1 + t.inputs) (c.inputs + 1) o from o' r
-        → Prints o' r closing_text o'' r' → Printed from_latch_names buffer pairs work at c t o from o'' r'
-    latch_names-printed p q =
-        then_printed (λ m ws. text_of (symbol_lines 108 0 (entry_names (latch_firsts m ws)))) (λ m ws. closing_text) (λ m ws k. p m ws (latch_words_lem m ws k))
-        (λ small. record { each = λ m ws k. q })
+    pub latch_names-printed : PrintsSymbols leaf.Latches buffer pairs work at.latch_origins (at.vars + 1 + t.inputs) (c.inputs + 1) p p'
+        → PrintsOn p' closing_text p'' → PrintsText (Printable buffer pairs work at c t) from_latch_names p p''
+    latch_names-printed q r =
+        then_printed (λ m ws. text_of (symbol_lines 108 0 (entry_names (latch_firsts m ws)))) (λ m ws. closing_text) (λ m ws k. q m ws (latch_words_lem m ws k))
+        (record { each = λ m ws k. r })
 
-    pub input-names-printed : PrintsSymbols leaf.Inputs buffer pairs work at.input_origins (at.vars + 1) 1 o from o' r
-        → Printed from_latch_names buffer pairs work at c t o' r o'' r' → Printed from_input_names buffer pairs work at c t o from o'' r'
-    input-names-printed p q =
-        then_printed (λ m ws. text_of (symbol_lines 105 0 (entry_names (input_firsts m ws)))) from_latch_names (λ m ws k. p m ws (input-words m ws k)) q
+    pub input-names-printed : PrintsSymbols leaf.Inputs buffer pairs work at.input_origins (at.vars + 1) 1 p p'
+        → PrintsText (Printable buffer pairs work at c t) from_latch_names p' p'' → PrintsText (Printable buffer pairs work at c t) from_input_names p p''
+    input-names-printed q r =
+        then_printed (λ m ws. text_of (symbol_lines 105 0 (entry_names (input_firsts m ws)))) from_latch_names (λ m ws k. q m ws (input-words m ws k)) r
 
-    pub gates-printed : PrintsGates (c.inputs + c.latches + 1) (part work at.gates at.definitions) (t.gates + 1) c.gates o from o' r
-        → Printed from_input_names buffer pairs work at c t o' r o'' r' → Printed from_gates buffer pairs work at c t o from o'' r'
-    gates-printed p q =
+    pub gates-printed : PrintsGates (c.inputs + c.latches + 1) (part work at.gates at.definitions) (t.gates + 1) c.gates p p'
+        → PrintsText (Printable buffer pairs work at c t) from_input_names p' p'' → PrintsText (Printable buffer pairs work at c t) from_gates p p''
+    gates-printed q r =
         then_printed (λ m ws. text_of (gate_lines (gates_from (suc (leaf_count m ws)) (composed_gates m ws)))) from_input_names
         (λ m ws k.
         let n = k.result.counted in
         let e : c.inputs + c.latches + 1 ≡ suc (leaf_count m ws) = omega (arith, n.inputs, n.latches) in
-        subst (λ (j : ℕ). Prints o from (text_of (gate_lines (gates_from j (composed_gates m ws)))) o' r) e (p (composed_gates m ws) (gate_keys m ws k)))
-        q
+        subst (λ (j : ℕ). PrintsOn p (text_of (gate_lines (gates_from j (composed_gates m ws)))) p') e (q (composed_gates m ws) (gate_keys m ws k)))
+        r
 
-    pub constraints-printed : Prints o from (text_of (lines.literal_lines (elements (part work at.constraint_bits at.end)))) o' r
-        → Printed from_gates buffer pairs work at c t o' r o'' r' → Printed from_constraints buffer pairs work at c t o from o'' r'
-    constraints-printed p q =
+    pub constraints-printed : PrintsOn p (text_of (lines.literal_lines (elements (part work at.constraint_bits at.end)))) p'
+        → PrintsText (Printable buffer pairs work at c t) from_gates p' p'' → PrintsText (Printable buffer pairs work at c t) from_constraints p p''
+    constraints-printed q r =
         then_printed (λ m ws. text_of (lines.literal_lines (literals_of (λ s. s.constraints) (whole m ws)))) from_gates
         (λ m ws k.
         let e : elements (part work at.constraint_bits at.end) ≡ literals_of (λ s. s.constraints) (whole m ws) =
         ap (λ (j : ℕ). elements (part work at.constraint_bits j)) k.regions.end ∙ k.result.constraints in
-        subst (λ (xs : List ℕ). Prints o from (text_of (lines.literal_lines xs)) o' r) e p)
-        q
+        subst (λ (xs : List ℕ). PrintsOn p (text_of (lines.literal_lines xs)) p') e q)
+        r
 
-    pub bads-printed : Prints o from (text_of (lines.literal_lines (elements (part work at.bad_bits at.constraint_bits)))) o' r
-        → Printed from_constraints buffer pairs work at c t o' r o'' r' → Printed from_bads buffer pairs work at c t o from o'' r'
-    bads-printed p q =
+    pub bads-printed : PrintsOn p (text_of (lines.literal_lines (elements (part work at.bad_bits at.constraint_bits)))) p'
+        → PrintsText (Printable buffer pairs work at c t) from_constraints p' p'' → PrintsText (Printable buffer pairs work at c t) from_bads p p''
+    bads-printed q r =
         then_printed (λ m ws. text_of (lines.literal_lines (literals_of safety (whole m ws)))) from_constraints
         (λ m ws k.
         let e : elements (part work at.bad_bits at.constraint_bits) ≡ literals_of safety (whole m ws) =
         ap (λ (j : ℕ). elements (part work at.bad_bits j)) k.regions.constraint_bits ∙ k.result.bads in
-        subst (λ (xs : List ℕ). Prints o from (text_of (lines.literal_lines xs)) o' r) e p)
-        q
+        subst (λ (xs : List ℕ). PrintsOn p (text_of (lines.literal_lines xs)) p') e q)
+        r
 
-    pub latches-printed : Prints o from (text_of (lines.gate_lines (c.inputs + 1) (part work at.definitions (at.definitions + 2 * c.latches)))) o' r
-        → Printed from_bads buffer pairs work at c t o' r o'' r' → Printed from_latches buffer pairs work at c t o from o'' r'
-    latches-printed p q =
+    pub latches-printed : PrintsOn p (text_of (lines.gate_lines (c.inputs + 1) (part work at.definitions (at.definitions + 2 * c.latches)))) p'
+        → PrintsText (Printable buffer pairs work at c t) from_bads p' p'' → PrintsText (Printable buffer pairs work at c t) from_latches p p''
+    latches-printed q r =
         then_printed (λ m ws. text_of (lines.gate_lines (suc (length (input_firsts m ws))) (words_of latch_words (latches_of m ws)))) from_bads
         (λ m ws k.
         let n = k.result.counted in
@@ -207,52 +204,52 @@ module _ {buffer : Bytes} {pairs work : List ℕ} {at : Layout} {c : Merged} {t 
         let e : part work at.definitions (at.definitions + 2 * c.latches) ≡ definition_words m ws =
         has_part work at.definitions (2 * c.latches) (definition_words m ws) long k.result.definitions in
         let f : c.inputs + 1 ≡ suc (length (input_firsts m ws)) = omega (arith, n.inputs) in
-        subst (λ (j : ℕ). Prints o from (text_of (lines.gate_lines j (definition_words m ws))) o' r) f
-        (subst (λ (xs : List ℕ). Prints o from (text_of (lines.gate_lines (c.inputs + 1) xs)) o' r) e p))
-        q
+        subst (λ (j : ℕ). PrintsOn p (text_of (lines.gate_lines j (definition_words m ws))) p') f
+        (subst (λ (xs : List ℕ). PrintsOn p (text_of (lines.gate_lines (c.inputs + 1) xs)) p') e q))
+        r
 
-    pub inputs-printed : Prints o from (text_of (lines.literal_lines (lines.literals_from 1 c.inputs))) o' r
-        → Printed from_latches buffer pairs work at c t o' r o'' r' → Printed from_inputs buffer pairs work at c t o from o'' r'
-    inputs-printed p q =
+    pub inputs-printed : PrintsOn p (text_of (lines.literal_lines (lines.literals_from 1 c.inputs))) p'
+        → PrintsText (Printable buffer pairs work at c t) from_latches p' p'' → PrintsText (Printable buffer pairs work at c t) from_inputs p p''
+    inputs-printed q r =
         then_printed (λ m ws. text_of (lines.literal_lines (lines.literals_from 1 (length (input_firsts m ws))))) from_latches
-        (λ m ws k. subst (λ (j : ℕ). Prints o from (text_of (lines.literal_lines (lines.literals_from 1 j))) o' r) k.result.counted.inputs p)
-        q
+        (λ m ws k. subst (λ (j : ℕ). PrintsOn p (text_of (lines.literal_lines (lines.literals_from 1 j))) p') k.result.counted.inputs q)
+        r
 
-    pub header_printed : Prints o from (header_of (counts_of c) ++ 10 ∷ []) o' r
-        → Printed from_inputs buffer pairs work at c t o' r o'' r' → Printed from_header buffer pairs work at c t o from o'' r'
-    header_printed p q =
+    pub header_printed : PrintsOn p (header_of (counts_of c) ++ 10 ∷ []) p'
+        → PrintsText (Printable buffer pairs work at c t) from_inputs p' p'' → PrintsText (Printable buffer pairs work at c t) from_header p p''
+    header_printed q r =
         then_printed (λ m ws. header_of (composed_counts m ws) ++ 10 ∷ []) from_inputs
-        (λ m ws k. subst (λ (x : Counts). Prints o from (header_of x ++ 10 ∷ []) o' r) (counts-are k.result.counted) p)
-        q
+        (λ m ws k. subst (λ (x : Counts). PrintsOn p (header_of x ++ 10 ∷ []) p') (counts-are k.result.counted) q)
+        r
 
   -- ---- what the printing functions ask for
 
-  pub inputs-small : PrintableSome buffer pairs work at c t → 2 * (1 + c.inputs) < 9223372036854775808
+  pub inputs-small : OfSome (Printable buffer pairs work at c t) → 2 * (1 + c.inputs) < 9223372036854775808
   inputs-small k = omega (arith, k.holds.few, k.holds.result.counted.inputs)
 
-  pub constraints-small : PrintableSome buffer pairs work at c t → 64 * length (part work at.constraint_bits at.end) < 18446744073709551616
+  pub constraints-small : OfSome (Printable buffer pairs work at c t) → 64 * length (part work at.constraint_bits at.end) < 18446744073709551616
   constraints-small k =
       let n = region_length work at.constraint_bits at.end at.bits k.holds.regions.end k.holds.fits in omega (arith, n, k.holds.few_bits)
 
-  pub bads-small : PrintableSome buffer pairs work at c t → 64 * length (part work at.bad_bits at.constraint_bits) < 18446744073709551616
+  pub bads-small : OfSome (Printable buffer pairs work at c t) → 64 * length (part work at.bad_bits at.constraint_bits) < 18446744073709551616
   bads-small k =
       let g = k.holds.regions in
       let n = region_length work at.bad_bits at.constraint_bits at.bits g.constraint_bits (omega (arith, k.holds.fits, g.end)) in
       omega (arith, n, k.holds.few_bits)
 
   -- the definitions of the composed latches end before the bads
-  definitions-end : PrintableSome buffer pairs work at c t → at.definitions + 2 * c.latches ≤ length work
+  definitions-end : OfSome (Printable buffer pairs work at c t) → at.definitions + 2 * c.latches ≤ length work
   definitions-end k =
       omega (arith, k.holds.result.definitions.room, latch_length k.m k.ws, k.holds.result.counted.latches)
 
-  pub latches-small : PrintableSome buffer pairs work at c t
+  pub latches-small : OfSome (Printable buffer pairs work at c t)
       → 2 * (c.inputs + 1 + length (part work at.definitions (at.definitions + 2 * c.latches))) < 9223372036854775808
   latches-small k =
       let n = part_length work at.definitions (at.definitions + 2 * c.latches) (definitions-end k) in
       omega (arith, n, k.holds.few, k.holds.result.counted.inputs, k.holds.result.counted.latches)
 
   -- the regions that are printed stand in order, within the words
-  pub region_ends : PrintableSome buffer pairs work at c t
+  pub region_ends : OfSome (Printable buffer pairs work at c t)
       → (at.gates ≤ at.definitions) × ((at.definitions + 2 * c.latches ≤ length work) × ((at.definitions ≤ length work)
       × ((at.bad_bits ≤ at.constraint_bits) × ((at.constraint_bits ≤ at.end) × ((at.end ≤ length work) × (t.gates + 1 ≤ length work))))))
   region_ends k =

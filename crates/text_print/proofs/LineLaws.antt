@@ -1,14 +1,28 @@
--- The lines of literals and gates, one after the other, as the loops print them.
+-- Fields, and the lines of literals and gates, one after the other, as the loops print them.
 use Prim.Native.Nat.{ℕ, suc, ◌+◌, ◌-◌, ◌*◌, ◌≤◌, ◌<◌}
 use mathlib.Core.Path.{◌≡◌, refl, sym, ap, ◌∙◌}
 use mathlib.Core.List.{List, [], ◌∷◌, ◌++◌, append_assoc}
 use native.Mathlib.Numerals.{add-one}
 use native.Mathlib.Omega.{arith}
-use lib.ListN.{length, get_or, drop, length-drop}
+use lib.ListN.{length, get_or, drop, length-drop, drop_of_length-le}
 use Rattle.lists.specs.Parts.{Bytes}
 use Rattle.lists.proofs.RestLaws.{rest_more}
+use Rattle.text_decimal.specs.Decimal.{decimal}
 use Rattle.text_decimal.specs.Printed.{number_line, text_of}
-use Rattle.text_print.specs.Inner.Lines.{literal_lines, literals_from, gate_lines}
+use Rattle.text_print.specs.Inner.Lines.{fields_text, literal_lines, literals_from, gate_lines}
+
+-- ---- fields
+
+module _ {A : Type 0} (value : A → ℕ) (xs : List A) (i : ℕ) where
+  pub fields-more : (x : A) (n : ℕ) → i < length xs → x ≡ get_or xs i x → n ≡ value x → fields_text value (drop i xs) ≡ (32 ∷ decimal n) ++ fields_text value (drop (i + 1) xs)
+  fields-more x n h e k =
+      ap (fields_text value) (rest_more xs i x h)
+      ∙ ap (λ (m : ℕ). (32 ∷ decimal m) ++ fields_text value (drop (i + 1) xs)) (ap value (sym e) ∙ sym k)
+
+  pub fields-end : length xs ≤ i → fields_text value (drop i xs) ≡ []
+  fields-end h = ap (fields_text value) (drop_of_length-le xs h)
+
+-- ---- lines
 
 -- a first line, with its byte 10
 text_first : (l : Bytes) (ls : List Bytes) → text_of (l ∷ ls) ≡ (l ++ (10 ∷ [])) ++ text_of ls
@@ -24,9 +38,6 @@ module _ (x left : ℕ) where
   literals-more h y m p q =
       let e : left ≡ suc (left - 1) = omega arith in
       ap (λ (k : ℕ). text_of (literal_lines (literals_from x k))) e ∙ rw (p, q, add-one x) (literal-first (2 * x) (literals_from (suc x) (left - 1)))
-
-  pub literals_end : left ≤ 0 → text_of (literal_lines (literals_from x left)) ≡ []
-  literals_end h = let e : left ≡ 0 = omega arith in rw e
 
 module _ (x : ℕ) (words : List ℕ) (i : ℕ) where
   pub gates-more : i + 1 < length words → (y j : ℕ) → y ≡ x + 1 → j ≡ i + 2

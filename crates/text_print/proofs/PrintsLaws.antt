@@ -1,92 +1,75 @@
--- Laws of `Prints`: texts printed one after the other, and `Printing`, a loop that prints.
-use Rattle.std.specs.Prelude.{Option, Some, None}
+-- Laws of `PrintsOn`: texts printed one after the other, and `Printing`, a loop that prints.
 use Prim.Native.Nat.{ℕ, ◌+◌, ◌≤◌}
-use mathlib.Core.Path.{◌≡◌, refl, sym, ap, ◌∙◌}
+use mathlib.Core.Path.{◌≡◌, refl, sym, ap, ◌∙◌, subst}
 use mathlib.Core.List.{[], ◌++◌, append_assoc, append-nil}
 use native.Mathlib.Omega.{arith}
 use lib.ListN.{length, length-append}
 use Rattle.lists.specs.Parts.{Bytes, put}
 use Rattle.lists.proofs.PartLaws.{put-none, put-put}
-use Rattle.text_decimal.specs.Inner.Writing.{written_at, written}
-use Rattle.text_decimal.proofs.WritingLaws.{wrote, kept}
-use Rattle.text_print.specs.Inner.Prints.{capped, Prints}
+use Rattle.text_print.specs.declared.Printer.{Printer}
+use Rattle.text_print.specs.Inner.Prints.{Prints, PrintsOn}
 
--- what a word can hold
-abbrev pub Word : ℕ → Type 0
-Word n = n ≤ 18446744073709551615
+prints_then_raw : (o : Bytes) (at : ℕ) (b o' : Bytes) (r : ℕ) (c o'' : Bytes) (r' : ℕ) → length o ≤ 18446744073709551615 → length o' ≡ length o → Prints o at b o' r → Prints o' r c o'' r' → Prints o at (b ++ c) o'' r'
+prints_then_raw o at b o' r c o'' r' small same p q =
+    let n : length (b ++ c) ≡ length b + length c = length-append b c in
+    record {
+      next = omega (arith, p.next, q.next, n);
+      stands =
+          λ h.
+          let place : r ≡ at + length b = omega (arith, p.next, n) in
+          q.stands (omega (arith, n))
+          ∙ ap (λ (x : Bytes). put x r c) (p.stands (omega (arith, n)))
+          ∙ ap (λ (k : ℕ). put (put o at b) k c) place
+          ∙ put-put o at b (omega (arith, n)) c;
+    }
 
--- ---- one text
+module _ (p : Printer) where
+  pub prints_none : PrintsOn p [] p
+  prints_none = record { same_buffer = refl; same_room = refl; prints = λ h l. record { next = omega arith; stands = λ k. sym (put-none p.out.now p.at) } }
 
-module _ (o : Bytes) (at : ℕ) where
-  pub prints-none : Word at → Prints o at [] o at
-  prints-none h = record { next = omega arith; stands = λ k. sym (put-none o at) }
+  module _ (b : Bytes) (p' : Printer) where
+    -- other bytes that are the same
+    pub prints_as : (c : Bytes) → b ≡ c → PrintsOn p b p' → PrintsOn p c p'
+    prints_as c e q = subst (λ (x : Bytes). PrintsOn p x p') e q
 
-  module _ (bytes : Bytes) (size : ℕ) (n : size ≡ length bytes) where
-    -- measured, where there is no room
-    pub prints_measured : (r : ℕ) → (at + size ≤ length o → ⊥) → r ≡ capped (at + size) → Prints o at bytes o r
-    prints_measured r h e = record { next = e ∙ ap (λ (k : ℕ). capped (at + k)) n; stands = λ k. absurd (h (omega (arith, n))) }
-
-    -- written, where there is room
-    pub prints-put : (o' : Bytes) (r : ℕ) → r ≡ at + size → Word r → o' ≡ put o at bytes → Prints o at bytes o' r
-    prints-put o' r q h e = record { next = omega (arith, q); stands = λ k. e }
-
-  -- the answers of the functions that write
-  module _ (bytes o' : Bytes) (answer : Option ℕ) (e : answer ≡ written_at (length o) at bytes) (k : o' ≡ written o at bytes) where
-    pub prints-wrote : (next : ℕ) → answer ≡ Some next → Word (length o) → Prints o at bytes o' next
-    prints-wrote next m h =
-        let w = wrote o at bytes o' answer next e k m in
-        record { next = omega (arith, w.after, w.fits); stands = λ j. w.is }
-
-    pub prints-kept : (r : ℕ) → answer ≡ None → r ≡ capped (at + length bytes) → Prints o at bytes o' r
-    prints-kept r m c =
-        let w = kept o at bytes o' answer e k m in
-        record { next = c; stands = λ j. absurd (omega (arith, w.over)) }
-
--- ---- one text after the other
-
-module _ (o : Bytes) (at : ℕ) (b o' : Bytes) (r : ℕ) (c o'' : Bytes) (r' : ℕ) where
-  pub prints_then : Word (length o) → length o' ≡ length o → Prints o at b o' r → Prints o' r c o'' r' → Prints o at (b ++ c) o'' r'
-  prints_then small same p q =
-      let n : length (b ++ c) ≡ length b + length c = length-append b c in
-      record {
-        next = omega (arith, p.next, q.next, n);
-        stands =
-            λ h.
-            let place : r ≡ at + length b = omega (arith, p.next, n) in
-            q.stands (omega (arith, n))
-            ∙ ap (λ (x : Bytes). put x r c) (p.stands (omega (arith, n)))
-            ∙ ap (λ (k : ℕ). put (put o at b) k c) place
-            ∙ put-put o at b (omega (arith, n)) c;
-      }
+    -- one text after the other
+    pub prints_then : (c : Bytes) (p'' : Printer) → PrintsOn p b p' → PrintsOn p' c p'' → PrintsOn p (b ++ c) p''
+    prints_then c p'' q r =
+        record {
+          same_buffer = r.same_buffer ∙ q.same_buffer;
+          same_room = r.same_room ∙ q.same_room;
+          prints =
+              λ h l.
+              let first = q.prints h l in
+              prints_then_raw p.out.now p.at b p'.out.now p'.at c p''.out.now p''.at l q.same_room first
+              (r.prints (omega (arith, first.next)) (omega (arith, q.same_room)));
+        }
 
 -- ---- a loop
 
--- of `all`, which is printed into o₀ from place `at` on, `rest` is still to be printed: into o, from place `to` on
-pub record Printing (o₀ : Bytes) (at : ℕ) (all o : Bytes) (to : ℕ) (rest : Bytes) : Type 0 where
+-- of `all`, which is printed from p₀ on, `rest` is still to be printed, from p on
+pub record Printing (p₀ : Printer) (all : Bytes) (p : Printer) (rest : Bytes) : Type 0 where
   pub done : Bytes
-  pub so_far : Prints o₀ at done o to
+  pub so_far : PrintsOn p₀ done p
   pub left : done ++ rest ≡ all
-  pub same : length o ≡ length o₀
 
-pub printing-none : (o : Bytes) (at : ℕ) (all : Bytes) → Word at → Printing o at all o at all
-printing-none o at all h = record { done = []; so_far = prints-none o at h; left = refl; same = refl }
+pub printing-none : (p : Printer) (all : Bytes) → Printing p all p all
+printing-none p all = record { done = []; so_far = prints_none p; left = refl }
 
-module _ (o₀ : Bytes) (at : ℕ) (all o : Bytes) (to : ℕ) (rest : Bytes) (p : Printing o₀ at all o to rest) where
-  pub printing-more : (b rest' o' : Bytes) (to' : ℕ) → Word (length o₀) → rest ≡ b ++ rest' → length o' ≡ length o → Prints o to b o' to'
-      → Printing o₀ at all o' to' rest'
-  printing-more b rest' o' to' small e k q =
+module _ (p₀ : Printer) (all : Bytes) (p : Printer) (rest : Bytes) (w : Printing p₀ all p rest) where
+  pub printing-more : (b rest' : Bytes) (p' : Printer) → rest ≡ b ++ rest' → PrintsOn p b p' → Printing p₀ all p' rest'
+  printing-more b rest' p' e q =
       record {
-        done = p.done ++ b;
-        so_far = prints_then o₀ at p.done o to b o' to' small p.same p.so_far q;
-        left = append_assoc p.done b rest' ∙ ap (λ (x : Bytes). p.done ++ x) (sym e) ∙ p.left;
-        same = k ∙ p.same;
+        done = w.done ++ b;
+        so_far = prints_then p₀ w.done p b p' w.so_far q;
+        left = append_assoc w.done b rest' ∙ ap (λ (x : Bytes). w.done ++ x) (sym e) ∙ w.left;
       }
 
   -- the same rest, written otherwise
-  pub printing_as : (rest' : Bytes) → rest ≡ rest' → Printing o₀ at all o to rest'
-  printing_as rest' e = rw (← e) p
+  pub printing_as : (rest' : Bytes) → rest ≡ rest' → Printing p₀ all p rest'
+  printing_as rest' e = rw (← e) w
 
-  pub printing-done : rest ≡ [] → Prints o₀ at all o to
+  pub printing-done : rest ≡ [] → PrintsOn p₀ all p
   printing-done e =
-      let whole : p.done ≡ all = sym (append-nil p.done) ∙ ap (λ (x : Bytes). p.done ++ x) (sym e) ∙ p.left in
-      rw (← whole) p.so_far
+      let whole : w.done ≡ all = sym (append-nil w.done) ∙ ap (λ (x : Bytes). w.done ++ x) (sym e) ∙ w.left in
+      rw (← whole) w.so_far

@@ -18,8 +18,9 @@ use Rattle.text_decimal.specs.Printed.{number_line, text_of}
 use Rattle.text_decimal.proofs.PrintedLaws.{text_append}
 use Rattle.text_print.specs.Inner.Elements.{passing, elements, elements_in}
 use Rattle.text_print.specs.Inner.Lines.{literal_lines}
-use Rattle.text_print.specs.Inner.Prints.{Prints}
-use Rattle.text_print.proofs.PrintsLaws.{Word, Printing, printing-none, printing-more, printing_as, printing-done}
+use Rattle.text_print.specs.declared.Printer.{Printer}
+use Rattle.text_print.specs.Inner.Prints.{PrintsOn}
+use Rattle.text_print.proofs.PrintsLaws.{Printing, printing-none, printing-more, printing_as, printing-done}
 use Rattle.text_print.proofs.LineLaws.{literal-first}
 use Rattle.text_print.proofs.ElementLaws.{passing_append}
 
@@ -80,19 +81,19 @@ lines_of ns = text_of (literal_lines ns)
 
 -- ---- the loop over a word
 
--- `all` is printed into o₀ from place `at` on; the bits of `rest` are still to be printed, of which the lowest is number k, and the last comes before number e
-pub record InWord (ws : List ℕ) (e : ℕ) (o₀ : Bytes) (at : ℕ) (all o : Bytes) (to k rest : ℕ) : Type 0 where
+-- `all` is printed from p₀ on; the bits of `rest` are still to be printed, of which the lowest is number k, and the last comes before number e
+pub record InWord (ws : List ℕ) (e : ℕ) (p₀ : Printer) (all : Bytes) (p : Printer) (k rest : ℕ) : Type 0 where
   pub left : ℕ
   pub ends : k + left ≡ e
   pub bits : BitsFrom ws k left rest
-  pub printing : Printing o₀ at all o to (lines_of (passing (holds ws) k left))
+  pub printing : Printing p₀ all p (lines_of (passing (holds ws) k left))
 
-pub word_none : (ws : List ℕ) (j : ℕ) (o : Bytes) (at : ℕ) → get_or ws j 0 < 2 ^ 64 → Word at
-    → InWord ws (64 * j + 64) o at (lines_of (elements_in ws j)) o at (64 * j) (get_or ws j 0)
+pub word_none : (ws : List ℕ) (j : ℕ) (p : Printer) → get_or ws j 0 < 2 ^ 64
+    → InWord ws (64 * j + 64) p (lines_of (elements_in ws j)) p (64 * j) (get_or ws j 0)
 unfolding elements_in
-word_none ws j o at h w = record { left = 64; ends = refl; bits = bits-word ws j h; printing = printing-none o at (lines_of (elements_in ws j)) w }
+word_none ws j p h = record { left = 64; ends = refl; bits = bits-word ws j h; printing = printing-none p (lines_of (elements_in ws j)) }
 
-module _ (ws : List ℕ) (e : ℕ) (o₀ : Bytes) (at : ℕ) (all o : Bytes) (to k rest : ℕ) (w : InWord ws e o₀ at all o to k rest) where
+module _ (ws : List ℕ) (e : ℕ) (p₀ : Printer) (all : Bytes) (p : Printer) (k rest : ℕ) (w : InWord ws e p₀ all p k rest) where
   -- as many bits are left as the rest needs
   bits_left : (t : ℕ) → 2 ^ t ≤ rest → t < w.left
   bits_left t h = ⊎_elim (λ b. b) (λ b. absurd (omega (arith, pow_mono {i = w.left} {j = t} b, w.bits.small))) (below_or t w.left)
@@ -103,26 +104,25 @@ module _ (ws : List ℕ) (e : ℕ) (o₀ : Bytes) (at : ℕ) (all o : Bytes) (to
   pub word-room_eight : 0 < rest → rest % 256 ≡ 0 → k + 8 < e
   word-room_eight h z = omega (arith, bits_left 8 (omega arith), w.ends)
 
-  skipped : (t rest' : ℕ) → t ≤ w.left → rest ≡ 2 ^ t * rest' → InWord ws e o₀ at all o to (k + t) rest'
+  skipped : (t rest' : ℕ) → t ≤ w.left → rest ≡ 2 ^ t * rest' → InWord ws e p₀ all p (k + t) rest'
   skipped t rest' h z =
-      let p : Passed ws k w.left t rest' = bits-zeros ws t k w.left rest' h (rw (← z) w.bits) in
+      let q : Passed ws k w.left t rest' = bits-zeros ws t k w.left rest' h (rw (← z) w.bits) in
       let now : Bytes = lines_of (passing (holds ws) k w.left) in
       record {
         left = w.left - t;
         ends = omega (arith, w.ends);
-        bits = p.bits;
-        printing = printing_as o₀ at all o to now w.printing (lines_of (passing (holds ws) (k + t) (w.left - t))) (ap lines_of p.is);
+        bits = q.bits;
+        printing = printing_as p₀ all p now w.printing (lines_of (passing (holds ws) (k + t) (w.left - t))) (ap lines_of q.is);
       }
 
-  pub word_eight : 0 < rest → rest % 256 ≡ 0 → InWord ws e o₀ at all o to (k + 8) (rest / 256)
+  pub word_eight : 0 < rest → rest % 256 ≡ 0 → InWord ws e p₀ all p (k + 8) (rest / 256)
   word_eight h z = skipped 8 (rest / 256) (omega (arith, bits_left 8 (omega arith))) (omega arith)
 
-  pub word_one : 0 < rest → rest % 2 ≡ 0 → InWord ws e o₀ at all o to (k + 1) (rest / 2)
+  pub word_one : 0 < rest → rest % 2 ≡ 0 → InWord ws e p₀ all p (k + 1) (rest / 2)
   word_one h z = skipped 1 (rest / 2) (omega (arith, bits_left 0 h)) (omega arith)
 
-  pub word_print : (o' : Bytes) (to' : ℕ) → (rest % 2 ≡ 0 → ⊥) → Word (length o₀) → length o' ≡ length o → Prints o to (number_line (k ∷ []) ++ (10 ∷ [])) o' to'
-      → InWord ws e o₀ at all o' to' (k + 1) (rest / 2)
-  word_print o' to' n small same q =
+  pub word_print : (p' : Printer) → (rest % 2 ≡ 0 → ⊥) → PrintsOn p (number_line (k ∷ []) ++ (10 ∷ [])) p' → InWord ws e p₀ all p' (k + 1) (rest / 2)
+  word_print p' n q =
       let some : 0 < w.left = bits_left 0 (omega arith) in
       let m : w.left ≡ suc (w.left - 1) = omega arith in
       let b : BitsFrom ws k (suc (w.left - 1)) rest = rw m at w.bits in
@@ -136,16 +136,16 @@ module _ (ws : List ℕ) (e : ℕ) (o₀ : Bytes) (at : ℕ) (all o : Bytes) (to
         bits = rw (add-one k) (bits-next ws k (w.left - 1) rest b);
         printing =
             rw (add-one k)
-            (printing-more o₀ at all o to now w.printing (number_line (k ∷ []) ++ (10 ∷ [])) (lines_of later) o' to' small (ap lines_of split ∙ literal-first k later) same q);
+            (printing-more p₀ all p now w.printing (number_line (k ∷ []) ++ (10 ∷ [])) (lines_of later) p' (ap lines_of split ∙ literal-first k later) q);
       }
 
-  pub word-done : rest ≤ 0 → Prints o₀ at all o to
+  pub word-done : rest ≤ 0 → PrintsOn p₀ all p
   word-done h =
       let z : rest ≡ 0 = omega arith in
-      let p : Passed ws k w.left w.left 0 = bits-zeros ws w.left k w.left 0 (omega arith) (rw (mul-zero (2 ^ w.left), ← z) w.bits) in
+      let q : Passed ws k w.left w.left 0 = bits-zeros ws w.left k w.left 0 (omega arith) (rw (mul-zero (2 ^ w.left), ← z) w.bits) in
       let n : w.left - w.left ≡ 0 = omega arith in
-      let none : passing (holds ws) k w.left ≡ [] = p.is ∙ rw n in
-      printing-done o₀ at all o to (lines_of (passing (holds ws) k w.left)) w.printing (ap lines_of none)
+      let none : passing (holds ws) k w.left ≡ [] = q.is ∙ rw n in
+      printing-done p₀ all p (lines_of (passing (holds ws) k w.left)) w.printing (ap lines_of none)
 
 -- ---- the loop over the words
 
@@ -161,10 +161,10 @@ module _ (ws : List ℕ) where
   unfolding elements
   set-start = let n : length ws - 0 ≡ length ws = omega arith in rw n
 
-  pub set-none : (o : Bytes) (at : ℕ) → Word at → Printing o at (lines_of (elements ws)) o at (lines_of (elements_from ws 0))
-  set-none o at h =
+  pub set-none : (p : Printer) → Printing p (lines_of (elements ws)) p (lines_of (elements_from ws 0))
+  set-none p =
       let all : Bytes = lines_of (elements ws) in
-      printing_as o at all o at all (printing-none o at all h) (lines_of (elements_from ws 0)) (ap lines_of set-start)
+      printing_as p all p all (printing-none p all) (lines_of (elements_from ws 0)) (ap lines_of set-start)
 
   module _ (j : ℕ) where
     pub set_more : j < length ws → lines_of (elements_from ws j) ≡ lines_of (elements_in ws j) ++ lines_of (elements_from ws (j + 1))
@@ -178,6 +178,3 @@ module _ (ws : List ℕ) where
         ∙ passing_append (holds ws) (64 * j) 64 (64 * (length ws - (j + 1)))
         ∙ ap (λ (i : ℕ). passing (holds ws) (64 * j) 64 ++ passing (holds ws) i (64 * (length ws - (j + 1)))) m)
         ∙ lines_append (passing (holds ws) (64 * j) 64) (elements_from ws (j + 1))
-
-    pub set-end : length ws ≤ j → lines_of (elements_from ws j) ≡ []
-    set-end h = let n : 64 * (length ws - j) ≡ 0 = omega arith in rw n

@@ -68,9 +68,6 @@ module _ (o : Bytes) (at : ℕ) (digits : Bytes) (size : ℕ) (n : size ≡ leng
 field-length : (digits : Bytes) (end : ℕ) → length (digits ++ (end ∷ [])) ≡ length digits + 1
 field-length digits end = length-append digits (end ∷ [])
 
-pub line-length : (x size : ℕ) → size ≡ length (decimal x) → size + 1 ≡ length (number_line (x ∷ []) ++ (10 ∷ []))
-line-length x size n = omega (arith, field-length (decimal x) 10)
-
 -- the fields of a line of three numbers, each with the byte behind it
 three_fields : (a b c : Bytes) → (a ++ (32 ∷ [])) ++ ((b ++ (32 ∷ [])) ++ (c ++ (10 ∷ []))) ≡ (a ++ 32 ∷ (b ++ 32 ∷ c)) ++ (10 ∷ [])
 three_fields a b c = simp append_assoc

@@ -1,41 +1,14 @@
-// Texts printed into a lent buffer. The same functions measure a text: lent an empty slice, they only count its bytes.
+// Texts printed into lent bytes.
 #![tactic(auto)]
 
-ghost use Rattle.std.specs.Prelude.{◌≡◌, [], ◌∷◌, ◌++◌, ◌+◌, ◌*◌, ◌^◌, ◌≤◌, ◌<◌, length};
+ghost use Rattle.std.specs.Prelude.{◌≡◌, ℕ, [], ◌∷◌, ◌++◌, ◌+◌, ◌*◌, ◌^◌, ◌≤◌, ◌<◌, length, SomeIff};
 ghost use Rattle.lists.specs.Parts.{put};
 ghost use Rattle.text_decimal.specs.Decimal.{decimal};
 ghost use Rattle.text_decimal.specs.Printed.{number_line, text_of};
-ghost use Rattle.text_print.specs.Inner.Prints.{capped, Prints};
+ghost use Rattle.text_print.specs.Inner.Prints.{PrintsOn, Passes};
 ghost use Rattle.text_print.specs.Inner.DigitPairs.{digit_pairs};
-ghost use Rattle.text_print.specs.Inner.Lines.{literal_lines, literals_from, gate_lines};
+ghost use Rattle.text_print.specs.Inner.Lines.{fields_text, literal_lines, literals_from, gate_lines};
 ghost use Rattle.text_print.specs.Inner.Elements.{elements, elements_in};
-
-// The place n bytes further on. Places that no word can hold are the largest word.
-pub fn advance(at: usize, n: usize) -> usize
-    ensures { result ≡ capped (at + n) }
-{
-    at.saturating_add(n)
-}
-
-// Prints one byte.
-pub fn print_byte(out: &mut [u8], at: usize, b: u8) -> usize
-    ensures { Prints out.old at (b ∷ []) out.new result }
-{
-    let Some(end) = text_decimal::write_byte(out, at, b) else {
-        return advance(at, 1);
-    };
-    end
-}
-
-// Prints the bytes of a slice.
-pub fn print_bytes(out: &mut [u8], at: usize, bytes: &[u8]) -> usize
-    ensures { Prints out.old at bytes.now out.new result }
-{
-    let Some(end) = text_decimal::write_bytes(out, at, bytes) else {
-        return advance(at, bytes.len());
-    };
-    end
-}
 
 // How many digits a number has. Most numbers have few, and comparing is quicker than dividing.
 fn digit_count(n: u64) -> usize
@@ -82,6 +55,7 @@ fn digit_pairs() -> &'static [u8]
 }
 
 // Writes the digits of n, from the last to the first, two at a time. Looking two digits up is quicker than dividing.
+// Kept (travel): a printer has passed over the place, with others of the same line, before it is written.
 fn write_digits(out: &mut [u8], at: usize, n: u64, size: usize)
     requires { (size ≡ length (decimal n)) × (at + size ≤ length out.old) }
     ensures { out.new ≡ put out.old at (decimal n) }
@@ -103,6 +77,7 @@ fn write_digits(out: &mut [u8], at: usize, n: u64, size: usize)
 }
 
 // Writes the digits of n and a byte behind them.
+// Kept (travel): as in `write_digits`.
 fn write_field(out: &mut [u8], at: usize, n: u64, size: usize, end: u8)
     requires { (size ≡ length (decimal n)) × (at + size < length out.old) }
     ensures { out.new ≡ put out.old at (decimal n ++ (end ∷ [])) }
@@ -111,114 +86,175 @@ fn write_field(out: &mut [u8], at: usize, n: u64, size: usize, end: u8)
     out[at + size] = end;
 }
 
-// Prints the digits of a number.
-pub fn print_number(out: &mut [u8], at: usize, n: u64) -> usize
-    ensures { Prints out.old at (decimal n) out.new result }
-{
-    let size = digit_count(n);
-    let Some(end) = text_decimal::end_within(out.len(), at, size) else {
-        return advance(at, size);
-    };
-    write_digits(out, at, n, size);
-    end
+// A number that stands for a word.
+pub trait Number: Copy {
+    ghost value: { Self → ℕ };
+
+    fn value(self) -> u64
+        ensures { result ≡ value self };
 }
 
-// Prints a line of one number.
-fn print_literal_line(out: &mut [u8], at: usize, x: u64) -> usize
-    ensures { Prints out.old at (number_line (x ∷ []) ++ 10 ∷ []) out.new result }
-{
-    let size = digit_count(x);
-    let Some(end) = text_decimal::end_within(out.len(), at, size + 1) else {
-        return advance(at, size + 1);
-    };
-    write_field(out, at, x, size, 10);
-    end
-}
+impl Number for u64 {
+    ghost value = { λ n. n };
 
-// Prints a line of three numbers.
-pub fn print_three(out: &mut [u8], at: usize, x: u64, y: u64, z: u64) -> usize
-    ensures { Prints out.old at (number_line (x ∷ y ∷ z ∷ []) ++ 10 ∷ []) out.new result }
-{
-    let first = digit_count(x);
-    let second = digit_count(y);
-    let third = digit_count(z);
-    let size = first + second + third + 3;
-    let Some(end) = text_decimal::end_within(out.len(), at, size) else {
-        return advance(at, size);
-    };
-    let middle = at + (first + 1);
-    let last = middle + (second + 1);
-    write_field(out, at, x, first, 32);
-    write_field(out, middle, y, second, 32);
-    write_field(out, last, z, third, 10);
-    end
-}
-
-// Prints the lines of the literals of variables in a row.
-pub fn print_consecutive(out: &mut [u8], at: usize, first: u64, count: usize) -> usize
-    requires { 2 * (first + count) < 2 ^ 63 }
-    ensures { Prints out.old at (text_of (literal_lines (literals_from first count))) out.new result }
-{
-    let mut to = at;
-    for i in 0..count {
-        to = print_literal_line(out, to, 2 * (first + i as u64));
+    fn value(self) -> u64 {
+        self
     }
-    to
 }
 
-// Prints the lines of gates in a row; the words are their operands, two for each.
-pub fn print_pairs(out: &mut [u8], at: usize, first: u64, words: &[u64]) -> usize
-    requires { 2 * (first + length words.now) < 2 ^ 63 }
-    ensures { Prints out.old at (text_of (gate_lines first words.now)) out.new result }
-{
-    let mut to = at;
-    for i in 0..words.len() / 2 {
-        to = print_three(
-            out,
-            to,
-            2 * (first + i as u64),
-            words[2 * i],
-            words[2 * i + 1],
-        );
+impl Number for u32 {
+    ghost value = { λ n. n };
+
+    fn value(self) -> u64 {
+        u64::from(self)
     }
-    to
 }
 
-// Prints a line for each bit that is set in word j; the numbers of its bits begin at 64 * j. Zeros are passed over eight at a time where they can be.
-fn print_word(out: &mut [u8], at: usize, words: &[u64], j: usize) -> usize
-    requires { (j < length words.now) × (64 * length words.now < 2 ^ 64) }
-    ensures { Prints out.old at (text_of (literal_lines (elements_in words.now j))) out.new result }
-{
-    let mut to = at;
-    let mut rest = words[j];
-    let mut k = (64 * j) as u64;
-    // Kept (loop): k moves on by 8 or by 1.
-    while 0 < rest {
-        if rest % 256 == 0 {
-            rest = rest / 256;
-            k += 8;
-            continue;
+// A text that is printed into lent bytes, and how far it is; a place that no word can hold is the largest word. What has no room is only
+// counted, so that a printer that is lent no bytes measures a text.
+#[derive(Drop)]
+pub struct Printer<'a> {
+    pub out: &'a mut [u8],
+    pub at: usize,
+}
+
+impl<'a> Printer<'a> {
+    // Passes over so many bytes, and says where they begin if there is room for them.
+    fn pass(&mut self, size: usize) -> Option<usize>
+        ensures { Passes self.old size self.new × SomeIff result (self.old.at + size ≤ length self.old.out.now) self.old.at }
+    {
+        let start = self.at;
+        self.at = start.saturating_add(size);
+        if self.out.len() < self.at {
+            return None;
         }
-        if rest % 2 == 0 {
+        Some(start)
+    }
+
+    // Prints one byte.
+    pub fn byte(&mut self, b: u8)
+        ensures { PrintsOn self.old (b ∷ []) self.new }
+    {
+        if let Some(at) = self.pass(1) {
+            self.out[at] = b;
+        }
+    }
+
+    // Prints the bytes of a slice.
+    pub fn bytes(&mut self, bytes: &[u8])
+        ensures { PrintsOn self.old bytes.now self.new }
+    {
+        if let Some(at) = self.pass(bytes.len()) {
+            self.out[at..at + bytes.len()].copy_from_slice(bytes);
+        }
+    }
+
+    // Prints the digits of a number.
+    pub fn number(&mut self, n: u64)
+        ensures { PrintsOn self.old (decimal n) self.new }
+    {
+        let size = digit_count(n);
+        if let Some(at) = self.pass(size) {
+            write_digits(self.out, at, n, size);
+        }
+    }
+
+    // Prints a space and a number.
+    pub fn field(&mut self, n: u64)
+        ensures { PrintsOn self.old (32 ∷ decimal n) self.new }
+    {
+        self.byte(32);
+        self.number(n);
+    }
+
+    // Prints numbers, each with a space before it.
+    pub fn fields<T: Number>(&mut self, list: &[T])
+        ensures { PrintsOn self.old (fields_text T.value list.now) self.new }
+    {
+        for n in list {
+            self.field(n.value());
+        }
+    }
+
+    // Prints a line of one number.
+    fn literal_line(&mut self, x: u64)
+        ensures { PrintsOn self.old (number_line (x ∷ []) ++ 10 ∷ []) self.new }
+    {
+        let size = digit_count(x);
+        if let Some(at) = self.pass(size + 1) {
+            write_field(self.out, at, x, size, 10);
+        }
+    }
+
+    // Prints a line of three numbers.
+    pub fn three(&mut self, x: u64, y: u64, z: u64)
+        ensures { PrintsOn self.old (number_line (x ∷ y ∷ z ∷ []) ++ 10 ∷ []) self.new }
+    {
+        let first = digit_count(x);
+        let second = digit_count(y);
+        let third = digit_count(z);
+        if let Some(at) = self.pass(first + second + third + 3) {
+            let middle = at + (first + 1);
+            let last = middle + (second + 1);
+            write_field(self.out, at, x, first, 32);
+            write_field(self.out, middle, y, second, 32);
+            write_field(self.out, last, z, third, 10);
+        }
+    }
+
+    // Prints the lines of the literals of variables in a row.
+    pub fn consecutive(&mut self, first: u64, count: usize)
+        requires { 2 * (first + count) < 2 ^ 63 }
+        ensures { PrintsOn self.old (text_of (literal_lines (literals_from first count))) self.new }
+    {
+        for i in 0..count {
+            self.literal_line(2 * (first + i as u64));
+        }
+    }
+
+    // Prints the lines of gates in a row; the words are their operands, two for each.
+    pub fn pairs(&mut self, first: u64, words: &[u64])
+        requires { 2 * (first + length words.now) < 2 ^ 63 }
+        ensures { PrintsOn self.old (text_of (gate_lines first words.now)) self.new }
+    {
+        for i in 0..words.len() / 2 {
+            self.three(2 * (first + i as u64), words[2 * i], words[2 * i + 1]);
+        }
+    }
+
+    // Prints a line for each bit that is set in word j; the numbers of its bits begin at 64 * j. Zeros are passed over eight at a time where
+    // they can be.
+    fn word(&mut self, words: &[u64], j: usize)
+        requires { (j < length words.now) × (64 * length words.now < 2 ^ 64) }
+        ensures { PrintsOn self.old (text_of (literal_lines (elements_in words.now j))) self.new }
+    {
+        let mut rest = words[j];
+        let mut k = (64 * j) as u64;
+        // Kept (loop): k moves on by 8 or by 1.
+        while 0 < rest {
+            if rest % 256 == 0 {
+                rest = rest / 256;
+                k += 8;
+                continue;
+            }
+            if rest % 2 == 0 {
+                rest = rest / 2;
+                k += 1;
+                continue;
+            }
+            self.literal_line(k);
             rest = rest / 2;
             k += 1;
-            continue;
         }
-        to = print_literal_line(out, to, k);
-        rest = rest / 2;
-        k += 1;
     }
-    to
-}
 
-// Prints a line for each number whose bit is set, ascending. A word that is 0 takes no turn of the inner loop.
-pub fn print_set(out: &mut [u8], at: usize, words: &[u64]) -> usize
-    requires { 64 * length words.now < 2 ^ 64 }
-    ensures { Prints out.old at (text_of (literal_lines (elements words.now))) out.new result }
-{
-    let mut to = at;
-    for j in 0..words.len() {
-        to = print_word(out, to, words, j);
+    // Prints a line for each number whose bit is set, ascending. A word that is 0 takes no turn of the inner loop.
+    pub fn set(&mut self, words: &[u64])
+        requires { 64 * length words.now < 2 ^ 64 }
+        ensures { PrintsOn self.old (text_of (literal_lines (elements words.now))) self.new }
+    {
+        for j in 0..words.len() {
+            self.word(words, j);
+        }
     }
-    to
 }

@@ -1,4 +1,3 @@
-use Rattle.std.proofs.Common.{rules}
 use Rattle.compose.proofs.ChainLaws.{fitting_wrong, fitting_laid, fitting-composed}
 use Rattle.compose.proofs.compose_fitting.Goals as goal
 
@@ -6,7 +5,7 @@ pub returns-in_default : goal.returns-in_default
 returns-in_default c = search fitting_wrong
 
 pub compose_laid-requires : goal.compose_laid-requires
-compose_laid-requires c = record { laid_some = search fitting_laid; counts_listed = search rules }
+compose_laid-requires c = search fitting_laid
 
 pub returns : goal.returns
 returns c = search fitting-composed

@@ -1,5 +1,5 @@
 use Rattle.std.proofs.Common.{refl}
-use Rattle.compose.proofs.TopLaws.{call_few, call_in_order, call_composed, call_apart}
+use Rattle.compose.proofs.TopLaws.{call_few, call_composed, call_apart}
 use Rattle.compose.proofs.compose_in.Goals as goal
 
 pub returns-then-count-lt2 : goal.returns-then-count-lt2
@@ -7,9 +7,6 @@ returns-then-count-lt2 c = call_few _ _ _ _ _ _ _ refl c.then-count-lt2.either
 
 pub returns-then-not-in_order : goal.returns-then-not-in_order
 returns-then-not-in_order c = search call_apart
-
-pub compose_texts-requires : goal.compose_texts-requires
-compose_texts-requires c = search call_in_order
 
 pub returns : goal.returns
 returns c = search call_composed

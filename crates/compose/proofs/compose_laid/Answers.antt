@@ -1,5 +1,4 @@
-use Rattle.std.proofs.Common.{rules}
-use Rattle.compose.proofs.LaidLaws.{laid_can, laid_pairs, laid_refused, laid_printable, laid_unsafe, laid_written}
+use Rattle.compose.proofs.LaidLaws.{laid_can, laid_refused, laid_printable, laid_unsafe, laid_written}
 use Rattle.compose.proofs.compose_laid.Goals as goal
 
 pub merge-requires : goal.merge-requires
@@ -8,14 +7,11 @@ merge-requires c = search laid_can
 pub returns-in_err-merged : goal.returns-in_err-merged
 returns-in_err-merged c = laid_refused _ _ _ _ _ _ _ c.merge.auto.work _ c.in_err-merged.ensures _ _ c.from_residual.ensures.1
 
-pub all_safe-requires : goal.all_safe-requires
-all_safe-requires c = record { few_in_order = search laid_pairs; counts_listed = search rules }
-
 pub returns-then-not-all_safe : goal.returns-then-not-all_safe
 returns-then-not-all_safe c = search (laid_unsafe, c.in_ok-merged.ensures)
 
 pub write_merged-requires : goal.write_merged-requires
-write_merged-requires c = record { printable_some = search (laid_printable, c.in_ok-merged.ensures); counts_listed = search rules }
+write_merged-requires c = laid_printable _ _ _ _ _ _ _ c.merge.auto.work _ c.in_ok-merged.ensures c.requires
 
 pub returns : goal.returns
 returns c = search (laid_written, c.in_ok-merged.ensures)

@@ -1,5 +1,5 @@
 -- For the contracts of the composer's inner functions: what each of them answers.
-use Rattle.std.specs.Prelude.{ℕ, ◌+◌, ◌-◌, ◌/◌, ◌≤◌, Bool, true, cond, List, ◌≡◌, ltb, length, Result}
+use Rattle.std.specs.Prelude.{ℕ, Option, Some, None, ◌-◌, ◌/◌, ◌≤◌, Bool, true, cond, List, ◌≡◌, ltb, length, Result}
 use Rattle.lists.specs.Answer.{Answer, and_then}
 use Rattle.lists.specs.Parts.{Bytes}
 use Rattle.lists.specs.Tests.{all}
@@ -12,18 +12,15 @@ use Rattle.compose_spec.specs.Composing.{is_some, safety, maps_right, composed}
 use Rattle.compose_spec.specs.Printing.{printed}
 use Rattle.compose_spec.specs.Calling.{read_all, compose_sections, texts_in, compose_read, printed_within}
 use Rattle.compose_gather.specs.declared.Totals.{Totals}
-use Rattle.compose_gather.specs.Inner.Checking.{FewInOrder}
 use Rattle.compose_gather.specs.Inner.Gathered.{Readable}
 use Rattle.compose_layout.specs.declared.Layout.{Layout}
 use Rattle.compose_layout.specs.Inner.Laid.{Fitting, Ready, OfSome}
 use Rattle.text_print.specs.Inner.Prints.{capped}
-use Rattle.compose_merge.specs.declared.Merged.{Merged}
-use Rattle.compose_print.specs.Inner.Written.{Printable}
 use Rattle.compose.specs.Promise.{composed_answer, result_bytes}
 
--- how many units of 16 words there are behind the first 1,024, and one more; 0 where there are fewer words
-abbrev pub first_room : ℕ → ℕ
-first_room words = cond (ltb words 1024) 0 ((words - 1024) / 16 + 1)
+-- how many units of 16 words there are behind the first 1,024
+abbrev pub first_room : ℕ → Option ℕ
+first_room words = cond (ltb words 1024) None (Some ((words - 1024) / 16))
 
 -- an answer and the result bytes with it
 pub record Answers (out : Bytes) (answer : Answer Bytes) (out' : Bytes) (r : Result ℕ Refusal) : Type 0 where
@@ -39,23 +36,18 @@ TestsSafety buffer pairs r = (ws : List Sections) → Readable buffer pairs ws �
 
 -- ---- from the call down
 
--- how much room the model's text leaves
-abbrev pub room_beside : AagCounts → ℕ → ℕ
-room_beside m words = first_room words - m.max_variable - m.outputs - m.bads - m.constraints
-
 -- a model with these counts is read
-pub record ModelIs (buffer : Bytes) (pairs : List ℕ) (mc : AagCounts) (m : Sections) : Type 0 where
-  pub pairs_hold : FewInOrder buffer pairs
+pub record ModelIs (mc : AagCounts) (m : Sections) : Type 0 where
   pub counts : mc ≡ counts_in m
   pub few : variables m ≤ 2000000
 
-pub record ModelSome (buffer : Bytes) (pairs : List ℕ) (mc : AagCounts) : Type 0 where
+pub record ModelSome (mc : AagCounts) : Type 0 where
   pub m : Sections
-  pub is : ModelIs buffer pairs mc m
+  pub is : ModelIs mc m
 
 -- 3 to 11 of the witnesses, and 15 to 20
 pub record ComposesWitnesses (mc : AagCounts) (buffer : Bytes) (pairs work : List ℕ) (out out' : Bytes) (r : Result ℕ Refusal) : Type 0 where
-  pub each : (m : Sections) → ModelIs buffer pairs mc m → Answers out (and_then (read_all (texts_in buffer pairs)) (compose_read (length work) (length out) m)) out' r
+  pub each : (m : Sections) → ModelIs mc m → Answers out (and_then (read_all (texts_in buffer pairs)) (compose_read (length work) (length out) m)) out' r
 
 -- 16 to 20
 pub record ComposesFitting (mc : AagCounts) (t : Totals) (buffer : Bytes) (pairs work : List ℕ) (out out' : Bytes) (r : Result ℕ Refusal) : Type 0 where
@@ -71,13 +63,13 @@ abbrev pub LaidSome : AagCounts → Totals → Bytes → List ℕ → List ℕ �
 LaidSome mc t buffer pairs work at = OfSome (LaidRight mc t buffer pairs work at)
 
 -- the length of the text is counted, and nothing is written
-pub record Measures (buffer : Bytes) (pairs work : List ℕ) (at : Layout) (c : Merged) (t : Totals) (out out' : Bytes) (r : ℕ) : Type 0 where
+pub record Measures (Holds : Sections → List Sections → Type 0) (out out' : Bytes) (r : ℕ) : Type 0 where
   pub same : out' ≡ out
-  pub size : (m : Sections) (ws : List Sections) → Printable buffer pairs work at c t m ws → r ≡ capped (length (printed (composed m ws)))
+  pub size : (m : Sections) (ws : List Sections) → Holds m ws → r ≡ capped (length (printed (composed m ws)))
 
 -- 20 of a composition that is merged
-pub record Writes (buffer : Bytes) (pairs work : List ℕ) (at : Layout) (c : Merged) (t : Totals) (out out' : Bytes) (r : Result ℕ Refusal) : Type 0 where
-  pub each : (m : Sections) (ws : List Sections) → Printable buffer pairs work at c t m ws → Answers out (printed_within (length out) (composed m ws)) out' r
+pub record Writes (Holds : Sections → List Sections → Type 0) (out out' : Bytes) (r : Result ℕ Refusal) : Type 0 where
+  pub each : (m : Sections) (ws : List Sections) → Holds m ws → Answers out (printed_within (length out) (composed m ws)) out' r
 
 -- 17 to 20
 pub record ComposesLaid (mc : AagCounts) (t : Totals) (buffer : Bytes) (pairs work : List ℕ) (at : Layout) (out out' : Bytes) (r : Result ℕ Refusal) : Type 0 where

@@ -1,5 +1,5 @@
 -- For the contracts of the composer's inner functions: a list of the counts of all witnesses.
-use Rattle.std.specs.Prelude.{ℕ, ◌+◌, ◌*◌, ◌/◌, ◌≤◌, ◌<◌, true, List, [], ◌∷◌, ◌≡◌, length, get_or, Result, Ok}
+use Rattle.std.specs.Prelude.{ℕ, ◌+◌, ◌*◌, ◌/◌, ◌≤◌, ◌<◌, true, List, [], ◌∷◌, ◌≡◌, length, get_or, Option, Result, Ok}
 use Rattle.lists.specs.Answer.{Answer, got, refused}
 use Rattle.lists.specs.Parts.{Bytes, put}
 use Rattle.text.specs.Texts.{limited}
@@ -9,8 +9,6 @@ use Rattle.witness_text.specs.declared.AagCounts.{AagCounts}
 use Rattle.witness_read.specs.Sections.{Sections}
 use Rattle.witness_read.specs.Reading.{read_aag, counts_in}
 use Rattle.compose_spec.specs.Calling.{read_all, texts_in}
-use Rattle.compose_joint.specs.declared.Leaves.{Leaves}
-use Rattle.compose_joint.specs.declared.Leaves.TheVariants as leaf
 use Rattle.compose_gather.specs.declared.Totals.{Totals}
 use Rattle.compose_gather.specs.Inner.Checking.{added_counts, checked_from, none_yet}
 
@@ -36,15 +34,6 @@ counts_at counts w =
       justice = get_or counts (9 * w + 7) 0;
       fairness = get_or counts (9 * w + 8) 0;
     }
-
--- how many inputs, or latches, a text with these counts has, and where their names begin among its words
-abbrev pub leaf_counts : Leaves → AagCounts → ℕ
-leaf_counts leaf.Inputs n = n.inputs
-leaf_counts leaf.Latches n = n.latches
-
-abbrev pub names_before : Leaves → AagCounts → ℕ
-names_before leaf.Inputs n = 0
-names_before leaf.Latches n = 2 * n.inputs
 
 -- there is room for the counts of witness w, and the totals before it are small
 pub record CanCheck (counts : List ℕ) (w : ℕ) (t : Totals) : Type 0 where
@@ -73,6 +62,6 @@ pub record CountsListed (buffer : Bytes) (pairs counts : List ℕ) : Type 0 wher
   pub before : CountsBefore buffer pairs counts (length pairs / 2)
 
 -- the totals of all witnesses, whose counts are then listed, or the number of the first reason
-pub record ChecksAll (room : ℕ) (buffer : Bytes) (pairs counts : List ℕ) (r : Result Totals Refusal) : Type 0 where
+pub record ChecksAll (room : Option ℕ) (buffer : Bytes) (pairs counts : List ℕ) (r : Result Totals Refusal) : Type 0 where
   pub is : answered r ≡ checked_from (none_yet room) (read_all (texts_in buffer pairs))
   pub lists : (t : Totals) → r ≡ Ok t → CountsListed buffer pairs counts

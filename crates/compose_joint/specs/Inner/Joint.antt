@@ -5,6 +5,7 @@ use Rattle.std.proofs.Math.Option.{Option}
 use Rattle.lists.specs.Parts.{Bytes}
 use Rattle.lists.specs.Words.{words_of}
 use Rattle.aiger.specs.Gates.{variable}
+use Rattle.witness_text.specs.declared.AagCounts.{AagCounts}
 use Rattle.witness_read.specs.Sections.{Sections, leaves, latch_names}
 use Rattle.witness_load.specs.Inner.Loaded.{latch_words, operand_words}
 use Rattle.compose_spec.specs.declared.ModelLeaves.{ModelLeaves}
@@ -91,6 +92,20 @@ list_of literals.Operands s = words_of operand_words s.gates
 abbrev pub names_of : Leaves → Sections → List (Option Bytes)
 names_of leaf.Inputs s = s.inputs
 names_of leaf.Latches s = latch_names s
+
+-- how many inputs, or latches, a text with these counts has, and where their names begin among its words
+abbrev pub leaf_counts : Leaves → AagCounts → ℕ
+leaf_counts leaf.Inputs n = n.inputs
+leaf_counts leaf.Latches n = n.latches
+
+abbrev pub names_before : Leaves → AagCounts → ℕ
+names_before leaf.Inputs n = 0
+names_before leaf.Latches n = 2 * n.inputs
+
+-- the byte that begins the symbol lines: `i` or `l`
+abbrev pub kind_of : Leaves → ℕ
+kind_of leaf.Inputs = 105
+kind_of leaf.Latches = 108
 
 abbrev pub model_of : Leaves → Sections → ModelLeaves
 model_of leaf.Inputs m = model_inputs m

@@ -1,21 +1,19 @@
-use borrow.Author.Rules.{rules}
 use Rattle.compose_layout.proofs.StageLaws.{list_load, list_totals, loaded, turn-can, turn-next}
 use Rattle.compose_layout.proofs.StageLaws.{roomy-latches, roomy-operands, roomy-safety, roomy-constraints}
 use Rattle.compose_layout.proofs.lay_lists.Goals as goal
 
 pub load_all-latches-requires : goal.load_all-latches-requires
-load_all-latches-requires c = record { can_load = search list_load; counts_listed = search rules }
+load_all-latches-requires c = search list_load
 
 pub gather-operands-requires : goal.gather-operands-requires
-gather-operands-requires c = record { can_gather = turn-can roomy-latches (λ mc. loaded c.load_all-latches.auto.work c.load_all-latches.ensures) c.requires.can_list; counts_listed = c.requires.counts_listed; right_totals = list_totals c.requires.can_list }
+gather-operands-requires c = record { can_gather = turn-can roomy-latches (λ mc. loaded c.load_all-latches.auto.work c.load_all-latches.ensures) c.requires; right_totals = list_totals c.requires }
 
 pub gather-safety-requires : goal.gather-safety-requires
 gather-safety-requires c = record {
   can_gather = turn-can roomy-operands (λ mc.
       turn-next roomy-latches (loaded c.load_all-latches.auto.work c.load_all-latches.ensures) c.gather-operands.ensures)
-      c.requires.can_list;
-  counts_listed = c.requires.counts_listed;
-  right_totals = list_totals c.requires.can_list;
+      c.requires;
+  right_totals = list_totals c.requires;
 }
 
 pub gather-constraints-requires : goal.gather-constraints-requires
@@ -24,9 +22,8 @@ gather-constraints-requires c = record {
       turn-next roomy-operands
       (turn-next roomy-latches (loaded c.load_all-latches.auto.work c.load_all-latches.ensures) c.gather-operands.ensures)
       c.gather-safety.ensures)
-      c.requires.can_list;
-  counts_listed = c.requires.counts_listed;
-  right_totals = list_totals c.requires.can_list;
+      c.requires;
+  right_totals = list_totals c.requires;
 }
 
 pub gather-end-requires : goal.gather-end-requires
@@ -37,9 +34,8 @@ gather-end-requires c = record {
       (turn-next roomy-latches (loaded c.load_all-latches.auto.work c.load_all-latches.ensures) c.gather-operands.ensures)
       c.gather-safety.ensures)
       c.gather-constraints.ensures)
-      c.requires.can_list;
-  counts_listed = c.requires.counts_listed;
-  right_totals = list_totals c.requires.can_list;
+      c.requires;
+  right_totals = list_totals c.requires;
 }
 
 pub returns : goal.returns

@@ -4,13 +4,13 @@ use borrow.Author.Rules.{rules}
 use Rattle.compose_lines.proofs.print_gates.Goals as goal
 
 pub loop-k-init : goal.loop-k-init
-loop-k-init c = walk_none _ _ _ _ _ _ (search rules) (omega arith) (omega arith)
+loop-k-init c = walk_none _ _ _ _ _ (search rules)
 
 pub overflow_sub-key : goal.overflow_sub-key
 overflow_sub-key c = search key-some
 
 pub loop-k-preserved : goal.loop-k-preserved
-loop-k-preserved c = walk_more _ _ _ _ _ _ _ _ _ _ c.loop-k.invariant _ _ (omega (arith, c.loop-k-test)) (omega (arith, c.print_three-to.auto.out)) c.print_three-to.ensures
+loop-k-preserved c = walk_more _ _ _ _ _ _ _ _ c.loop-k.invariant _ (omega (arith, c.loop-k-test)) c.three.ensures
 
 pub returns : goal.returns
 returns c = search walk_end

@@ -1,9 +1,9 @@
 -- For the contract of the function that prints gates: gates as keys of a table.
 use Rattle.std.specs.Prelude.{ℕ, ◌+◌, ◌<◌, List, map, ◌≡◌, length}
-use Rattle.lists.specs.Parts.{Bytes}
 use Rattle.lists.specs.Tests.{Each}
 use Rattle.text_decimal.specs.Printed.{text_of}
-use Rattle.text_print.specs.Inner.Prints.{Prints}
+use Rattle.text_print.specs.declared.Printer.{Printer}
+use Rattle.text_print.specs.Inner.Prints.{PrintsOn}
 use Rattle.key_table.specs.Inner.Table.{Held}
 use Rattle.compose_spec.specs.Sharing.{Operands, gates_from}
 use Rattle.compose_spec.specs.Inner.Keys.{key_of}
@@ -26,6 +26,6 @@ pub record CanPrintGates (first : ℕ) (table : List ℕ) (heads count : ℕ) : 
   pub keys : GateKeys gs first table heads count
 
 -- the lines of the gates
-abbrev pub PrintsGates : ℕ → List ℕ → ℕ → ℕ → Bytes → ℕ → Bytes → ℕ → Type 0
-PrintsGates first table heads count o at o' r =
-    (gs : List Operands) → GateKeys gs first table heads count → Prints o at (text_of (gate_lines (gates_from first gs))) o' r
+abbrev pub PrintsGates : ℕ → List ℕ → ℕ → ℕ → Printer → Printer → Type 0
+PrintsGates first table heads count p p' =
+    (gs : List Operands) → GateKeys gs first table heads count → PrintsOn p (text_of (gate_lines (gates_from first gs))) p'

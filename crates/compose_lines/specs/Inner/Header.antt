@@ -1,16 +1,11 @@
 -- For the contracts of the composer's inner functions: the header of the composition by its counts.
-use Rattle.std.specs.Prelude.{ℕ, List, [], ◌∷◌, ◌++◌, map, length}
+use Rattle.std.specs.Prelude.{[], ◌∷◌, map, length}
 use Rattle.lists.specs.Parts.{Bytes}
 use Rattle.text.specs.Fields.{aag}
 use Rattle.text_decimal.specs.Decimal.{decimal}
 use Rattle.text_decimal.specs.Printed.{spaced}
 use Rattle.witness_read.specs.Sections.{Sections, variables}
 use Rattle.compose_lines.specs.declared.Counts.{Counts}
-
--- numbers, each with a space before it
-abbrev pub fields_text : List ℕ → Bytes
-fields_text [] = []
-fields_text (n ∷ ns) = 32 ∷ (decimal n ++ fields_text ns)
 
 -- the header of a text without outputs and liveness: `aag`, then M I L 0 A B C 0 0
 unfoldable pub header_of : Counts → Bytes

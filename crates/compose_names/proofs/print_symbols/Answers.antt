@@ -1,20 +1,17 @@
-use Rattle.std.proofs.Common.{refl}
-use native.Mathlib.Omega.{arith}
 use Rattle.compose_names.proofs.SymbolLaws.{walking-none, walking-can, walking_pass, walking-more, walking-end}
-use borrow.Author.Rules.{rules}
 use Rattle.compose_names.proofs.print_symbols.Goals as goal
 
 pub loop-w-init : goal.loop-w-init
-loop-w-init c = (walking-none _ _ _ _ _ _ _ _ _ (search rules) (omega arith) (omega arith))
+loop-w-init c = search walking-none
 
-pub print_witness-done-requires : goal.print_witness-done-requires
-print_witness-done-requires c = search walking-can
+pub print_witness-next-requires : goal.print_witness-next-requires
+print_witness-next-requires c = search walking-can
 
-pub pass-p-requires : goal.pass-p-requires
-pass-p-requires c = search walking_pass
+pub pass-starts-requires : goal.pass-starts-requires
+pass-starts-requires c = search walking_pass
 
 pub loop-w-preserved : goal.loop-w-preserved
-loop-w-preserved c = (walking-more _ _ _ _ _ _ _ _ _ _ _ _ _ _ c.loop-w.invariant refl c.loop-w-test.true _ c.text_at-text.ensures _ c.requires.counts_listed _ c.counts_at-n.ensures _ _ (omega (arith, c.print_witness-done.auto.out)) c.print_witness-done.ensures _ c.pass-p.ensures)
+loop-w-preserved c = walking-more _ _ _ _ _ _ _ _ _ _ _ _ _ c.loop-w.invariant c.len-w-end.ensures c.loop-w-test.true _ c.text.ensures _ c.counts_of-n.ensures _ _ c.print_witness-next.ensures _ c.pass-starts.ensures
 
 pub returns : goal.returns
 returns c = search walking-end

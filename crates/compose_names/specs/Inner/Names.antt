@@ -7,13 +7,7 @@ use Rattle.lists.specs.Parts.{Bytes, part}
 use Rattle.witness_read.specs.Sections.{Sections}
 use Rattle.compose_spec.specs.Numbering.{Entry, same_entry, private_name, shared_name}
 use Rattle.compose_joint.specs.declared.Leaves.{Leaves}
-use Rattle.compose_joint.specs.declared.Leaves.TheVariants as leaf
 use Rattle.compose_joint.specs.Inner.Joint.{unnamed_of, entries_of}
-
--- the byte that begins the symbol lines: `i` or `l`
-abbrev pub kind_of : Leaves → ℕ
-kind_of leaf.Inputs = 105
-kind_of leaf.Latches = 108
 
 -- the inputs, or latches, of the composition, in the order of first appearance
 abbrev pub firsts_of : Leaves → Sections → List Sections → List Entry

@@ -1,21 +1,21 @@
 -- For the contracts of the functions that print symbol lines: names with their composed variables, walked in their order.
 use Rattle.std.specs.Prelude.{ℕ, zero, suc, ◌+◌, ◌-◌, ◌*◌, ◌≤◌, ◌<◌, cond, List, [], ◌∷◌, map, ◌≡◌, eqb, length, get_or}
-use Rattle.std.proofs.Math.Option.{some}
+use Rattle.std.proofs.Math.Option.{Option, some}
 use Rattle.lists.specs.Parts.{Bytes, part}
 use Rattle.text_decimal.specs.Printed.{text_of}
-use Rattle.text_print.specs.Inner.Prints.{Prints}
+use Rattle.text_print.specs.declared.Printer.{Printer}
+use Rattle.text_print.specs.Inner.Prints.{PrintsOn}
 use Rattle.witness_text.specs.declared.AagCounts.{AagCounts}
 use Rattle.witness_read.specs.Sections.{Sections}
 use Rattle.compose_spec.specs.Numbering.{numbered}
 use Rattle.compose_spec.specs.Printing.{symbol_line, symbol_lines}
 use Rattle.compose_spec.specs.Calling.{texts_in}
 use Rattle.compose_joint.specs.declared.Leaves.{Leaves}
-use Rattle.compose_joint.specs.Inner.Joint.{total_of, origins, entries_of}
-use Rattle.compose_gather.specs.Inner.Counts.{leaf_counts, names_before}
+use Rattle.compose_joint.specs.Inner.Joint.{total_of, origins, entries_of, leaf_counts, names_before, kind_of}
 use Rattle.compose_gather.specs.Inner.Gathered.{words_for, Blocks, word_total, Readable, leaf_count_of}
 use Rattle.compose_names.specs.declared.Starts.{Starts}
-use Rattle.compose_names.specs.declared.Printed.{Printed}
-use Rattle.compose_names.specs.Inner.Names.{kind_of, firsts_of, own_name, name_for}
+use Rattle.compose_names.specs.declared.Rows.{Rows}
+use Rattle.compose_names.specs.Inner.Names.{firsts_of, own_name, name_for}
 
 -- a composed variable and the name that one with this variable has
 pub record Row : Type 0 where
@@ -43,6 +43,13 @@ row_at t work leaf w p k =
       name = name_for leaf w (get_or work (p.origins + k) 0) (own_name t (get_or work (p.names + 2 * k) 0) (get_or work (p.names + 2 * k + 1) 0));
     }
 
+-- the own name of row k, and row k, of one witness's rows
+abbrev pub own_in : Rows → ℕ → Option Bytes
+own_in r k = own_name r.text.now (get_or r.work.now (r.starts.names + 2 * k) 0) (get_or r.work.now (r.starts.names + 2 * k + 1) 0)
+
+abbrev pub row_in : Rows → ℕ → Row
+row_in r k = row_at r.text.now r.work.now r.leaves r.w r.starts k
+
 -- so many rows from number k on
 abbrev pub rows_from : (ℕ → Row) → ℕ → ℕ → List Row
 rows_from row k zero = []
@@ -64,17 +71,20 @@ pub record CanPrintNames (t : Bytes) (work : List ℕ) (p : Starts) (count first
   pub small : next + count < 4294967296
 
 -- the lines of new ones are printed
-pub record PrintsNew (leaf : Leaves) (first next : ℕ) (rows : List Row) (o : Bytes) (at : ℕ) (o' : Bytes) (r : Printed) : Type 0 where
-  pub prints : Prints o at (text_of (new_lines (kind_of leaf) first next rows)) o' r.at
-  pub after : r.next ≡ next_after next rows
+pub record PrintsNew (leaf : Leaves) (first next : ℕ) (rows : List Row) (p p' : Printer) (next' : ℕ) : Type 0 where
+  pub prints : PrintsOn p (text_of (new_lines (kind_of leaf) first next rows)) p'
+  pub after : next' ≡ next_after next rows
 
 -- the places of a witness whose words begin at `names`, with that of its inputs' or latches' names
 abbrev pub names_at : Leaves → AagCounts → Starts → Starts
 names_at leaf n p = record { names = p.names + names_before leaf n; origins = p.origins; numbers = p.numbers }
 
 -- the rows of witness w, whose words begin at `names`
-abbrev pub rows_in : Bytes → AagCounts → List ℕ → Leaves → ℕ → Starts → List Row
-rows_in t n work leaf w p = rows_from (row_at t work leaf w (names_at leaf n p)) 0 (leaf_counts leaf n)
+abbrev pub rows_at : Bytes → AagCounts → List ℕ → Leaves → ℕ → Starts → List Row
+rows_at t n work leaf w p = rows_from (row_at t work leaf w (names_at leaf n p)) 0 (leaf_counts leaf n)
+
+abbrev pub rows_in : Rows → AagCounts → List Row
+rows_in r n = rows_at r.text.now n r.work.now r.leaves r.w r.starts
 
 -- its names may be printed
 pub record CanPrintWitness (t : Bytes) (n : AagCounts) (work : List ℕ) (leaf : Leaves) (p : Starts) (first next : ℕ) : Type 0 where
@@ -111,7 +121,7 @@ pub record CanPrintSymbols (leaf : Leaves) (buffer : Bytes) (pairs work : List �
   pub holds : SymbolWords leaf m ws buffer pairs work from_origins from_numbers first
 
 -- the symbol lines of the composition's inputs, or latches
-abbrev pub PrintsSymbols : Leaves → Bytes → List ℕ → List ℕ → ℕ → ℕ → ℕ → Bytes → ℕ → Bytes → ℕ → Type 0
-PrintsSymbols leaf buffer pairs work from_origins from_numbers first o at o' r =
+abbrev pub PrintsSymbols : Leaves → Bytes → List ℕ → List ℕ → ℕ → ℕ → ℕ → Printer → Printer → Type 0
+PrintsSymbols leaf buffer pairs work from_origins from_numbers first p p' =
     (m : Sections) (ws : List Sections) → SymbolWords leaf m ws buffer pairs work from_origins from_numbers first
-    → Prints o at (text_of (symbol_lines (kind_of leaf) 0 (map (λ e. some e.name) (firsts_of leaf m ws)))) o' r
+    → PrintsOn p (text_of (symbol_lines (kind_of leaf) 0 (map (λ e. some e.name) (firsts_of leaf m ws)))) p'

@@ -1,6 +1,4 @@
 use Rattle.compose_origins.proofs.LoopLaws.{Testing}
-use lib.ListN.{length}
-use mathlib.Core.Path.{◌≡◌}
 use Rattle.compose_origins.proofs.any_mapped.Given as goal
 
 abbrev pub invariant-loop-i : goal.invariant-loop-i

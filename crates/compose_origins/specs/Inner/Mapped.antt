@@ -14,8 +14,7 @@ use Rattle.compose_spec.specs.Mapping.{is_mapped, maps_by_name, mapping_of}
 use Rattle.compose_spec.specs.Composing.{leaves_right}
 use Rattle.compose_joint.specs.declared.Before.{Before}
 use Rattle.compose_joint.specs.declared.Leaves.{Leaves}
-use Rattle.compose_joint.specs.Inner.Joint.{total_of, gathered, names_of, origins_from}
-use Rattle.compose_gather.specs.Inner.Counts.{leaf_counts}
+use Rattle.compose_joint.specs.Inner.Joint.{total_of, gathered, names_of, origins_from, leaf_counts}
 use Rattle.compose_gather.specs.Inner.Gathered.{words_for, Block, Readable, CanGather, leaf_count_of}
 
 -- few inputs, or latches, so that the literal of number k is a word

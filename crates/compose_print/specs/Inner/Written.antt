@@ -3,7 +3,8 @@ use Rattle.std.specs.Prelude.{ℕ, suc, ◌+◌, ◌≤◌, List, [], ◌∷◌,
 use Rattle.lists.specs.Parts.{Bytes}
 use Rattle.lists.specs.Words.{words_of}
 use Rattle.text_decimal.specs.Printed.{text_of}
-use Rattle.text_print.specs.Inner.Prints.{Prints}
+use Rattle.text_print.specs.declared.Printer.{Printer}
+use Rattle.text_print.specs.Inner.Prints.{Prints, PrintsOn}
 use Rattle.text_print.specs.Inner.Lines as lines
 use Rattle.witness_read.specs.Sections.{Sections}
 use Rattle.witness_load.specs.Inner.Loaded.{latch_words}
@@ -15,10 +16,11 @@ use Rattle.compose_joint.specs.Inner.Joint.{total_of, input_count, gate_count}
 use Rattle.compose_gather.specs.declared.Totals.{Totals}
 use Rattle.compose_gather.specs.Inner.Gathered.{Readable}
 use Rattle.compose_layout.specs.declared.Layout.{Layout}
-use Rattle.compose_layout.specs.Inner.Laid.{Regions, Listed, OfSome}
+use Rattle.compose_layout.specs.Inner.Laid.{Regions, Listed}
 use Rattle.compose_merge.specs.declared.Merged.{Merged}
 use Rattle.compose_merge.specs.Inner.Merged.{ResultWords}
 use Rattle.compose_lines.specs.Inner.Header.{header_of}
+use Rattle.compose_print.specs.declared.Composition.{Composition}
 use Rattle.compose_lines.specs.Inner.Text.{closing_text, latches_of, composed_counts, entry_names}
 
 -- all that is printed stands in the work words
@@ -33,12 +35,12 @@ pub record Printable (buffer : Bytes) (pairs work : List ℕ) (at : Layout) (c :
   pub few_bits : at.bits ≤ 128000000
   pub fits : at.end ≤ length work
 
-abbrev pub PrintableSome : Bytes → List ℕ → List ℕ → Layout → Merged → Totals → Type 0
-PrintableSome buffer pairs work at c t = OfSome (Printable buffer pairs work at c t)
+abbrev pub PrintableOf : Composition → Sections → List Sections → Type 0
+PrintableOf c m ws = Printable c.witnesses.texts.bytes.now c.witnesses.texts.pairs.now c.work.now c.at c.merged c.totals m ws
 
 -- a text of the composition is printed
-pub record PrintsText (text : Sections → List Sections → Bytes) (buffer : Bytes) (pairs work : List ℕ) (at : Layout) (c : Merged) (t : Totals) (o : Bytes) (from : ℕ) (o' : Bytes) (r : ℕ) : Type 0 where
-  pub each : (m : Sections) (ws : List Sections) → Printable buffer pairs work at c t m ws → Prints o from (text m ws) o' r
+pub record PrintsText (Holds : Sections → List Sections → Type 0) (text : Sections → List Sections → Bytes) (p p' : Printer) : Type 0 where
+  pub each : (m : Sections) (ws : List Sections) → Holds m ws → PrintsOn p (text m ws) p'
 
 -- the text from the symbols of the latches on, from those of the inputs on, and so on up to the whole
 abbrev pub from_latch_names : Sections → List Sections → Bytes
@@ -64,3 +66,7 @@ from_inputs m ws = text_of (lines.literal_lines (lines.literals_from 1 (length (
 
 abbrev pub from_header : Sections → List Sections → Bytes
 from_header m ws = (header_of (composed_counts m ws) ++ 10 ∷ []) ++ from_inputs m ws
+
+-- the whole text, from the first byte of a slice on; r is its length
+pub record PrintsWhole (Holds : Sections → List Sections → Type 0) (o o' : Bytes) (r : ℕ) : Type 0 where
+  pub each : (m : Sections) (ws : List Sections) → Holds m ws → Prints o 0 (from_header m ws) o' r

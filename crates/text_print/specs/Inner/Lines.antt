@@ -1,7 +1,13 @@
--- For the contracts of inner functions: the lines of literals and gates that are printed for variables in a row.
+-- For the contracts of inner functions: fields behind others, and the lines of literals and gates that are printed for variables in a row.
 use Rattle.std.specs.Prelude.{ℕ, zero, suc, ◌*◌, List, [], ◌∷◌, map}
 use Rattle.lists.specs.Parts.{Bytes}
+use Rattle.lists.specs.Words.{words_of}
+use Rattle.text_decimal.specs.Decimal.{decimal}
 use Rattle.text_decimal.specs.Printed.{number_line}
+
+-- the numbers that a list stands for, each with a space before it
+abbrev pub fields_text : {A : Type 0} → (A → ℕ) → List A → Bytes
+fields_text value xs = words_of (λ x. 32 ∷ decimal (value x)) xs
 
 -- a line for each number
 abbrev pub literal_lines : List ℕ → List Bytes

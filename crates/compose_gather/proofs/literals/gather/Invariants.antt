@@ -6,4 +6,4 @@ use Rattle.compose_gather.specs.Inner.Gathered.{literal_count}
 use Rattle.compose_gather.proofs.literals.gather.Given as goal
 
 abbrev pub invariant-loop-w : goal.invariant-loop-w
-invariant-loop-w l = Gathering (joint_literals (list_of l.kind) l.inputs l.latches) (literal_count l.kind) l.witnesses l.pairs l.initial.work l.work l.to l.from l.at l.b l.w × (length l.work ≡ length l.initial.work)
+invariant-loop-w l = Gathering (joint_literals (list_of l.kind) l.inputs l.latches) (literal_count l.kind) l.witnesses.texts.bytes.now l.witnesses.texts.pairs.now l.initial.work l.work l.to l.from l.at l.b l.w × (length l.work ≡ length l.initial.work)

@@ -1,0 +1,8 @@
+use Rattle.compose_gather.proofs.TextLaws.{text_ends, text_is_lem}
+use Rattle.compose_gather.proofs.texts.Texts.text.Goals as goal
+
+pub piece-requires : goal.piece-requires
+piece-requires c = search text_ends
+
+pub returns : goal.returns
+returns c = search text_is_lem

@@ -1,6 +1,0 @@
-use native.Mathlib.Omega.{arith}
-use Rattle.text_print.proofs.PrintsLaws.{prints_then}
-use Rattle.compose_lines.proofs.print_field.Goals as goal
-
-pub returns : goal.returns
-returns c = prints_then _ _ _ _ _ _ _ _ (omega arith) (omega (arith, c.print_byte-digits.auto.out)) c.print_byte-digits.ensures c.print_number.ensures

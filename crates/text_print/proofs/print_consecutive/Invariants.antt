@@ -1,8 +1,0 @@
-use Prim.Native.Nat.{◌+◌, ◌-◌}
-use Rattle.text_decimal.specs.Printed.{text_of}
-use Rattle.text_print.specs.Inner.Lines.{literal_lines, literals_from}
-use Rattle.text_print.proofs.PrintsLaws.{Printing}
-use Rattle.text_print.proofs.print_consecutive.Given as goal
-
-abbrev pub invariant-loop-i : goal.invariant-loop-i
-invariant-loop-i l = Printing l.initial.out l.at (text_of (literal_lines (literals_from l.first l.count))) l.out l.to (text_of (literal_lines (literals_from (l.first + l.i) (l.count - l.i))))

@@ -1,9 +1,0 @@
-use Prim.Native.Nat.{◌+◌, ◌*◌}
-use lib.ListN.{drop}
-use Rattle.text_decimal.specs.Printed.{text_of}
-use Rattle.text_print.specs.Inner.Lines.{gate_lines}
-use Rattle.text_print.proofs.PrintsLaws.{Printing}
-use Rattle.text_print.proofs.print_pairs.Given as goal
-
-abbrev pub invariant-loop-i : goal.invariant-loop-i
-invariant-loop-i l = Printing l.initial.out l.at (text_of (gate_lines l.first l.words)) l.out l.to (text_of (gate_lines (l.first + l.i) (drop (2 * l.i) l.words)))

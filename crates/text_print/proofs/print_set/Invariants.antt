@@ -1,7 +1,0 @@
-use Rattle.text_print.specs.Inner.Elements.{elements}
-use Rattle.text_print.proofs.PrintsLaws.{Printing}
-use Rattle.text_print.proofs.WordLaws.{lines_of, elements_from}
-use Rattle.text_print.proofs.print_set.Given as goal
-
-abbrev pub invariant-loop-j : goal.invariant-loop-j
-invariant-loop-j l = Printing l.initial.out l.at (lines_of (elements l.words)) l.out l.to (lines_of (elements_from l.words l.j))
