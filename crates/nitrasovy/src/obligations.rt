@@ -12,7 +12,7 @@ use aiger::Refusal;
 use cnf::ClauseCounts;
 use model::LentModel;
 use obligation::Claim;
-use obligation_check::Question;
+use obligation_check::{Predicate, Question};
 
 // Reason 0 and the numbers of clauses and literals, or the number of the reason and zeros.
 // Kept (enum): C reads a reason beside the values.
@@ -42,22 +42,13 @@ fn flat_made(made: Result<ClauseCounts, Refusal>) -> NitMade
 }
 
 // What is asked about a model that is lent as its words.
-fn question<'a>(
-    model: &'a [u64],
-    gates: &'a [u64],
-    relevant: &'a [u64],
-    predicate_pairs: &'a [u64],
-    predicate_literals: &'a [u32],
-) -> Question<'a>
-    ensures { asked_in result ≡ asked_of (record_in model.now) gates.now relevant.now predicate_pairs.now predicate_literals.now }
+fn question<'a>(model: &'a [u64], gates: &'a [u64], predicate: Predicate<'a>) -> Question<'a>
+    ensures { asked_in result ≡ asked_of (record_in model.now) gates.now predicate.relevant.now predicate.pairs.now predicate.literals.now }
 {
-    let lent = LentModel::from_words(model);
     Question {
-        model: lent,
+        model: LentModel::from_words(model),
         gates,
-        relevant,
-        predicate_pairs,
-        predicate_literals,
+        predicate,
     }
 }
 
@@ -77,7 +68,12 @@ pub extern "C" fn nit_relation_row(
 ) -> NitMade
     ensures { RelationFlat (asked_of (record_in model.now) gates.now relevant.now predicate_pairs.now predicate_literals.now) source targets.now (buffers_of pairs.old literals.old work.old) result (buffers_of pairs.new literals.new work.new) }
 {
-    let question = question(model, gates, relevant, predicate_pairs, predicate_literals);
+    let predicate = Predicate {
+        relevant,
+        pairs: predicate_pairs,
+        literals: predicate_literals,
+    };
+    let question = question(model, gates, predicate);
     flat_made(obligation::make(
         &question,
         Claim::Relation { source, targets },
@@ -104,7 +100,12 @@ pub extern "C" fn nit_transducer_row(
 ) -> NitMade
     ensures { TransducerFlat (asked_of (record_in model.now) gates.now relevant.now predicate_pairs.now predicate_literals.now) source observed.now outcomes.now (buffers_of pairs.old literals.old work.old) result (buffers_of pairs.new literals.new work.new) }
 {
-    let question = question(model, gates, relevant, predicate_pairs, predicate_literals);
+    let predicate = Predicate {
+        relevant,
+        pairs: predicate_pairs,
+        literals: predicate_literals,
+    };
+    let question = question(model, gates, predicate);
     flat_made(obligation::make(
         &question,
         Claim::Transducer {
@@ -134,7 +135,12 @@ pub extern "C" fn nit_terminal(
 ) -> NitMade
     ensures { TerminalFlat (asked_of (record_in model.now) gates.now relevant.now predicate_pairs.now predicate_literals.now) bad_output states.now (buffers_of pairs.old literals.old work.old) result (buffers_of pairs.new literals.new work.new) }
 {
-    let question = question(model, gates, relevant, predicate_pairs, predicate_literals);
+    let predicate = Predicate {
+        relevant,
+        pairs: predicate_pairs,
+        literals: predicate_literals,
+    };
+    let question = question(model, gates, predicate);
     flat_made(obligation::make(
         &question,
         Claim::Terminal {
