@@ -4,15 +4,10 @@ use mathlib.Core.List.{List}
 use Rattle.std.specs.Prelude.{Result}
 use mathlib.Core.Path.{◌≡◌, refl, sym, ap, ◌∙◌}
 use Rattle.lists.specs.Answer.{Answer, got, refused, and_then}
-use Rattle.lists.specs.Parts.{part}
 use Rattle.cnf.specs.declared.ClauseCounts.{ClauseCounts}
 use Rattle.cnf.specs.Clauses.{Clause}
-use Rattle.model.specs.declared.AigerLatch.{AigerLatch}
-use Rattle.model.specs.declared.Counts.{Counts}
-use Rattle.model.specs.Circuit.{record_from}
-use Rattle.model.specs.RecordWords.{counts_in, latches_in, record_in}
 use Rattle.obligation_spec.specs.Lists.{outcomes_of}
-use Rattle.obligation_spec.specs.Calls.{Asked, circuit, predicate, asked_of}
+use Rattle.obligation_spec.specs.Calls.{Asked, circuit, predicate}
 use Rattle.obligation_spec.specs.Meaning.{RowMeans, TerminalMeans, ToTarget, ToOutcome}
 use Rattle.aiger.specs.declared.Refusal.{Refusal}
 use Rattle.aiger.specs.Refusals.{answered}

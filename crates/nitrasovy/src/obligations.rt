@@ -43,7 +43,7 @@ fn flat_made(made: Result<ClauseCounts, Refusal>) -> NitMade
 
 // What is asked about a model that is lent as its words.
 fn question<'a>(model: &'a [u64], gates: &'a [u64], predicate: Predicate<'a>) -> Question<'a>
-    ensures { asked_in result ≡ asked_of (record_in model.now) gates.now predicate.relevant.now predicate.pairs.now predicate.literals.now }
+    ensures { let p = predicate.entry in asked_in result ≡ asked_of (record_in model.now) gates.now p.relevant.now p.pairs.now p.literals.now }
 {
     Question {
         model: LentModel::from_words(model),
