@@ -12,31 +12,47 @@ use Rattle.lists.proofs.PartLaws.{Grown, grown-more, put-length}
 use Rattle.lists.proofs.RestLaws.{take_next}
 use Rattle.lists.proofs.WordLaws.{words_append, words-next}
 use Rattle.cnf.specs.declared.ClauseCounts.{ClauseCounts}
+use Rattle.cnf.specs.declared.Clauses.{Clauses}
 use Rattle.cnf.specs.Clauses.{Clause, literals_of, pairs_from, returned}
 use Rattle.cnf.specs.Simplified.{simplified}
-use Rattle.cnf.specs.Inner.Appending.{Room, Stored, Holding, Appends, Space}
+use Rattle.cnf.specs.Inner.Appending.{Room, Stored, Holding, SameBuffers, Appends, Space, Full}
 use Rattle.cnf.proofs.ReturnedLaws.{pairs-length, literals-more, pairs-more, returned-back}
+
+-- ---- it is still the same two buffers
+
+pub same-none : (p : Clauses) → SameBuffers p p
+same-none p = record { pairs_name = refl; literals_name = refl; pairs_room = refl; literals_room = refl }
+
+pub same_then : (p q r : Clauses) → SameBuffers p q → SameBuffers q r → SameBuffers p r
+same_then p q r f g =
+    record {
+      pairs_name = g.pairs_name ∙ f.pairs_name;
+      literals_name = g.literals_name ∙ f.literals_name;
+      pairs_room = g.pairs_room ∙ f.pairs_room;
+      literals_room = g.literals_room ∙ f.literals_room;
+    }
 
 -- ---- none, and one after the other
 
-pub appends-none : (at : ClauseCounts) (pairs words : List ℕ) → Appends [] at pairs words at pairs words
-appends-none at pairs words =
+pub appends-none : (p : Clauses) → Appends [] p p
+appends-none p =
     record {
+      same = same-none p;
       holds = λ pairs₀ words₀ cs h. rw (append-nil cs) h;
       clauses = omega arith;
       literals = omega arith;
     }
 
-module _ (xs ys : List (List ℕ)) (a₁ a₂ a₃ : ClauseCounts) (p₁ w₁ p₂ w₂ p₃ w₃ : List ℕ) where
-  pub appends_then : Appends xs a₁ p₁ w₁ a₂ p₂ w₂ → Appends ys a₂ p₂ w₂ a₃ p₃ w₃ → Appends (xs ++ ys) a₁ p₁ w₁ a₃ p₃ w₃
-  appends_then f g =
-      record {
-        holds = λ p₀ w₀ cs h.
-            rw (words_append simplified xs ys, ← append_assoc cs (words_of simplified xs) (words_of simplified ys))
-            (g.holds p₀ w₀ (cs ++ words_of simplified xs) (f.holds p₀ w₀ cs h));
-        clauses = rw (length-append xs ys) (omega (arith, f.clauses, g.clauses));
-        literals = rw (length-append xs ys) (omega (arith, f.literals, g.literals));
-      }
+pub appends_then : (xs ys : List (List ℕ)) (p q r : Clauses) → Appends xs p q → Appends ys q r → Appends (xs ++ ys) p r
+appends_then xs ys p q r f g =
+    record {
+      same = same_then p q r f.same g.same;
+      holds = λ p₀ w₀ cs h.
+          rw (words_append simplified xs ys, ← append_assoc cs (words_of simplified xs) (words_of simplified ys))
+          (g.holds p₀ w₀ (cs ++ words_of simplified xs) (f.holds p₀ w₀ cs h));
+      clauses = rw (length-append xs ys) (omega (arith, f.clauses, g.clauses));
+      literals = rw (length-append xs ys) (omega (arith, f.literals, g.literals));
+    }
 
 -- ---- lists whose clauses are the same, one by one
 
@@ -49,34 +65,30 @@ same-words (x ∷ xs) (y ∷ ys) e =
     let t : map simplified xs ≡ map simplified ys = cc in
     rw (h, same-words xs ys t)
 
-module _ (xs ys : List (List ℕ)) (at : ClauseCounts) (pairs words : List ℕ) (at' : ClauseCounts) (pairs' words' : List ℕ) where
-  pub appends-same : map simplified xs ≡ map simplified ys → Appends xs at pairs words at' pairs' words' → Appends ys at pairs words at' pairs' words'
-  appends-same e g =
-      let n : length xs ≡ length ys = sym (length-map xs simplified) ∙ ap length e ∙ length-map ys simplified in
-      record {
-        holds = λ p₀ w₀ cs h. rw (← same-words xs ys e) (g.holds p₀ w₀ cs h);
-        clauses = omega (arith, g.clauses);
-        literals = omega (arith, g.literals);
-      }
+pub appends-same : (xs ys : List (List ℕ)) (p p' : Clauses) → map simplified xs ≡ map simplified ys → Appends xs p p' → Appends ys p p'
+appends-same xs ys p p' e g =
+    let n : length xs ≡ length ys = sym (length-map xs simplified) ∙ ap length e ∙ length-map ys simplified in
+    record {
+      same = g.same;
+      holds = λ p₀ w₀ cs h. rw (← same-words xs ys e) (g.holds p₀ w₀ cs h);
+      clauses = omega (arith, g.clauses);
+      literals = omega (arith, g.literals);
+    }
 
 -- ---- one clause
 
-module _ (ls : List ℕ) (at : ClauseCounts) (pairs words : List ℕ) where
-  pub appends-dropped : simplified ls ≡ [] → Appends (ls ∷ []) at pairs words at pairs words
-  appends-dropped e =
-      record {
-        holds = λ p₀ w₀ cs h. rw (e, append-nil cs) h;
-        clauses = omega arith;
-        literals = omega arith;
-      }
+pub appends-dropped : (ls : List ℕ) (p : Clauses) → simplified ls ≡ [] → Appends (ls ∷ []) p p
+appends-dropped ls p e =
+    record {
+      same = same-none p;
+      holds = λ p₀ w₀ cs h. rw (e, append-nil cs) h;
+      clauses = omega arith;
+      literals = omega arith;
+    }
 
 -- the counts with a clause of n words more
 abbrev pub counted : ClauseCounts → ℕ → ClauseCounts
 counted at n = record { clauses = at.clauses + 1; literals = at.literals + n }
-
--- there is no room for a clause of n words more
-abbrev pub Full : ClauseCounts → ℕ → List ℕ → List ℕ → Type 0
-Full at n pairs words = (length pairs < 2 * at.clauses + 2) ⊎ (length words < at.literals + n)
 
 module _ (p₀ w₀ : List ℕ) (cs : List Clause) (at : ClauseCounts) (pairs words : List ℕ) (h : Holding p₀ w₀ cs at pairs words) (c : Clause) where
   more-clauses : length (cs ++ c ∷ []) ≡ length cs + 1
@@ -88,7 +100,7 @@ module _ (p₀ w₀ : List ℕ) (cs : List Clause) (at : ClauseCounts) (pairs wo
   room-before : Room (cs ++ c ∷ []) p₀ w₀ → Room cs p₀ w₀
   room-before r = record { pairs_fit = omega (arith, r.pairs_fit, more-clauses); words_fit = omega (arith, r.words_fit, more-literals) }
 
-  holding_full : Full at (length c) pairs words → Holding p₀ w₀ (cs ++ c ∷ []) (counted at (length c)) pairs words
+  holding_full : (length pairs < 2 * at.clauses + 2) ⊎ (length words < at.literals + length c) → Holding p₀ w₀ (cs ++ c ∷ []) (counted at (length c)) pairs words
   holding_full f =
       record {
         clauses = omega (arith, h.clauses, more-clauses);
@@ -131,38 +143,37 @@ module _ (p₀ w₀ : List ℕ) (cs : List Clause) (at : ClauseCounts) (pairs wo
               record { pairs_are = pairs-grown old.pairs_are; words_are = words-grown old.words_are };
         }
 
-module _ (ls : List ℕ) (c : Clause) (e : simplified ls ≡ c ∷ []) (short : length c ≤ 1024) (at : ClauseCounts) (pairs words : List ℕ) where
-  pub appends_full : Full at (length c) pairs words → Appends (ls ∷ []) at pairs words (counted at (length c)) pairs words
-  appends_full f =
+module _ (ls : List ℕ) (c : Clause) (e : simplified ls ≡ c ∷ []) (short : length c ≤ 1024) (p p' : Clauses) (same : SameBuffers p p') (counts : p'.counts ≡ counted p.counts (length c)) where
+  pub appends_full : Full p (length c) → p'.pairs.now ≡ p.pairs.now → p'.literals.now ≡ p.literals.now → Appends (ls ∷ []) p p'
+  appends_full f pe we =
       record {
-        holds = λ p₀ w₀ cs h. rw e (holding_full p₀ w₀ cs at pairs words h c f);
-        clauses = omega arith;
-        literals = omega arith;
+        same = same;
+        holds = λ p₀ w₀ cs h. rw (e, counts, pe, we) (holding_full p₀ w₀ cs p.counts p.pairs.now p.literals.now h c f);
+        clauses = rw counts (omega arith);
+        literals = rw counts (omega arith);
       }
 
-  pub appends-stored : 2 * at.clauses + 2 ≤ length pairs → at.literals + length c ≤ length words
-      → Appends (ls ∷ []) at pairs words (counted at (length c)) (put pairs (2 * at.clauses) (at.literals ∷ length c ∷ [])) (put words at.literals c)
-  appends-stored kp kw =
+  pub appends-stored : 2 * p.counts.clauses + 2 ≤ length p.pairs.now → p.counts.literals + length c ≤ length p.literals.now
+      → p'.pairs.now ≡ put p.pairs.now (2 * p.counts.clauses) (p.counts.literals ∷ length c ∷ []) → p'.literals.now ≡ put p.literals.now p.counts.literals c → Appends (ls ∷ []) p p'
+  appends-stored kp kw pe we =
       record {
-        holds = λ p₀ w₀ cs h. rw e (holding-stored p₀ w₀ cs at pairs words h c kp kw);
-        clauses = omega arith;
-        literals = omega arith;
+        same = same;
+        holds = λ p₀ w₀ cs h. rw (e, counts, pe, we) (holding-stored p₀ w₀ cs p.counts p.pairs.now p.literals.now h c kp kw);
+        clauses = rw counts (omega arith);
+        literals = rw counts (omega arith);
       }
 
 -- ---- loops: the lists of the first i items were appended
 
-module _ {A : Type 0} (f : A → List (List ℕ)) (items : List A) (i : ℕ) (a₁ a₂ a₃ : ClauseCounts) (p₁ w₁ p₂ w₂ p₃ w₃ : List ℕ) where
-  pub appends_item : (d : A) → i < length items → Appends (words_of f (take i items)) a₁ p₁ w₁ a₂ p₂ w₂
-      → Appends (f (get_or items i d)) a₂ p₂ w₂ a₃ p₃ w₃ → Appends (words_of f (take (i + 1) items)) a₁ p₁ w₁ a₃ p₃ w₃
-  appends_item d h g k =
-      rw (words-next f items i d h) (appends_then (words_of f (take i items)) (f (get_or items i d)) a₁ a₂ a₃ p₁ w₁ p₂ w₂ p₃ w₃ g k)
+pub appends_item : {A : Type 0} (f : A → List (List ℕ)) (items : List A) (i : ℕ) (p q r : Clauses) (d : A) → i < length items
+    → Appends (words_of f (take i items)) p q → Appends (f (get_or items i d)) q r → Appends (words_of f (take (i + 1) items)) p r
+appends_item f items i p q r d h g k = rw (words-next f items i d h) (appends_then (words_of f (take i items)) (f (get_or items i d)) p q r g k)
 
-module _ (lists : List (List ℕ)) (i : ℕ) (a₁ a₂ a₃ : ClauseCounts) (p₁ w₁ p₂ w₂ p₃ w₃ : List ℕ) where
-  pub appends-next : (d : List ℕ) → i < length lists → Appends (take i lists) a₁ p₁ w₁ a₂ p₂ w₂
-      → Appends (get_or lists i d ∷ []) a₂ p₂ w₂ a₃ p₃ w₃ → Appends (take (i + 1) lists) a₁ p₁ w₁ a₃ p₃ w₃
-  appends-next d h g k = rw (take_next lists i d h) (appends_then (take i lists) (get_or lists i d ∷ []) a₁ a₂ a₃ p₁ w₁ p₂ w₂ p₃ w₃ g k)
+module _ (lists : List (List ℕ)) (i : ℕ) (p q r : Clauses) where
+  pub appends-next : (d : List ℕ) → i < length lists → Appends (take i lists) p q → Appends (get_or lists i d ∷ []) q r → Appends (take (i + 1) lists) p r
+  appends-next d h g k = rw (take_next lists i d h) (appends_then (take i lists) (get_or lists i d ∷ []) p q r g k)
 
-  pub appends-end : length lists ≤ i → Appends (take i lists) a₁ p₁ w₁ a₂ p₂ w₂ → Appends lists a₁ p₁ w₁ a₂ p₂ w₂
+  pub appends-end : length lists ≤ i → Appends (take i lists) p q → Appends lists p q
   appends-end h g = rw (take_all i lists h) at g
 
 -- ---- from the first clause on
@@ -174,9 +185,8 @@ pub holding-none : (pairs words : List ℕ) → Holding pairs words [] empty pai
 holding-none pairs words =
     record { clauses = refl; literals = refl; same_pairs = refl; same_words = refl; stored = λ r. record { pairs_are = refl; words_are = refl } }
 
-module _ (lists : List (List ℕ)) (pairs words : List ℕ) (at : ClauseCounts) (pairs' words' : List ℕ) where
-  pub appends-start : Appends lists empty pairs words at pairs' words' → Holding pairs words (words_of simplified lists) at pairs' words'
-  appends-start g = g.holds pairs words [] (holding-none pairs words)
+pub appends-start : (lists : List (List ℕ)) (p p' : Clauses) → p.counts ≡ empty → Appends lists p p' → Holding p.pairs.now p.literals.now (words_of simplified lists) p'.counts p'.pairs.now p'.literals.now
+appends-start lists p p' e g = g.holds p.pairs.now p.literals.now [] (rw e (holding-none p.pairs.now p.literals.now))
 
 -- ---- what a caller has: the counts tell whether there is room, and then the clauses stand in the buffers
 
@@ -202,16 +212,14 @@ space-less at m n h s = record { clauses = omega (arith, s.clauses); literals = 
 pub space-empty : (n : ℕ) → n ≤ 2 ^ 40 → Space empty n
 space-empty n h = record { clauses = omega arith; literals = omega arith }
 
-module _ (lists : List (List ℕ)) (at : ClauseCounts) (pairs words : List ℕ) (at' : ClauseCounts) (pairs' words' : List ℕ) (g : Appends lists at pairs words at' pairs' words') where
-  pub space-after : (n : ℕ) → Space at (length lists + n) → Space at' n
+module _ (lists : List (List ℕ)) (p p' : Clauses) (g : Appends lists p p') where
+  pub space-after : (n : ℕ) → Space p.counts (length lists + n) → Space p'.counts n
   space-after n s = record { clauses = omega (arith, s.clauses, g.clauses); literals = omega (arith, s.literals, g.literals) }
 
   -- what is left of space for n lists
-  pub space-left : (m n : ℕ) → length lists + m ≤ n → Space at n → Space at' m
-  space-left m n h s = space-after m (space-less at (length lists + m) n h s)
+  pub space-left : (m n : ℕ) → length lists + m ≤ n → Space p.counts n → Space p'.counts m
+  space-left m n h s = space-after m (space-less p.counts (length lists + m) n h s)
 
 -- in a loop over lists, one clause more
-pub space-next : (lists : List (List ℕ)) (i : ℕ) (at : ClauseCounts) (pairs words : List ℕ) (at' : ClauseCounts) (pairs' words' : List ℕ)
-    → i < length lists → Appends (take i lists) at pairs words at' pairs' words' → Space at (length lists) → Space at' 1
-space-next lists i at pairs words at' pairs' words' h g s =
-    space-left (take i lists) at pairs words at' pairs' words' g 1 (length lists) (rw (length-take-le i lists (omega arith)) (omega arith)) s
+pub space-next : (lists : List (List ℕ)) (i : ℕ) (p p' : Clauses) → i < length lists → Appends (take i lists) p p' → Space p.counts (length lists) → Space p'.counts 1
+space-next lists i p p' h g s = space-left (take i lists) p p' g 1 (length lists) (rw (length-take-le i lists (omega arith)) (omega arith)) s

@@ -38,6 +38,19 @@ kept_one l = go (dropped l)
         rw (length-append clause [])
         (omega (arith, set-short (map cnf_word (without_false l)), length-map (without_false l) cnf_word, length_without l))
 
+clause_one : (l : List ℕ) → length (simplified l) ≤ 1
+unfolding simplified
+clause_one l = go (dropped l)
+  where
+    go : (b : Bool) → length (cond b [] (set_of (map cnf_word (without_false l)) ∷ [])) ≤ 1
+    go true = omega arith
+    go false = omega arith
+
+-- no more clauses than lists
+pub clauses-few : (ls : List (List ℕ)) → length (words_of simplified ls) ≤ length ls
+clauses-few [] = omega arith
+clauses-few (l ∷ ls) = rw (length-append (simplified l) (words_of simplified ls)) (omega (arith, clause_one l, clauses-few ls))
+
 pub kept-few : (ls : List (List ℕ)) → length (literals_of (words_of simplified ls)) ≤ total ls
 kept-few [] = omega arith
 kept-few (l ∷ ls) =

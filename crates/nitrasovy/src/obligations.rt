@@ -12,7 +12,7 @@ use aiger::Refusal;
 use cnf::ClauseCounts;
 use model::LentModel;
 use obligation::Claim;
-use obligation_check::Question;
+use obligation_check::{Predicate, Question};
 
 // Reason 0 and the numbers of clauses and literals, or the number of the reason and zeros.
 // Kept (enum): C reads a reason beside the values.
@@ -44,6 +44,7 @@ impl From<Result<ClauseCounts, Refusal>> for NitMade {
 }
 
 // What is asked about a model that is lent as its words.
+// Kept (travel): here C's arguments become one struct.
 fn question<'a>(
     model: &'a [u64],
     gates: &'a [u64],
@@ -53,13 +54,14 @@ fn question<'a>(
 ) -> Question<'a>
     ensures { asked_in result ≡ asked_of (record_in model.now) gates.now relevant.now predicate_pairs.now predicate_literals.now }
 {
-    let lent = LentModel::from_words(model);
     Question {
-        model: lent,
+        model: LentModel::from_words(model),
         gates,
-        relevant,
-        predicate_pairs,
-        predicate_literals,
+        predicate: Predicate {
+            relevant,
+            pairs: predicate_pairs,
+            literals: predicate_literals,
+        },
     }
 }
 

@@ -7,7 +7,6 @@ use mathlib.Core.Path.{◌≡◌, refl, sym, ap, ◌∙◌}
 use lib.Dec.{ltb}
 use lib.ListN.{length}
 use Rattle.lists.specs.Answer.{Answer, got, refused, unless}
-use Rattle.lists.specs.Parts.{zeros}
 use Rattle.lists.proofs.AnswerLaws.{unless_test, unless-got, got_same, and_then-got}
 use Rattle.aiger.specs.declared.Refusal.{Refusal}
 use Rattle.aiger.specs.declared.Refusal.TheVariants as refusal
@@ -24,7 +23,7 @@ use Rattle.obligation_check.specs.Inner.Boundary.{Checks}
 use Rattle.obligation.specs.declared.Claim.{Claim}
 use Rattle.obligation.specs.declared.Claim.TheVariants.{Relation, Transducer, Terminal}
 use Rattle.obligation.specs.Promise.{Buffers, buffers_of, lent_of, Makes, Promised}
-use Rattle.obligation.specs.Inner.Appended.{room_of, Asks, Continues, MakesAll}
+use Rattle.obligation.specs.Inner.Appended.{room_of, Asks, MakesAll}
 use Rattle.obligation.specs.Inner.ByClaim.{claim_test, claim_clauses, claim_after}
 use Rattle.obligation.proofs.PromiseLaws.{relation_promise, transducer_promise, terminal_promise, makes-refused, makes-rest}
 

@@ -10,17 +10,19 @@ use Rattle.lists.specs.Words.{triples_of, words_of}
 use Rattle.lists.proofs.WordLaws.{pairs-count, triples_count, words-length}
 use Rattle.aiger.specs.Gates.{gate_from}
 use Rattle.cnf.specs.declared.ClauseCounts.{ClauseCounts}
+use Rattle.cnf.specs.declared.Clauses.{Clauses}
 use Rattle.cnf.specs.Clauses.{clauses_in}
-use Rattle.cnf.specs.Inner.Appending.{Appends, Space}
-use Rattle.cnf.proofs.AppendLaws.{appends_then, space-empty, space-less, space-left}
+use Rattle.cnf.specs.Simplified.{simplified}
+use Rattle.cnf.specs.Inner.Appending.{Holding, Appends, Space}
+use Rattle.cnf.proofs.AppendLaws.{empty, appends_then, appends-start, space-empty, space-less, space-left}
 use Rattle.obligation_spec.specs.Lists.{source_lists, predicate_literal, gate_lists}
 use Rattle.obligation_gates.proofs.SourceLaws.{count}
-use Rattle.obligation_claims.specs.Inner.Claims.{claim_list, state_claims, outcome_claims, LowKeys}
+use Rattle.obligation_claims.specs.Inner.Claims.{claim_list, state_claims, LowKeys}
 use Rattle.obligation_claims.specs.declared.Claims.{Claims}
 use Rattle.obligation_claims.specs.declared.Claims.TheVariants.{States, Outcomes}
 use Rattle.obligation_claims.specs.Inner.Kinds.{count_in, words_in, wide_in, lists_of}
-use Rattle.obligation_gates.specs.Inner.Encoding.{Bounded}
-use Rattle.obligation.specs.Inner.Appended.{Parts, Claimed, claimed_of, front_lists, claim_lists, all_lists, claim_count, FrontReady, ClaimsReady, empty}
+use Rattle.obligation_gates.specs.Inner.Encoding.{BoundedBy}
+use Rattle.obligation.specs.Inner.Appended.{Parts, Claimed, claimed_of, front_lists, claim_lists, all_lists, claim_count, FrontReady, ClaimsReady}
 
 module _ (p : Parts) (f : FrontReady p) where
   abbrev sources : List (List ℕ)
@@ -41,24 +43,24 @@ module _ (p : Parts) (f : FrontReady p) where
   pub sources_space : Space empty (length p.currents)
   sources_space = space-empty (length p.currents) (omega (arith, f.few))
 
-  module _ (a₁ : ClauseCounts) (p₀ w₀ p₁ w₁ : List ℕ) (g : Appends sources empty p₀ w₀ a₁ p₁ w₁) where
-    pub clauses-space : Space a₁ (length p.pairs / 2)
+  module _ (s₀ s₁ : Clauses) (none : s₀.counts ≡ empty) (g : Appends sources s₀ s₁) where
+    pub clauses-space : Space s₁.counts (length p.pairs / 2)
     clauses-space =
-        space-left sources empty p₀ w₀ a₁ p₁ w₁ g (length p.pairs / 2) 100
-        (omega (arith, count p.currents p.source, f.few, f.clauses)) (space-empty 100 (omega arith))
+        space-left sources s₀ s₁ g (length p.pairs / 2) 100
+        (omega (arith, count p.currents p.source, f.few, f.clauses)) (rw none (space-empty 100 (omega arith)))
 
-    module _ (a₂ : ClauseCounts) (p₂ w₂ : List ℕ) (h : Appends clauses a₁ p₁ w₁ a₂ p₂ w₂) where
-      both : Appends (sources ++ clauses) empty p₀ w₀ a₂ p₂ w₂
-      both = appends_then sources clauses empty a₁ a₂ p₀ w₀ p₁ w₁ p₂ w₂ g h
+    module _ (s₂ : Clauses) (h : Appends clauses s₁ s₂) where
+      both : Appends (sources ++ clauses) s₀ s₂
+      both = appends_then sources clauses s₀ s₁ s₂ g h
 
-      pub gates-space : Space a₂ (3 * p.ands)
+      pub gates-space : Space s₂.counts (3 * p.ands)
       gates-space =
-          space-left (sources ++ clauses) empty p₀ w₀ a₂ p₂ w₂ both (3 * p.ands) 4000000
+          space-left (sources ++ clauses) s₀ s₂ both (3 * p.ands) 4000000
           (rw (length-append sources clauses) (omega (arith, count p.currents p.source, clauses_many, f.few, f.clauses, f.most)))
-          (space-empty 4000000 (omega arith))
+          (rw none (space-empty 4000000 (omega arith)))
 
-      pub front-appends : (a₃ : ClauseCounts) (p₃ w₃ : List ℕ) → Appends gates a₂ p₂ w₂ a₃ p₃ w₃ → Appends (front_lists p) empty p₀ w₀ a₃ p₃ w₃
-      front-appends a₃ p₃ w₃ k = appends_then sources (clauses ++ gates) empty a₁ a₃ p₀ w₀ p₁ w₁ p₃ w₃ g (appends_then clauses gates a₁ a₂ a₃ p₁ w₁ p₂ w₂ p₃ w₃ h k)
+      pub front-appends : (s₃ : Clauses) → Appends gates s₂ s₃ → Appends (front_lists p) s₀ s₃
+      front-appends s₃ k = appends_then sources (clauses ++ gates) s₀ s₁ s₃ g (appends_then clauses gates s₁ s₂ s₃ h k)
 
   pub front-most : length (front_lists p) ≤ length p.currents + length p.pairs / 2 + 3 * p.ands
   front-most =
@@ -68,21 +70,23 @@ module _ (p : Parts) (f : FrontReady p) where
   front_many : length (front_lists p) ≤ 3000072
   front_many = omega (arith, front-most, f.few, f.clauses, f.most)
 
-  module _ (a₁ : ClauseCounts) (p₀ w₀ p₁ w₁ : List ℕ) (g : Appends (front_lists p) empty p₀ w₀ a₁ p₁ w₁) where
-    pub claims-space : Space a₁ 1000000
-    claims-space = space-left (front_lists p) empty p₀ w₀ a₁ p₁ w₁ g 1000000 5000000 (omega (arith, front_many)) (space-empty 5000000 (omega arith))
+  module _ (s₀ s₁ : Clauses) (none : s₀.counts ≡ empty) (g : Appends (front_lists p) s₀ s₁) where
+    space : (n : ℕ) → n ≤ 1000001 → Space s₁.counts n
+    space n h = space-left (front_lists p) s₀ s₁ g n 5000000 (omega (arith, front_many)) (rw none (space-empty 5000000 (omega arith)))
 
-    module _ (c : Claimed) (a₂ : ClauseCounts) (p₂ w₂ : List ℕ) (h : Appends (claim_lists c) a₁ p₁ w₁ a₂ p₂ w₂) where
-      pub last_space : length (claim_lists c) ≤ 1000000 → Space a₂ 1
-      last_space few = space-left (claim_lists c) a₁ p₁ w₁ a₂ p₂ w₂ h 1 1000001 (omega (arith, few)) more
-        where
-          more : Space a₁ 1000001
-          more = space-left (front_lists p) empty p₀ w₀ a₁ p₁ w₁ g 1000001 5000000 (omega (arith, front_many)) (space-empty 5000000 (omega arith))
+    pub claims-space : Space s₁.counts 1000000
+    claims-space = space 1000000 (omega arith)
 
-      pub all-appends : (last : ℕ) (a₃ : ClauseCounts) (p₃ w₃ : List ℕ) → Appends ((last ∷ []) ∷ []) a₂ p₂ w₂ a₃ p₃ w₃ → Appends (all_lists p c last) empty p₀ w₀ a₃ p₃ w₃
-      all-appends last a₃ p₃ w₃ k =
-          appends_then (front_lists p) (claim_lists c ++ (last ∷ []) ∷ []) empty a₁ a₃ p₀ w₀ p₁ w₁ p₃ w₃ g
-          (appends_then (claim_lists c) ((last ∷ []) ∷ []) a₁ a₂ a₃ p₁ w₁ p₂ w₂ p₃ w₃ h k)
+    module _ (c : Claimed) (s₂ : Clauses) (h : Appends (claim_lists c) s₁ s₂) where
+      pub last_space : length (claim_lists c) ≤ 1000000 → Space s₂.counts 1
+      last_space few = space-left (claim_lists c) s₁ s₂ h 1 1000001 (omega (arith, few)) (space 1000001 (omega arith))
+
+      pub all-holding : (last : ℕ) (s₃ : Clauses) → Appends ((last ∷ []) ∷ []) s₂ s₃
+          → Holding s₀.pairs.now s₀.literals.now (words_of simplified (all_lists p c last)) s₃.counts s₃.pairs.now s₃.literals.now
+      all-holding last s₃ k =
+          appends-start (all_lists p c last) s₀ s₃ none
+          (appends_then (front_lists p) (claim_lists c ++ (last ∷ []) ∷ []) s₀ s₁ s₃ g
+          (appends_then (claim_lists c) ((last ∷ []) ∷ []) s₁ s₂ s₃ h k))
 
 -- ---- claims of either width
 
@@ -119,10 +123,10 @@ claims-asked keys claims d at s =
     (space-less at (count_in claims) 1000000 many s, omega (arith, d.few_keys), d.low_keys)
 
 -- inputs as the code lends them
-pub bounded_inputs : (p : Parts) → FrontReady p → (is : List ℕ) → is ≡ p.inputs → Bounded is p.relevant p.pairs p.words
+pub bounded_inputs : (p : Parts) → FrontReady p → (is : List ℕ) → is ≡ p.inputs → BoundedBy is p.relevant p.pairs p.words
 bounded_inputs p f is e = rw e f.bounded
 
-pub limited_inputs : (p : Parts) (is : List ℕ) → is ≡ p.inputs → (a b : ClauseCounts) (ps ws ps' ws' : List ℕ)
-    → Appends (map (map (predicate_literal is p.relevant)) (clauses_in p.words p.pairs)) a ps ws b ps' ws'
-    → Appends (map (map (predicate_literal p.inputs p.relevant)) (clauses_in p.words p.pairs)) a ps ws b ps' ws'
-limited_inputs p is e a b ps ws ps' ws' g = rw e at g
+pub limited_inputs : (p : Parts) (is : List ℕ) → is ≡ p.inputs → (s t : Clauses)
+    → Appends (map (map (predicate_literal is p.relevant)) (clauses_in p.words p.pairs)) s t
+    → Appends (map (map (predicate_literal p.inputs p.relevant)) (clauses_in p.words p.pairs)) s t
+limited_inputs p is e s t g = rw e at g

@@ -15,12 +15,11 @@ use Rattle.aiger.specs.Gates.{gate_from}
 use Rattle.cnf.specs.declared.ClauseCounts.{ClauseCounts}
 use Rattle.cnf.specs.Clauses.{clauses_in}
 use Rattle.cnf.specs.Simplified.{simplified}
-use Rattle.cnf.specs.Inner.Appending.{Appends}
-use Rattle.cnf.proofs.AppendLaws.{appends-start}
-use Rattle.cnf.proofs.SizeLaws.{total, total_append, total_more, kept-few}
+use Rattle.cnf.specs.Inner.Appending.{Holding}
+use Rattle.cnf.proofs.SizeLaws.{total, total_append, total_more, clauses-few, kept-few}
 use Rattle.obligation_spec.specs.Lists.{valued, source_lists, predicate_literal, gate_lists}
 use Rattle.obligation_claims.specs.Inner.Claims.{claim_list, state_claims, outcome_claims}
-use Rattle.obligation.specs.Inner.Appended.{Parts, Claimed, front_lists, claim_lists, all_lists, claim_count, Ready, Roomy, MakesAll, empty}
+use Rattle.obligation.specs.Inner.Appended.{Parts, Claimed, front_lists, claim_lists, all_lists, claim_count, Ready, Roomy, MakesAll}
 use Rattle.obligation.proofs.PromiseLaws.{made_all}
 use Rattle.obligation.proofs.MakingLaws.{front-most, claims_many, claims-few}
 
@@ -95,12 +94,11 @@ module _ (p : Parts) (c : Claimed) (last : ℕ) (r : Ready p c last) where
   -- with so much room, what is appended is the whole answer
   pub made_roomy : (pairs literals : List ℕ) (n : ℕ) → n ≡ claim_count (length c.words) c.wide
       → Roomy (length p.currents) (length p.pairs / 2) p.ands (length c.keys) n (length pairs) (length literals)
-      → (at : ClauseCounts) (pairs' literals' : List ℕ) → Appends (all_lists p c last) empty pairs literals at pairs' literals'
+      → (at : ClauseCounts) (pairs' literals' : List ℕ) → Holding pairs literals (words_of simplified (all_lists p c last)) at pairs' literals'
       → MakesAll (words_of simplified (all_lists p c last)) pairs literals (Ok at) pairs' literals'
-  made_roomy pairs literals n e room at pairs' literals' g =
+  made_roomy pairs literals n e room at pairs' literals' h =
       let literals-fit : length p.currents + 7 * p.ands + length c.keys * claim_count (length c.words) c.wide + 1025 ≤ length literals = rw (← e) room.literals_suffice in
-      let h = appends-start (all_lists p c last) pairs literals at pairs' literals' g in
       made_all (words_of simplified (all_lists p c last)) pairs literals pairs literals pairs' literals' at h
-      (omega (arith, g.clauses, all_many, room.pairs_suffice, e))
+      (omega (arith, h.clauses, clauses-few (all_lists p c last), all_many, room.pairs_suffice, e))
       (omega (arith, h.literals, kept-few (all_lists p c last), all_total, literals-fit))
       at pairs' literals' h

@@ -14,7 +14,7 @@ use aiger::Refusal;
 use cnf::ClauseCounts;
 use making::Plan;
 use model::{AigerTransition, LentModel};
-use obligation_check::Question;
+use obligation_check::{Predicate, Question};
 use obligation_claims::Claims;
 
 mod making;
@@ -205,13 +205,15 @@ pub fn relation_row_completeness_cnf(
 ) -> Result<ClauseCounts, Refusal>
     ensures { MakesRelation (asked_of model.now gates.now relevant.now predicate_pairs.now predicate_literals.now) source targets.now (buffers_of pairs.old literals.old work.old) result (buffers_of pairs.new literals.new work.new) }
 {
-    let lent = LentModel::from(model);
-    let question = Question {
-        model: lent,
-        gates,
+    let predicate = Predicate {
         relevant,
-        predicate_pairs,
-        predicate_literals,
+        pairs: predicate_pairs,
+        literals: predicate_literals,
+    };
+    let question = Question {
+        model: LentModel::from(model),
+        gates,
+        predicate,
     };
     make(
         &question,

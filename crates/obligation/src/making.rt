@@ -2,12 +2,12 @@
 ghost use Rattle.std.specs.Prelude.{true, ◌≡◌, ◌*◌, ◌≤◌};
 ghost use Rattle.lists.specs.Words.{words_of};
 ghost use Rattle.cnf.specs.Simplified.{simplified};
-ghost use Rattle.cnf.specs.Inner.Appending.{Appends};
-ghost use Rattle.obligation.specs.Inner.Appended.{front_lists, all_lists, FrontReady, Ready, Roomy, MakesAll, empty};
+ghost use Rattle.cnf.specs.Inner.Appending.{Holding};
+ghost use Rattle.obligation.specs.Inner.Appended.{all_lists, Ready, Roomy, MakesAll};
 ghost use Rattle.obligation.specs.Inner.Planned.{parts_in, claimed_in};
 
 use aiger::Refusal;
-use cnf::ClauseCounts;
+use cnf::{ClauseCounts, Clauses};
 use obligation_check::Question;
 use obligation_claims::Claims;
 
@@ -22,41 +22,7 @@ pub struct Plan<'a> {
     pub last: u64,
 }
 
-// Appends the clauses of source latches, predicate and gates.
-fn append_front(
-    question: &Question,
-    plan: &Plan,
-    pairs: &mut [u64],
-    literals: &mut [u32],
-) -> ClauseCounts
-    requires { FrontReady (parts_in question.now plan.now) }
-    ensures { Appends (front_lists (parts_in question.now plan.now)) empty pairs.old literals.old result pairs.new literals.new }
-{
-    let model = question.model;
-    let start = ClauseCounts {
-        clauses: 0,
-        literals: 0,
-    };
-    let sources = obligation_gates::append_sources(
-        plan.currents,
-        plan.source,
-        pairs,
-        literals,
-        start,
-    );
-    let limited = obligation_gates::append_predicate(
-        lists::first(model.inputs, model.counts.inputs),
-        question.relevant,
-        question.predicate_pairs,
-        question.predicate_literals,
-        pairs,
-        literals,
-        sources,
-    );
-    obligation_gates::append_ands(question.gates, model.counts.ands, pairs, literals, limited)
-}
-
-// Appends all clauses of an obligation: a row's end with the claims, a terminal list's with a clause of one literal.
+// Appends all clauses of an obligation: source latches, predicate and gates, then the claims and a clause of one literal.
 fn append_all(
     question: &Question,
     plan: &Plan,
@@ -64,11 +30,25 @@ fn append_all(
     literals: &mut [u32],
 ) -> ClauseCounts
     requires { Ready (parts_in question.now plan.now) (claimed_in plan.now) plan.now.last }
-    ensures { Appends (all_lists (parts_in question.now plan.now) (claimed_in plan.now) plan.now.last) empty pairs.old literals.old result pairs.new literals.new }
+    ensures { Holding pairs.old literals.old (words_of simplified (all_lists (parts_in question.now plan.now) (claimed_in plan.now) plan.now.last)) result pairs.new literals.new }
 {
-    let front = append_front(question, plan, pairs, literals);
-    let claimed = obligation_claims::append_claims(plan.keys, plan.claims, pairs, literals, front);
-    obligation_gates::push_literal(plan.last, pairs, literals, claimed)
+    let counts = ClauseCounts {
+        clauses: 0,
+        literals: 0,
+    };
+    let mut clauses = Clauses {
+        pairs,
+        literals,
+        counts,
+    };
+    let model = question.model;
+    let inputs = lists::first(model.inputs, model.counts.inputs);
+    obligation_gates::append_sources(plan.currents, plan.source, &mut clauses);
+    obligation_gates::append_predicate(inputs, &question.predicate, &mut clauses);
+    obligation_gates::append_ands(question.gates, model.counts.ands, &mut clauses);
+    obligation_claims::append_claims(plan.keys, plan.claims, &mut clauses);
+    clauses.push_single(plan.last);
+    clauses.counts
 }
 
 // Whether the room suffices for every obligation of so many parts. A predicate has at most 1,024 literals, a gate's clauses have seven.
@@ -124,7 +104,7 @@ pub fn make(
 {
     if roomy(
         plan.currents.len(),
-        question.predicate_pairs.len() / 2,
+        question.predicate.pairs.len() / 2,
         question.model.counts.ands,
         plan.keys.len(),
         plan.claims.count(),

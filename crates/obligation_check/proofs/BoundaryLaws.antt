@@ -1,12 +1,12 @@
 -- Laws for the functions that check relevant inputs, predicates and states (R9.13, R9.14).
 use Prim.Native.Nat.{ℕ, ◌+◌, ◌-◌, ◌*◌, ◌/◌, ◌≤◌, ◌<◌, ◌^◌}
-use mathlib.Core.Bool.{Bool, true, false, not, ◌&&◌, and-false, and-true}
+use mathlib.Core.Bool.{Bool, true, false, ◌&&◌, and-false, and-true}
 use mathlib.Core.List.{List, [], ◌∷◌}
 use Rattle.std.specs.Prelude.{Result, Ok, Err}
 use mathlib.Core.Path.{◌≡◌, refl, sym, ap, ◌∙◌}
 use native.Mathlib.Nat.{lt_trans, mul-le-mul_right}
 use native.Mathlib.Omega.{arith}
-use borrow.Author.Tests.{le-leb, lt-leb, not-true, not-false}
+use borrow.Author.Tests.{le-leb, lt-leb}
 use lib.Dec.{leb, ltb, lit<}
 use lib.ListN.{length, get_or, take, drop}
 use lib.Seq.{length-take-le}
@@ -106,27 +106,27 @@ module _ (inputs : ℕ) (relevant pairs words : List ℕ) where
   pub too_many_relevant : 64 < length relevant → Bounds inputs relevant pairs words false
   too_many_relevant h = bounds_fail 0 (lt-leb (length relevant) 64 h)
 
-  pub not-rising : (q : Bool) → q ≡ rising relevant → not q ≡ true → Bounds inputs relevant pairs words false
-  not-rising q e f = bounds_fail 1 (sym e ∙ not-true q f)
+  pub not-rising : (q : Bool) → q ≡ rising relevant → q ≡ false → Bounds inputs relevant pairs words false
+  not-rising q e f = bounds_fail 1 (sym e ∙ f)
 
-  pub not-inputs : (q : Bool) → q ≡ all (λ i. ltb i inputs) relevant → not q ≡ true → Bounds inputs relevant pairs words false
-  not-inputs q e f = bounds_fail 2 (sym e ∙ not-true q f)
+  pub not-inputs : (q : Bool) → q ≡ all (λ i. ltb i inputs) relevant → q ≡ false → Bounds inputs relevant pairs words false
+  not-inputs q e f = bounds_fail 2 (sym e ∙ f)
 
   pub too_many_clauses : 64 < length pairs / 2 → Bounds inputs relevant pairs words false
   too_many_clauses h = bounds_fail 3 (lt-leb (length pairs / 2) 64 h)
 
-  pub too_many_literals : (q : Bool) → q ≡ leb (lengths pairs) 1024 → not q ≡ true → Bounds inputs relevant pairs words false
-  too_many_literals q e f = bounds_fail 4 (sym e ∙ not-true q f)
+  pub too_many_literals : (q : Bool) → q ≡ leb (lengths pairs) 1024 → q ≡ false → Bounds inputs relevant pairs words false
+  too_many_literals q e f = bounds_fail 4 (sym e ∙ f)
 
   -- the last two tests decide where the others hold
-  pub bounds_hold : length relevant ≤ 64 → (q : Bool) → q ≡ rising relevant → not q ≡ false → (p : Bool) → p ≡ all (λ i. ltb i inputs) relevant → not p ≡ false
-      → length pairs / 2 ≤ 64 → (t : Bool) → t ≡ leb (lengths pairs) 1024 → not t ≡ false
+  pub bounds_hold : length relevant ≤ 64 → (q : Bool) → q ≡ rising relevant → q ≡ true → (p : Bool) → p ≡ all (λ i. ltb i inputs) relevant → p ≡ true
+      → length pairs / 2 ≤ 64 → (t : Bool) → t ≡ leb (lengths pairs) 1024 → t ≡ true
       → (b : Bool) → b ≡ predicate_holds (length relevant) 0 words pairs → Bounds inputs relevant pairs words b
   unfolding every
   bounds_hold a q qe qt p pe pt d t te tt b e =
       bounds-are b
       (e
-      ∙ rw (le-leb (length relevant) 64 a, ← qe, not-false q qt, ← pe, not-false p pt, le-leb (length pairs / 2) 64 d, ← te, not-false t tt)
+      ∙ rw (le-leb (length relevant) 64 a, ← qe, qt, ← pe, pt, le-leb (length pairs / 2) 64 d, ← te, tt)
       (ap (λ (y : Bool). in_order 0 (length words) pairs && y) (sym (and-true (all (indexes (length relevant)) (clauses_in words pairs))))))
 
 -- ---- states

@@ -1,10 +1,10 @@
 -- Laws for the functions that check claimed outcomes (R9.14).
 use Prim.Native.Nat.{ℕ, ◌+◌, ◌-◌, ◌*◌, ◌/◌, ◌≤◌, ◌<◌, ◌^◌}
-use mathlib.Core.Bool.{Bool, true, false, not, ◌&&◌, ◌||◌, and-false, and-true, or-false}
+use mathlib.Core.Bool.{Bool, true, false, ◌&&◌, ◌||◌, and-false, and-true, or-false}
 use mathlib.Core.List.{List, [], ◌∷◌}
 use mathlib.Core.Path.{◌≡◌, refl, sym, ap, ◌∙◌}
 use native.Mathlib.Omega.{arith}
-use borrow.Author.Tests.{le-leb, lt-leb, ltb-true, lt-ltb, le-ltb, eq-eqb, ne_eqb, not-true, not-false}
+use borrow.Author.Tests.{le-leb, lt-leb, ltb-true, lt-ltb, le-ltb, eq-eqb, ne_eqb}
 use lib.Dec.{leb, ltb, eqb}
 use lib.ListN.{length, get_or, drop}
 use Rattle.model_step.specs.declared.Outcome.{Outcome}
@@ -106,32 +106,32 @@ module _ (latches outputs : ℕ) (observed words : List ℕ) where
   claims_fail : (i : ℕ) → get_or tests i true ≡ false → ClaimsOutcomes latches outputs observed words false
   claims_fail i e = claims-are false (sym (every_fails tests i e))
 
-  pub not-rising : (q : Bool) → q ≡ rising observed → not q ≡ true → ClaimsOutcomes latches outputs observed words false
-  not-rising q e f = claims_fail 0 (sym e ∙ not-true q f)
+  pub not-rising : (q : Bool) → q ≡ rising observed → q ≡ false → ClaimsOutcomes latches outputs observed words false
+  not-rising q e f = claims_fail 0 (sym e ∙ f)
 
-  pub not-outputs : (q : Bool) → q ≡ all (λ i. ltb i outputs) observed → not q ≡ true → ClaimsOutcomes latches outputs observed words false
-  not-outputs q e f = claims_fail 1 (sym e ∙ not-true q f)
+  pub not-outputs : (q : Bool) → q ≡ all (λ i. ltb i outputs) observed → q ≡ false → ClaimsOutcomes latches outputs observed words false
+  not-outputs q e f = claims_fail 1 (sym e ∙ f)
 
   pub too_many_outcomes : 65536 < length words / 3 → ClaimsOutcomes latches outputs observed words false
   too_many_outcomes h = claims_fail 2 (lt-leb (length (outcomes_of words)) 65536 (rw (outcomes_count words) h))
 
-  pub outcomes_not-rising : (q : Bool) → q ≡ rising_outcomes (outcomes_of words) → not q ≡ true → ClaimsOutcomes latches outputs observed words false
-  outcomes_not-rising q e f = claims_fail 3 (sym e ∙ not-true q f)
+  pub outcomes_not-rising : (q : Bool) → q ≡ rising_outcomes (outcomes_of words) → q ≡ false → ClaimsOutcomes latches outputs observed words false
+  outcomes_not-rising q e f = claims_fail 3 (sym e ∙ f)
 
   -- observed outputs that rise and are below the number of outputs are no more than these
-  pub few-observed : (q : Bool) → q ≡ rising observed → not q ≡ false → (p : Bool) → p ≡ all (λ i. ltb i outputs) observed → not p ≡ false → length observed ≤ outputs
+  pub few-observed : (q : Bool) → q ≡ rising observed → q ≡ true → (p : Bool) → p ≡ all (λ i. ltb i outputs) observed → p ≡ true → length observed ≤ outputs
   few-observed q e f p d g =
-      distinct-count outputs observed (rising-distinct observed (sym e ∙ not-false q f))
-      (each-so (λ i. ltb i outputs ≡ true) (λ i. i < outputs) (λ i t. ltb-true i outputs t) observed (each_of_all (λ i. ltb i outputs) observed (sym d ∙ not-false p g)))
+      distinct-count outputs observed (rising-distinct observed (sym e ∙ f))
+      (each-so (λ i. ltb i outputs ≡ true) (λ i. i < outputs) (λ i t. ltb-true i outputs t) observed (each_of_all (λ i. ltb i outputs) observed (sym d ∙ g)))
 
   -- the last two tests, of each outcome in turn, decide where the others hold
-  pub outcomes_hold : (q : Bool) → q ≡ rising observed → not q ≡ false → (p : Bool) → p ≡ all (λ i. ltb i outputs) observed → not p ≡ false
-      → length words / 3 ≤ 65536 → (t : Bool) → t ≡ rising_outcomes (outcomes_of words) → not t ≡ false
+  pub outcomes_hold : (q : Bool) → q ≡ rising observed → q ≡ true → (p : Bool) → p ≡ all (λ i. ltb i outputs) observed → p ≡ true
+      → length words / 3 ≤ 65536 → (t : Bool) → t ≡ rising_outcomes (outcomes_of words) → t ≡ true
       → (b : Bool) → b ≡ all (outcome_fits latches (length observed)) (outcomes_of words) → ClaimsOutcomes latches outputs observed words b
   unfolding every
   outcomes_hold q qe qt p pe pt h t te tt b e =
       claims-are b
       (e ∙ all-and (λ o. ltb o.target (2 ^ latches)) (λ o. ltb (o.low + 2 ^ 64 * o.high) (2 ^ length observed)) (outcomes_of words)
-      ∙ rw (← qe, not-false q qt, ← pe, not-false p pt, le-leb (length (outcomes_of words)) 65536 (rw (outcomes_count words) h), ← te, not-false t tt)
+      ∙ rw (← qe, qt, ← pe, pt, le-leb (length (outcomes_of words)) 65536 (rw (outcomes_count words) h), ← te, tt)
       (ap (λ (y : Bool). all (λ o. ltb o.target (2 ^ latches)) (outcomes_of words) && y)
       (sym (and-true (all (λ o. ltb (o.low + 2 ^ 64 * o.high) (2 ^ length observed)) (outcomes_of words))))))

@@ -13,14 +13,20 @@ use aiger::Refusal;
 use model::LentModel;
 use model_step::Outcome;
 
-// What every obligation is asked about: a model, relevant inputs, and a predicate as pairs and literals.
+// A predicate over relevant inputs: their places among the inputs, and its clauses as pairs and literals.
+#[derive(Clone, Copy)]
+pub struct Predicate<'a> {
+    pub relevant: &'a [u64],
+    pub pairs: &'a [u64],
+    pub literals: &'a [u32],
+}
+
+// What every obligation is asked about.
 #[derive(Clone, Copy)]
 pub struct Question<'a> {
     pub model: LentModel<'a>,
     pub gates: &'a [u64],
-    pub relevant: &'a [u64],
-    pub predicate_pairs: &'a [u64],
-    pub predicate_literals: &'a [u32],
+    pub predicate: Predicate<'a>,
 }
 
 // Whether each word of a clause indexes one of n relevant inputs.
@@ -36,18 +42,16 @@ fn indexes_hold(clause: &[u32], n: u32) -> bool
 }
 
 // Whether the predicate's pairs are in order, and its literals index one of n relevant inputs.
-fn predicate_holds(predicate_pairs: &[u64], predicate_literals: &[u32], n: u32) -> bool
-    ensures { result ≡ predicate_holds n 0 predicate_literals.now predicate_pairs.now }
+fn predicate_holds(pairs: &[u64], literals: &[u32], n: u32) -> bool
+    ensures { result ≡ predicate_holds n 0 literals.now pairs.now }
 {
-    let size = predicate_literals.len();
-    let count = predicate_pairs.len() / 2;
     let mut end = 0;
-    for i in 0..count {
-        let Some(next) = lists::pair_end(predicate_pairs, i, end, size) else {
+    for i in 0..pairs.len() / 2 {
+        let Some(next) = lists::pair_end(pairs, i, end, literals.len()) else {
             return false;
         };
-        let offset = predicate_pairs[2 * i] as usize;
-        if !indexes_hold(&predicate_literals[offset..next], n) {
+        let offset = pairs[2 * i] as usize;
+        if !indexes_hold(&literals[offset..next], n) {
             return false;
         }
         end = next;
@@ -55,32 +59,29 @@ fn predicate_holds(predicate_pairs: &[u64], predicate_literals: &[u32], n: u32) 
     true
 }
 
-// Whether relevant inputs and predicate are right for a model of so many inputs: R9.13.
-fn validate_boundary(
-    inputs: u64,
-    relevant: &[u64],
-    predicate_pairs: &[u64],
-    predicate_literals: &[u32],
-) -> bool
-    ensures { Bounds inputs relevant.now predicate_pairs.now predicate_literals.now result }
-{
-    let count = relevant.len();
-    if 64 < count {
-        return false;
+impl<'a> Predicate<'a> {
+    // Whether relevant inputs and predicate are right for a model of so many inputs: R9.13.
+    fn boundary_holds(&self, inputs: u64) -> bool
+        ensures { Bounds inputs self.now.relevant.now self.now.pairs.now self.now.literals.now result }
+    {
+        let count = self.relevant.len();
+        if 64 < count {
+            return false;
+        }
+        if !lists::rises(self.relevant) {
+            return false;
+        }
+        if !lists::below(self.relevant, inputs) {
+            return false;
+        }
+        if 64 < self.pairs.len() / 2 {
+            return false;
+        }
+        if !lists::lengths_within(self.pairs, 1024) {
+            return false;
+        }
+        predicate_holds(self.pairs, self.literals, count as u32)
     }
-    if !lists::rises(relevant) {
-        return false;
-    }
-    if !lists::below(relevant, inputs) {
-        return false;
-    }
-    if 64 < predicate_pairs.len() / 2 {
-        return false;
-    }
-    if !lists::lengths_within(predicate_pairs, 1024) {
-        return false;
-    }
-    predicate_holds(predicate_pairs, predicate_literals, count as u32)
 }
 
 // 2^L.
@@ -194,24 +195,13 @@ pub fn outcomes_claimed(latches: usize, outputs: u64, observed: &[u64], words: &
 }
 
 impl<'a> Question<'a> {
-    // Whether relevant inputs and predicate are right for the model: R9.13.
-    fn boundary_holds(&self) -> bool
-        ensures { Bounds (lent_record self.now.model).input_count self.now.relevant.now self.now.predicate_pairs.now self.now.predicate_literals.now result }
-    {
-        validate_boundary(
-            self.model.counts.inputs as u64,
-            self.relevant,
-            self.predicate_pairs,
-            self.predicate_literals,
-        )
-    }
-
     // Whether there is a model, and relevant inputs and predicate are right: R9.7, R9.11 and R9.13.
     pub fn check(&self, work: &mut [u64]) -> Result<(), Refusal>
         ensures { Checks (asked_in self.now) (length work.old) result work.new }
     {
         self.model.validate(&self.gates, work)?;
-        if !self.boundary_holds() {
+        let inputs = self.model.counts.inputs as u64;
+        if !self.predicate.boundary_holds(inputs) {
             return Err(Refusal::Boundary);
         }
         Ok(())

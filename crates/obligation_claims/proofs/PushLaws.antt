@@ -15,7 +15,7 @@ use Rattle.lists.proofs.PartLaws.{Copied, copied_none, copied_more, copied-done}
 use Rattle.lists.proofs.RestLaws.{rest_more}
 use Rattle.lists.proofs.TestLaws.{each_append}
 use Rattle.lists.proofs.WordLaws.{triples_at, triples_count}
-use Rattle.cnf.specs.declared.ClauseCounts.{ClauseCounts}
+use Rattle.cnf.specs.declared.Clauses.{Clauses}
 use Rattle.cnf.specs.Simplified.{simplified}
 use Rattle.cnf.specs.Inner.Appending.{Appends, Space, Filled, Narrow, NarrowWords}
 use Rattle.cnf.proofs.AppendLaws.{appends-same, appends-dropped, appends-next, appends-end, space-next}
@@ -68,18 +68,17 @@ module _ (keys claim : List ℕ) where
         (claim_narrow keys claim h)
         (zeros-left (λ l. l < 2 ^ 32) (omega arith) (0 + length (claim_list keys claim))))
 
-    pub few-appends : (at : ClauseCounts) (pairs words : List ℕ) (at' : ClauseCounts) (pairs' words' : List ℕ)
-        → Appends (clause ∷ []) at pairs words at' pairs' words' → Appends (claim_list keys claim ∷ []) at pairs words at' pairs' words'
-    few-appends at pairs words at' pairs' words' g =
+    pub few-appends : (p p' : Clauses) → Appends (clause ∷ []) p p' → Appends (claim_list keys claim ∷ []) p p'
+    few-appends p p' g =
         let s : simplified clause ≡ simplified (claim_list keys claim) =
         rw e (simplified-filled (claim_list keys claim) (drop (0 + length (claim_list keys claim)) three) (zeros-left (λ z. z ≡ 0) refl (0 + length (claim_list keys claim)))) in
-        appends-same (clause ∷ []) (claim_list keys claim ∷ []) at pairs words at' pairs' words' (rw s refl) g
+        appends-same (clause ∷ []) (claim_list keys claim ∷ []) p p' (rw s refl) g
 
 -- ---- push_claim
 
 module _ (ls : List ℕ) (r : Option ℕ) (list : List ℕ) (f : Fills ls r list) where
-  pub claim_dropped : r ≡ None → (at : ClauseCounts) (pairs words : List ℕ) → Appends (ls ∷ []) at pairs words at pairs words
-  claim_dropped e at pairs words = appends-dropped ls at pairs words (simplified_one_true ls (f.when_true e))
+  pub claim_dropped : r ≡ None → (p : Clauses) → Appends (ls ∷ []) p p
+  claim_dropped e p = appends-dropped ls p (simplified_one_true ls (f.when_true e))
 
 module _ (keys claim list : List ℕ) (n : ℕ) (f : Filled (claim_list keys claim) list n) where
   pub claim_words : n ≤ length keys
@@ -114,14 +113,12 @@ module _ (keys : List ℕ) where
   lists_at (Outcomes words) i h =
       triples_at (λ t h l. claim_list keys (t ∷ h ∷ l ∷ [])) words.now i 0 [] (omega arith) ∙ rw (three_words words.now (3 * i) (omega arith)) refl
 
-  module _ (claims : Claims) (at : ClauseCounts) (pairs₀ words₀ : List ℕ) (at' : ClauseCounts) (pairs words : List ℕ) (i : ℕ) (g : Appends (take i (lists_of keys claims)) at pairs₀ words₀ at' pairs words) where
-    pub claims-space : i < count_in claims → Space at (count_in claims) → Space at' 1
-    claims-space h s = space-next (lists_of keys claims) i at pairs₀ words₀ at' pairs words (rw (lists_count claims) h) g (rw (lists_count claims) s)
+  module _ (claims : Claims) (p q : Clauses) (i : ℕ) (g : Appends (take i (lists_of keys claims)) p q) where
+    pub claims-space : i < count_in claims → Space p.counts (count_in claims) → Space q.counts 1
+    claims-space h s = space-next (lists_of keys claims) i p q (rw (lists_count claims) h) g (rw (lists_count claims) s)
 
-    pub claims-next : i < count_in claims → (claim : List ℕ) → claim ≡ claim_at claims i → (at'' : ClauseCounts) (pairs' words' : List ℕ)
-        → Appends (claim_list keys claim ∷ []) at' pairs words at'' pairs' words' → Appends (take (i + 1) (lists_of keys claims)) at pairs₀ words₀ at'' pairs' words'
-    claims-next h claim e at'' pairs' words' k =
-        appends-next (lists_of keys claims) i at at' at'' pairs₀ words₀ pairs words pairs' words' [] (rw (lists_count claims) h) g (rw (lists_at claims i h, ← e) k)
+    pub claims-next : i < count_in claims → (claim : List ℕ) → claim ≡ claim_at claims i → (r : Clauses) → Appends (claim_list keys claim ∷ []) q r → Appends (take (i + 1) (lists_of keys claims)) p r
+    claims-next h claim e r k = appends-next (lists_of keys claims) i p q r [] (rw (lists_count claims) h) g (rw (lists_at claims i h, ← e) k)
 
-    pub claims-end : count_in claims ≤ i → Appends (lists_of keys claims) at pairs₀ words₀ at' pairs words
-    claims-end h = appends-end (lists_of keys claims) i at at' at' pairs₀ words₀ pairs words pairs words (rw (lists_count claims) h) g
+    pub claims-end : count_in claims ≤ i → Appends (lists_of keys claims) p q
+    claims-end h = appends-end (lists_of keys claims) i p q q (rw (lists_count claims) h) g

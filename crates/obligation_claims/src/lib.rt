@@ -15,7 +15,7 @@ ghost use Rattle.obligation_claims.specs.Inner.Claims.{keys_from, observed_keys,
 ghost use Rattle.obligation_claims.specs.Inner.Kinds.{count_in, claim_at, lists_of};
 ghost use Rattle.obligation_claims.specs.Inner.Filling.{InOrder, Fills, Fits};
 
-use cnf::ClauseCounts;
+use cnf::Clauses;
 
 // Claims as their words: one a state, three an outcome (target, high, low).
 // Kept (enum): two kinds of claims, and no Option or Result.
@@ -160,79 +160,50 @@ fn fill_claim(keys: &[u64], claim: &[u64], list: &mut [u64]) -> Option<usize>
 }
 
 // Appends the clause of a claim with at most three literals, filled up with false constants.
-fn push_few(
-    keys: &[u64],
-    claim: &[u64],
-    pairs: &mut [u64],
-    literals: &mut [u32],
-    at: ClauseCounts,
-) -> ClauseCounts
-    requires { Space at 1 × (length keys.now ≤ 3) × LowKeys keys.now }
-    ensures { Appends (claim_list keys.now claim.now ∷ []) at pairs.old literals.old result pairs.new literals.new }
+fn push_few(keys: &[u64], claim: &[u64], clauses: &mut Clauses)
+    requires { Space clauses.old.counts 1 × (length keys.now ≤ 3) × LowKeys keys.now }
+    ensures { Appends (claim_list keys.now claim.now ∷ []) clauses.old clauses.new }
 {
     let mut clause = [0; 3];
     for (i, key) in keys.iter().enumerate() {
         clause[i] = claim_literal(*key, claim);
     }
-    cnf::push_short(clause, pairs, literals, at)
+    clauses.push_short(clause);
 }
 
 // Appends the clause of a claim.
-fn push_claim(
-    keys: &[u64],
-    claim: &[u64],
-    list: &mut [u64],
-    pairs: &mut [u64],
-    literals: &mut [u32],
-    at: ClauseCounts,
-) -> ClauseCounts
-    requires { Space at 1 × Fits keys.now (length list.old) }
-    ensures { Appends (claim_list keys.now claim.now ∷ []) at pairs.old literals.old result pairs.new literals.new }
+fn push_claim(keys: &[u64], claim: &[u64], list: &mut [u64], clauses: &mut Clauses)
+    requires { Space clauses.old.counts 1 × Fits keys.now (length list.old) }
+    ensures { Appends (claim_list keys.now claim.now ∷ []) clauses.old clauses.new }
 {
     if keys.len() <= 3 {
-        return push_few(keys, claim, pairs, literals, at);
+        return push_few(keys, claim, clauses);
     }
-    match fill_claim(keys, claim, list) {
-        Some(n) => cnf::push_simplified(&mut list[..n], pairs, literals, at),
-        None => at,
+    if let Some(n) = fill_claim(keys, claim, list) {
+        clauses.push_simplified(&mut list[..n]);
     }
 }
 
 // Appends the clauses of claims, each made in the lent list.
-fn push_claims(
-    keys: &[u64],
-    claims: Claims,
-    list: &mut [u64],
-    pairs: &mut [u64],
-    literals: &mut [u32],
-    at: ClauseCounts,
-) -> ClauseCounts
-    requires { Space at (count_in claims) × Fits keys.now (length list.old) }
-    ensures { Appends (lists_of keys.now claims.entry) at pairs.old literals.old result pairs.new literals.new }
+fn push_claims(keys: &[u64], claims: Claims, list: &mut [u64], clauses: &mut Clauses)
+    requires { Space clauses.old.counts (count_in claims) × Fits keys.now (length list.old) }
+    ensures { Appends (lists_of keys.now claims.entry) clauses.old clauses.new }
 {
-    let mut appended = at;
     for i in 0..claims.count() {
-        appended = push_claim(keys, claims.claim(i), list, pairs, literals, appended);
+        push_claim(keys, claims.claim(i), list, clauses);
     }
-    appended
 }
 
 // Appends the clauses of claims, by the keys in order. A clause of four literals or more is made simple in a local list (R3.5), and then
 // written.
-pub fn append_claims(
-    keys: &[u64],
-    claims: Claims,
-    pairs: &mut [u64],
-    literals: &mut [u32],
-    at: ClauseCounts,
-) -> ClauseCounts
-    requires { Space at (count_in claims) × (length keys.now ≤ 1024) × LowKeys keys.now }
-    ensures { Appends (lists_of keys.now claims.entry) at pairs.old literals.old result pairs.new literals.new }
+pub fn append_claims(keys: &[u64], claims: Claims, clauses: &mut Clauses)
+    requires { Space clauses.old.counts (count_in claims) × (length keys.now ≤ 1024) × LowKeys keys.now }
+    ensures { Appends (lists_of keys.now claims.entry) clauses.old clauses.new }
 {
     if keys.len() <= 3 {
         let mut none = [0; 1];
-        return push_claims(keys, claims, &mut none, pairs, literals, at);
+        return push_claims(keys, claims, &mut none, clauses);
     }
     let mut list = [0; 1024];
-    push_claims(keys, claims, &mut list, pairs, literals, at)
+    push_claims(keys, claims, &mut list, clauses);
 }

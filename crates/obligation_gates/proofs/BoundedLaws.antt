@@ -21,7 +21,7 @@ use Rattle.cnf.specs.Clauses.{clauses_in}
 use Rattle.obligation_spec.specs.Limits.{bounded}
 use Rattle.obligation_spec.proofs.AcceptedLaws.{bounded_facts}
 use Rattle.obligation_check.specs.Inner.Boundary.{indexes}
-use Rattle.obligation_gates.specs.Inner.Encoding.{Low, LowGate, Bounded}
+use Rattle.obligation_gates.specs.Inner.Encoding.{Low, LowGate, BoundedBy}
 
 module _ (c : Circuit) (well : well_defined c ≡ true) where
   facts : Defined c.variables (leaves_of c) c.gates
@@ -72,7 +72,7 @@ module _ (c : Circuit) (well : well_defined c ≡ true) where
 
     -- an accepted boundary
     module _ (relevant pairs words : List ℕ) (accepted : bounded c relevant pairs words ≡ true) where
-      pub accepted-bounded : Bounded c.inputs relevant pairs words
+      pub accepted-bounded : BoundedBy c.inputs relevant pairs words
       accepted-bounded =
           let b = bounded_facts c relevant pairs words accepted in
           record {

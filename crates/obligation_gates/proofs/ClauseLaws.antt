@@ -14,13 +14,13 @@ use Rattle.lists.proofs.BoolLaws.{and_left, and_right}
 use Rattle.lists.proofs.MapLaws.{map_at}
 use Rattle.lists.proofs.TestLaws.{all-at, each_of_all, each-so}
 use Rattle.lists.proofs.WordLaws.{pairs-count, pairs-at, twice}
-use Rattle.cnf.specs.declared.ClauseCounts.{ClauseCounts}
+use Rattle.cnf.specs.declared.Clauses.{Clauses}
 use Rattle.cnf.specs.Clauses.{clauses_in}
 use Rattle.cnf.specs.Inner.Appending.{Appends, Space}
 use Rattle.cnf.proofs.AppendLaws.{appends-none, appends-next, appends-end, space-next}
 use Rattle.obligation_spec.specs.Lists.{predicate_literal}
 use Rattle.obligation_check.specs.Inner.Boundary.{indexes}
-use Rattle.obligation_gates.specs.Inner.Encoding.{Clausal, Bounded}
+use Rattle.obligation_gates.specs.Inner.Encoding.{Clausal, BoundedBy}
 
 -- ---- pairs by their index
 
@@ -57,8 +57,8 @@ module _ (inputs relevant pairs words : List ℕ) where
   lists-count = length-map (clauses_in words pairs) (map (predicate_literal inputs relevant)) ∙ pairs-count (λ offset size. take size (drop offset words)) pairs
 
   -- no pair: no clause
-  pub clauses-none : length pairs < 2 → (at : ClauseCounts) (p w : List ℕ) → Appends clause_lists at p w at p w
-  clauses-none h at p w = appends-end clause_lists 0 at at at p w p w p w (omega (arith, lists-count)) (appends-none at p w)
+  pub clauses-none : length pairs < 2 → (p : Clauses) → Appends clause_lists p p
+  clauses-none h p = appends-end clause_lists 0 p p p (omega (arith, lists-count)) (appends-none p)
 
   -- the pair at i has this offset and this length
   module _ (i start size : ℕ) (h : i < length pairs / 2) (first : start ≡ get_or pairs (2 * i) 0) (second : size ≡ get_or pairs (2 * i + 1) 0) where
@@ -73,7 +73,7 @@ module _ (inputs relevant pairs words : List ℕ) where
         (rw (pairs-count (λ offset size. take size (drop offset words)) pairs) h)
         ∙ ap (map (predicate_literal inputs relevant)) clause-is
 
-    module _ (b : Bounded inputs relevant pairs words) where
+    module _ (b : BoundedBy inputs relevant pairs words) where
       pub clause-inside : start + size ≤ length words
       clause-inside =
           rw (first, second)
@@ -106,14 +106,12 @@ module _ (inputs relevant pairs words : List ℕ) where
                 (each_of_all (λ w. ltb (w / 2) (length relevant)) (part words start (start + size)) clause-indexes);
           }
 
-    module _ (a₁ a₂ : ClauseCounts) (p₁ w₁ p₂ w₂ : List ℕ) (g : Appends (take i clause_lists) a₁ p₁ w₁ a₂ p₂ w₂) where
-      pub clause-space : Space a₁ (length pairs / 2) → Space a₂ 1
-      clause-space s = space-next clause_lists i a₁ p₁ w₁ a₂ p₂ w₂ (rw lists-count h) g (rw lists-count s)
+    module _ (p q : Clauses) (g : Appends (take i clause_lists) p q) where
+      pub clause-space : Space p.counts (length pairs / 2) → Space q.counts 1
+      clause-space s = space-next clause_lists i p q (rw lists-count h) g (rw lists-count s)
 
-      pub clause-next : (a₃ : ClauseCounts) (p₃ w₃ : List ℕ)
-          → Appends (map (predicate_literal inputs relevant) (part words start (start + size)) ∷ []) a₂ p₂ w₂ a₃ p₃ w₃
-          → Appends (take (i + 1) clause_lists) a₁ p₁ w₁ a₃ p₃ w₃
-      clause-next a₃ p₃ w₃ k = appends-next clause_lists i a₁ a₂ a₃ p₁ w₁ p₂ w₂ p₃ w₃ [] (rw lists-count h) g (rw list_is k)
+      pub clause-next : (r : Clauses) → Appends (map (predicate_literal inputs relevant) (part words start (start + size)) ∷ []) q r → Appends (take (i + 1) clause_lists) p r
+      clause-next r k = appends-next clause_lists i p q r [] (rw lists-count h) g (rw list_is k)
 
-  pub clauses-end : (i : ℕ) (a₁ a₂ : ClauseCounts) (p₁ w₁ p₂ w₂ : List ℕ) → length pairs / 2 ≤ i → Appends (take i clause_lists) a₁ p₁ w₁ a₂ p₂ w₂ → Appends clause_lists a₁ p₁ w₁ a₂ p₂ w₂
-  clauses-end i a₁ a₂ p₁ w₁ p₂ w₂ h g = appends-end clause_lists i a₁ a₂ a₂ p₁ w₁ p₂ w₂ p₂ w₂ (rw lists-count h) g
+  pub clauses-end : (i : ℕ) (p q : Clauses) → length pairs / 2 ≤ i → Appends (take i clause_lists) p q → Appends clause_lists p q
+  clauses-end i p q h g = appends-end clause_lists i p q q (rw lists-count h) g

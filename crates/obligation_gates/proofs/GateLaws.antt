@@ -11,7 +11,7 @@ use Rattle.lists.proofs.TestLaws.{each_at}
 use Rattle.lists.proofs.WordLaws.{triples_count, triples_at, words-length}
 use Rattle.aiger.specs.declared.Gate.{Gate}
 use Rattle.aiger.specs.Gates.{gate_from}
-use Rattle.cnf.specs.declared.ClauseCounts.{ClauseCounts}
+use Rattle.cnf.specs.declared.Clauses.{Clauses}
 use Rattle.cnf.specs.Simplified.{opposite}
 use Rattle.cnf.specs.Inner.Appending.{Appends, Space, Narrow}
 use Rattle.cnf.proofs.AppendLaws.{appends_then, appends_item, space-left}
@@ -38,25 +38,20 @@ module _ (g : Gate) (arrays : List (List ℕ)) (is : arrays ≡ gate_arrays g) w
     pub third-narrow : (d : List ℕ) → Narrow (get_or arrays 2 d)
     third-narrow d = rw is (omega (arith, low.output), (opposite-low g.left low.left, (opposite-low g.right low.right, tt)))
 
-  module _ (d : List ℕ) (a₁ a₂ a₃ a₄ : ClauseCounts) (p₁ w₁ p₂ w₂ p₃ w₃ p₄ w₄ : List ℕ) where
-    pub appends_gate : Appends (get_or arrays 0 d ∷ []) a₁ p₁ w₁ a₂ p₂ w₂ → Appends (get_or arrays 1 d ∷ []) a₂ p₂ w₂ a₃ p₃ w₃
-        → Appends (get_or arrays 2 d ∷ []) a₃ p₃ w₃ a₄ p₄ w₄ → Appends (gate_lists g) a₁ p₁ w₁ a₄ p₄ w₄
+  module _ (d : List ℕ) (p₁ p₂ p₃ p₄ : Clauses) where
+    pub appends_gate : Appends (get_or arrays 0 d ∷ []) p₁ p₂ → Appends (get_or arrays 1 d ∷ []) p₂ p₃ → Appends (get_or arrays 2 d ∷ []) p₃ p₄ → Appends (gate_lists g) p₁ p₄
     appends_gate f h k =
         let x : List ℕ = opposite g.output ∷ g.left ∷ [] in
         let y : List ℕ = opposite g.output ∷ g.right ∷ [] in
         let z : List ℕ = g.output ∷ opposite g.left ∷ opposite g.right ∷ [] in
-        let f' : Appends (x ∷ []) a₁ p₁ w₁ a₂ p₂ w₂ =
-        appends-same x (opposite g.output ∷ g.left ∷ 0 ∷ []) (sym (simplified-filled_two (opposite g.output) g.left)) a₁ p₁ w₁ a₂ p₂ w₂ (rw is at f) in
-        let h' : Appends (y ∷ []) a₂ p₂ w₂ a₃ p₃ w₃ =
-        appends-same y (opposite g.output ∷ g.right ∷ 0 ∷ []) (sym (simplified-filled_two (opposite g.output) g.right)) a₂ p₂ w₂ a₃ p₃ w₃ (rw is at h) in
-        let k' : Appends (z ∷ []) a₃ p₃ w₃ a₄ p₄ w₄ = rw is at k in
-        appends_then (x ∷ []) (y ∷ z ∷ []) a₁ a₂ a₄ p₁ w₁ p₂ w₂ p₄ w₄ f'
-        (appends_then (y ∷ []) (z ∷ []) a₂ a₃ a₄ p₂ w₂ p₃ w₃ p₄ w₄ h' k')
+        let f' : Appends (x ∷ []) p₁ p₂ = appends-same x (opposite g.output ∷ g.left ∷ 0 ∷ []) (sym (simplified-filled_two (opposite g.output) g.left)) p₁ p₂ (rw is at f) in
+        let h' : Appends (y ∷ []) p₂ p₃ = appends-same y (opposite g.output ∷ g.right ∷ 0 ∷ []) (sym (simplified-filled_two (opposite g.output) g.right)) p₂ p₃ (rw is at h) in
+        let k' : Appends (z ∷ []) p₃ p₄ = rw is at k in
+        appends_then (x ∷ []) (y ∷ z ∷ []) p₁ p₂ p₄ f' (appends_then (y ∷ []) (z ∷ []) p₂ p₃ p₄ h' k')
 
 -- after one array, or two
-module _ (l : List ℕ) (a b : ClauseCounts) (p w p' w' : List ℕ) (g : Appends (l ∷ []) a p w b p' w') where
-  pub space_one_less : (n : ℕ) → Space a (n + 1) → Space b n
-  space_one_less n s = space-left (l ∷ []) a p w b p' w' g n (n + 1) (omega arith) s
+pub space_one_less : (l : List ℕ) (p q : Clauses) → Appends (l ∷ []) p q → (n : ℕ) → Space p.counts (n + 1) → Space q.counts n
+space_one_less l p q g n s = space-left (l ∷ []) p q g n (n + 1) (omega arith) s
 
 -- ---- the loop over the gates' words
 
@@ -80,13 +75,12 @@ module _ (ws : List ℕ) (count i : ℕ) (room : 3 * count ≤ length ws) (h : i
       rw (length-take-le count (triples_of gate_from ws) (rw (triples_count gate_from ws) (omega arith))) h in
       rw (← gate_is, ← get_or-take count (triples_of gate_from ws) i no_gate h) (each_at LowGate (take count (triples_of gate_from ws)) i no_gate e k)
 
-  module _ (a₁ a₂ : ClauseCounts) (p₁ w₁ p₂ w₂ : List ℕ) (g : Appends (words_of gate_lists (take i (triples_of gate_from ws))) a₁ p₁ w₁ a₂ p₂ w₂) where
-    pub gate_space : Space a₁ (3 * count) → Space a₂ 3
+  module _ (p q : Clauses) (g : Appends (words_of gate_lists (take i (triples_of gate_from ws))) p q) where
+    pub gate_space : Space p.counts (3 * count) → Space q.counts 3
     gate_space s =
         let n : length (words_of gate_lists (take i (triples_of gate_from ws))) ≡ 3 * i =
         words-length gate_lists 3 (λ x. refl) (take i (triples_of gate_from ws)) ∙ ap (λ (k : ℕ). 3 * k) (length-take-le i (triples_of gate_from ws) (omega (arith, inside))) in
-        space-left (words_of gate_lists (take i (triples_of gate_from ws))) a₁ p₁ w₁ a₂ p₂ w₂ g 3 (3 * count) (omega arith) s
+        space-left (words_of gate_lists (take i (triples_of gate_from ws))) p q g 3 (3 * count) (omega arith) s
 
-    pub gate_next : (a₃ : ClauseCounts) (p₃ w₃ : List ℕ) → Appends (gate_lists a) a₂ p₂ w₂ a₃ p₃ w₃
-        → Appends (words_of gate_lists (take (i + 1) (triples_of gate_from ws))) a₁ p₁ w₁ a₃ p₃ w₃
-    gate_next a₃ p₃ w₃ k = appends_item gate_lists (triples_of gate_from ws) i a₁ a₂ a₃ p₁ w₁ p₂ w₂ p₃ w₃ no_gate inside g (rw gate_is k)
+    pub gate_next : (r : Clauses) → Appends (gate_lists a) q r → Appends (words_of gate_lists (take (i + 1) (triples_of gate_from ws))) p r
+    gate_next r k = appends_item gate_lists (triples_of gate_from ws) i p q r no_gate inside g (rw gate_is k)

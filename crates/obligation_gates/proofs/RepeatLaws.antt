@@ -17,7 +17,7 @@ use Rattle.lists.proofs.OnceLaws.{marked_no_bit, marked-bit, member_snoc}
 use Rattle.lists.proofs.RestLaws.{take_next}
 use Rattle.lists.proofs.TestLaws.{any-map, each_map, each_append, each_at, each-any}
 use Rattle.lists.proofs.AnyLaws.{member-any, any_same}
-use Rattle.cnf.specs.declared.ClauseCounts.{ClauseCounts}
+use Rattle.cnf.specs.declared.Clauses.{Clauses}
 use Rattle.cnf.specs.Inner.Appending.{Appends, PushesFilled, NarrowWords}
 use Rattle.cnf.specs.Simplified.{cnf_word}
 use Rattle.cnf.proofs.AppendLaws.{appends-same}
@@ -129,10 +129,9 @@ module _ (inputs relevant clause list : List ℕ) (n : ℕ) (f : FilledAs inputs
       filled-narrow (map p f.kept) list n f.filled
       (each_map p (λ l. l < 2 ^ 32) f.kept (each-any (λ w. p w < 2 ^ 32) (literal-narrow inputs relevant f.kept f.clausal) f.kept))
 
-  pub kept-appends : n ≤ length list → (at : ClauseCounts) (pairs literals : List ℕ) (at' : ClauseCounts) (pairs' literals' : List ℕ) → PushesFilled (take n list) at pairs literals at' pairs' literals'
-      → Appends (map (predicate_literal inputs relevant) clause ∷ []) at pairs literals at' pairs' literals'
-  kept-appends room at pairs literals at' pairs' literals' g =
+  pub kept-appends : n ≤ length list → (from to : Clauses) → PushesFilled (take n list) from to → Appends (map (predicate_literal inputs relevant) clause ∷ []) from to
+  kept-appends room from to g =
       let p : ℕ → ℕ = predicate_literal inputs relevant in
-      appends-same (map p f.kept ∷ []) (map p clause ∷ []) at pairs literals at' pairs' literals'
+      appends-same (map p f.kept ∷ []) (map p clause ∷ []) from to
       (ap (λ (t : List (List ℕ)). t ∷ []) (simplified_members (map p f.kept) (map p clause) (member-map p)))
       (g (map p f.kept) (filled-part (map p f.kept) list n room f.filled))

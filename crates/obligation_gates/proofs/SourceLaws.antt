@@ -8,7 +8,7 @@ use borrow.Author.Tests.{eq-eqb, ne_eqb}
 use lib.ListN.{length, get_or, take}
 use Rattle.lists.specs.Bits.{odd, bits}
 use Rattle.lists.proofs.BitLaws.{bits-length, bits_at}
-use Rattle.cnf.specs.declared.ClauseCounts.{ClauseCounts}
+use Rattle.cnf.specs.declared.Clauses.{Clauses}
 use Rattle.cnf.specs.Simplified.{opposite}
 use Rattle.cnf.specs.Inner.Appending.{Appends, Space}
 use Rattle.cnf.proofs.AppendLaws.{appends-next, appends-end, space-next}
@@ -55,12 +55,12 @@ module _ (currents : List ℕ) (source : ℕ) where
     pub source-narrow : Low currents → literal < 2 ^ 32
     source-narrow e = rw is (valued-low (get_or currents i 0) (odd (source / 2 ^ i)) (low-at currents i e))
 
-    module _ (a₁ a₂ : ClauseCounts) (p₁ w₁ p₂ w₂ : List ℕ) (g : Appends (take i sources) a₁ p₁ w₁ a₂ p₂ w₂) where
-      pub source-space : Space a₁ (length currents) → Space a₂ 1
-      source-space s = space-next sources i a₁ p₁ w₁ a₂ p₂ w₂ (rw count h) g (rw count s)
+    module _ (p q : Clauses) (g : Appends (take i sources) p q) where
+      pub source-space : Space p.counts (length currents) → Space q.counts 1
+      source-space s = space-next sources i p q (rw count h) g (rw count s)
 
-      pub source-next : (a₃ : ClauseCounts) (p₃ w₃ : List ℕ) → Appends ((literal ∷ []) ∷ []) a₂ p₂ w₂ a₃ p₃ w₃ → Appends (take (i + 1) sources) a₁ p₁ w₁ a₃ p₃ w₃
-      source-next a₃ p₃ w₃ k = appends-next sources i a₁ a₂ a₃ p₁ w₁ p₂ w₂ p₃ w₃ [] (rw count h) g (rw list_is k)
+      pub source-next : (r : Clauses) → Appends ((literal ∷ []) ∷ []) q r → Appends (take (i + 1) sources) p r
+      source-next r k = appends-next sources i p q r [] (rw count h) g (rw list_is k)
 
-  pub source-end : (i : ℕ) (a₁ a₂ : ClauseCounts) (p₁ w₁ p₂ w₂ : List ℕ) → length currents ≤ i → Appends (take i sources) a₁ p₁ w₁ a₂ p₂ w₂ → Appends sources a₁ p₁ w₁ a₂ p₂ w₂
-  source-end i a₁ a₂ p₁ w₁ p₂ w₂ h g = appends-end sources i a₁ a₂ a₂ p₁ w₁ p₂ w₂ p₂ w₂ (rw count h) g
+  pub source-end : (i : ℕ) (p q : Clauses) → length currents ≤ i → Appends (take i sources) p q → Appends sources p q
+  source-end i p q h g = appends-end sources i p q q (rw count h) g

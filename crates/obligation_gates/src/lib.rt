@@ -9,11 +9,12 @@ ghost use Rattle.aiger.specs.Gates.{gate_from};
 ghost use Rattle.cnf.specs.Clauses.{clauses_in};
 ghost use Rattle.cnf.specs.Inner.Appending.{Appends, Space};
 ghost use Rattle.obligation_spec.specs.Lists.{valued, source_lists, predicate_literal, gate_lists};
-ghost use Rattle.obligation_gates.specs.Inner.Encoding.{Low, LowGate, gate_arrays, Clausal, Bounded, FilledAs};
+ghost use Rattle.obligation_gates.specs.Inner.Encoding.{Low, LowGate, gate_arrays, Clausal, Bounded, predicate_lists, FilledAs};
 
 use aiger::Gate;
-use cnf::ClauseCounts;
+use cnf::Clauses;
 use model::GateList;
+use obligation_check::Predicate;
 
 // The three clauses of a gate as arrays of literals (R7.3): output implies left, output implies right, left and right imply output.
 fn gate_clauses(gate: Gate) -> [[u64; 3]; 3]
@@ -67,82 +68,38 @@ fn push_clause(
     relevant: &[u64],
     clause: &[u32],
     list: &mut [u64],
-    pairs: &mut [u64],
-    literals: &mut [u32],
-    at: ClauseCounts,
-) -> ClauseCounts
-    requires { Clausal inputs.now relevant.now clause.now × (length clause.now ≤ 1024) × (length list.old ≡ 1024) × Space at 1 }
-    ensures { Appends (map (predicate_literal inputs.now relevant.now) clause.now ∷ []) at pairs.old literals.old result pairs.new literals.new }
+    clauses: &mut Clauses,
+)
+    requires { Clausal inputs.now relevant.now clause.now × (length clause.now ≤ 1024) × (length list.old ≡ 1024) × Space clauses.old.counts 1 }
+    ensures { Appends (map (predicate_literal inputs.now relevant.now) clause.now ∷ []) clauses.old clauses.new }
 {
     let n = fill_clause(inputs, relevant, clause, list);
-    cnf::push_simplified(&mut list[..n], pairs, literals, at)
+    clauses.push_simplified(&mut list[..n]);
 }
 
-// Appends the clauses of the predicate's pairs; half a pair is not read.
-fn push_clauses(
-    inputs: &[u64],
-    relevant: &[u64],
-    predicate_pairs: &[u64],
-    predicate_literals: &[u32],
-    list: &mut [u64],
-    pairs: &mut [u64],
-    literals: &mut [u32],
-    at: ClauseCounts,
-) -> ClauseCounts
-    requires { Bounded inputs.now relevant.now predicate_pairs.now predicate_literals.now × (length list.old ≡ 1024) × Space at (length predicate_pairs.now / 2) }
-    ensures { Appends (map (map (predicate_literal inputs.now relevant.now)) (clauses_in predicate_literals.now predicate_pairs.now)) at pairs.old literals.old result pairs.new literals.new }
+// Appends the clauses of the predicate's pairs, each made simple in the lent list; half a pair is not read.
+fn push_clauses(inputs: &[u64], predicate: &Predicate, list: &mut [u64], clauses: &mut Clauses)
+    requires { Bounded inputs.now predicate.now × (length list.old ≡ 1024) × Space clauses.old.counts (length predicate.now.pairs.now / 2) }
+    ensures { Appends (predicate_lists inputs.now predicate.now) clauses.old clauses.new }
 {
-    let count = predicate_pairs.len() / 2;
-    let mut appended = at;
-    for i in 0..count {
-        let start = predicate_pairs[2 * i] as usize;
-        let end = start + predicate_pairs[2 * i + 1] as usize;
-        let clause = &predicate_literals[start..end];
-        appended = push_clause(inputs, relevant, clause, list, pairs, literals, appended);
+    for i in 0..predicate.pairs.len() / 2 {
+        let start = predicate.pairs[2 * i] as usize;
+        let end = start + predicate.pairs[2 * i + 1] as usize;
+        let clause = &predicate.literals[start..end];
+        push_clause(inputs, predicate.relevant, clause, list, clauses);
     }
-    appended
 }
 
 // Appends the predicate's clauses. Each is made simple in a local list (R3.5), and then written.
-pub fn append_predicate(
-    inputs: &[u64],
-    relevant: &[u64],
-    predicate_pairs: &[u64],
-    predicate_literals: &[u32],
-    pairs: &mut [u64],
-    literals: &mut [u32],
-    at: ClauseCounts,
-) -> ClauseCounts
-    requires { Bounded inputs.now relevant.now predicate_pairs.now predicate_literals.now × Space at (length predicate_pairs.now / 2) }
-    ensures { Appends (map (map (predicate_literal inputs.now relevant.now)) (clauses_in predicate_literals.now predicate_pairs.now)) at pairs.old literals.old result pairs.new literals.new }
+pub fn append_predicate(inputs: &[u64], predicate: &Predicate, clauses: &mut Clauses)
+    requires { Bounded inputs.now predicate.now × Space clauses.old.counts (length predicate.now.pairs.now / 2) }
+    ensures { Appends (predicate_lists inputs.now predicate.now) clauses.old clauses.new }
 {
-    if predicate_pairs.len() < 2 {
-        return at;
+    if predicate.pairs.len() < 2 {
+        return;
     }
     let mut list = [0; 1024];
-    push_clauses(
-        inputs,
-        relevant,
-        predicate_pairs,
-        predicate_literals,
-        &mut list,
-        pairs,
-        literals,
-        at,
-    )
-}
-
-// Appends the clause of one literal.
-pub fn push_literal(
-    literal: u64,
-    pairs: &mut [u64],
-    literals: &mut [u32],
-    at: ClauseCounts,
-) -> ClauseCounts
-    requires { (literal < 2 ^ 32) × Space at 1 }
-    ensures { Appends ((literal ∷ []) ∷ []) at pairs.old literals.old result pairs.new literals.new }
-{
-    cnf::push_single(literal, pairs, literals, at)
+    push_clauses(inputs, predicate, &mut list, clauses);
 }
 
 // The literal that is true where latch i has the source's bit.
@@ -157,49 +114,32 @@ fn source_literal(current: u64, source: u64, i: usize) -> u64
 }
 
 // Appends the clauses of the source: each latch has its bit.
-pub fn append_sources(
-    currents: &[u64],
-    source: u64,
-    pairs: &mut [u64],
-    literals: &mut [u32],
-    at: ClauseCounts,
-) -> ClauseCounts
-    requires { Low currents.now × (length currents.now ≤ 64) × Space at (length currents.now) }
-    ensures { Appends (source_lists currents.now (bits (length currents.now) source)) at pairs.old literals.old result pairs.new literals.new }
+pub fn append_sources(currents: &[u64], source: u64, clauses: &mut Clauses)
+    requires { Low currents.now × (length currents.now ≤ 64) × Space clauses.old.counts (length currents.now) }
+    ensures { Appends (source_lists currents.now (bits (length currents.now) source)) clauses.old clauses.new }
 {
-    let mut appended = at;
     for (i, current) in currents.iter().enumerate() {
-        let literal = source_literal(*current, source, i);
-        appended = push_literal(literal, pairs, literals, appended);
+        clauses.push_single(source_literal(*current, source, i));
     }
-    appended
 }
 
 // Appends the three clauses of a gate.
-fn push_gate(gate: Gate, pairs: &mut [u64], literals: &mut [u32], at: ClauseCounts) -> ClauseCounts
-    requires { LowGate gate × Space at 3 }
-    ensures { Appends (gate_lists gate) at pairs.old literals.old result pairs.new literals.new }
+fn push_gate(gate: Gate, clauses: &mut Clauses)
+    requires { LowGate gate × Space clauses.old.counts 3 }
+    ensures { Appends (gate_lists gate) clauses.old clauses.new }
 {
-    let clauses = gate_clauses(gate);
-    let one = cnf::push_short(clauses[0], pairs, literals, at);
-    let two = cnf::push_short(clauses[1], pairs, literals, one);
-    cnf::push_short(clauses[2], pairs, literals, two)
+    let [left, right, both] = gate_clauses(gate);
+    clauses.push_short(left);
+    clauses.push_short(right);
+    clauses.push_short(both);
 }
 
 // Appends the clauses of the first gates, so many.
-pub fn append_ands(
-    gates: &[u64],
-    count: usize,
-    pairs: &mut [u64],
-    literals: &mut [u32],
-    at: ClauseCounts,
-) -> ClauseCounts
-    requires { (3 * count ≤ length gates.now) × Each LowGate (take count (triples_of gate_from gates.now)) × Space at (3 * count) }
-    ensures { Appends (words_of gate_lists (take count (triples_of gate_from gates.now))) at pairs.old literals.old result pairs.new literals.new }
+pub fn append_ands(gates: &[u64], count: usize, clauses: &mut Clauses)
+    requires { (3 * count ≤ length gates.now) × Each LowGate (take count (triples_of gate_from gates.now)) × Space clauses.old.counts (3 * count) }
+    ensures { Appends (words_of gate_lists (take count (triples_of gate_from gates.now))) clauses.old clauses.new }
 {
-    let mut appended = at;
     for i in 0..count {
-        appended = push_gate(gates.gate(i), pairs, literals, appended);
+        push_gate(gates.gate(i), clauses);
     }
-    appended
 }

@@ -5,6 +5,7 @@ use Rattle.lists.specs.Sets.{member, set_of}
 use Rattle.lists.specs.Tests.{Each}
 use Rattle.lists.specs.Words.{words_of}
 use Rattle.cnf.specs.declared.ClauseCounts.{ClauseCounts}
+use Rattle.cnf.specs.declared.Clauses.{Clauses}
 use Rattle.cnf.specs.Clauses.{Clause, literals_of, pairs_from}
 use Rattle.cnf.specs.Simplified.{cnf_word, without_false, both_signs, simplified}
 
@@ -26,11 +27,21 @@ pub record Holding (pairs₀ words₀ : List ℕ) (cs : List Clause) (at : Claus
   pub same_words : length words ≡ length words₀
   pub stored : Room cs pairs₀ words₀ → Stored cs pairs₀ words₀ pairs words
 
+-- it is still the same two buffers that are lent
+pub record SameBuffers (p p' : Clauses) : Type 0 where
+  pub pairs_name : p'.pairs.ghost_name ≡ p.pairs.ghost_name
+  pub literals_name : p'.literals.ghost_name ≡ p.literals.ghost_name
+  pub pairs_room : length p'.pairs.now ≡ length p.pairs.now
+  pub literals_room : length p'.literals.now ≡ length p.literals.now
+
 -- the clauses of these lists of literals were appended, whatever stood there before
-pub record Appends (lists : List (List ℕ)) (at : ClauseCounts) (pairs words : List ℕ) (at' : ClauseCounts) (pairs' words' : List ℕ) : Type 0 where
-  pub holds : (pairs₀ words₀ : List ℕ) (cs : List Clause) → Holding pairs₀ words₀ cs at pairs words → Holding pairs₀ words₀ (cs ++ words_of simplified lists) at' pairs' words'
-  pub clauses : at'.clauses ≤ at.clauses + length lists
-  pub literals : at'.literals ≤ at.literals + 1024 * length lists
+pub record Appends (lists : List (List ℕ)) (p p' : Clauses) : Type 0 where
+  pub same : SameBuffers p p'
+  pub holds : (pairs₀ words₀ : List ℕ) (cs : List Clause)
+      → Holding pairs₀ words₀ cs p.counts p.pairs.now p.literals.now
+      → Holding pairs₀ words₀ (cs ++ words_of simplified lists) p'.counts p'.pairs.now p'.literals.now
+  pub clauses : p'.counts.clauses ≤ p.counts.clauses + length lists
+  pub literals : p'.counts.literals ≤ p.counts.literals + 1024 * length lists
 
 -- so many clauses more can be counted
 pub record Space (at : ClauseCounts) (n : ℕ) : Type 0 where
@@ -59,18 +70,26 @@ pub record Simplifies (words : List ℕ) (r : Option ℕ) (list : List ℕ) : Ty
   pub when_kept : (k : ℕ) → r ≡ Some k → KeptAs words k list
 
 -- the clause was appended, whatever literals it is the clause of
-abbrev pub Pushes : Clause → ClauseCounts → List ℕ → List ℕ → ClauseCounts → List ℕ → List ℕ → Type 0
-Pushes c at pairs words at' pairs' words' = (ls : List ℕ) → simplified ls ≡ c ∷ [] → Appends (ls ∷ []) at pairs words at' pairs' words'
+abbrev pub Pushes : Clause → Clauses → Clauses → Type 0
+Pushes c p p' = (ls : List ℕ) → simplified ls ≡ c ∷ [] → Appends (ls ∷ []) p p'
 
 -- the clause of the literals that these words are of was appended, whatever they are
-abbrev pub PushesFilled : List ℕ → ClauseCounts → List ℕ → List ℕ → ClauseCounts → List ℕ → List ℕ → Type 0
-PushesFilled list at pairs words at' pairs' words' = (ls : List ℕ) → Filled ls list (length list) → Appends (ls ∷ []) at pairs words at' pairs' words'
+abbrev pub PushesFilled : List ℕ → Clauses → Clauses → Type 0
+PushesFilled list p p' = (ls : List ℕ) → Filled ls list (length list) → Appends (ls ∷ []) p p'
 
 -- the words have 32 bits
 abbrev pub NarrowWords : List ℕ → Type 0
 NarrowWords ws = Each (λ w. w < 2 ^ 32) ws
 
--- the pair of a clause of n words was written, where there is room for it and, in a buffer of `room` words, for the clause's
-pub record Opens (at : ClauseCounts) (n : ℕ) (pairs : List ℕ) (room : ℕ) (r : Bool) (pairs' : List ℕ) : Type 0 where
-  pub when_open : r ≡ true → (2 * at.clauses + 2 ≤ length pairs) × (at.literals + n ≤ room) × (pairs' ≡ put pairs (2 * at.clauses) (at.literals ∷ n ∷ []))
-  pub when_full : r ≡ false → ((length pairs < 2 * at.clauses + 2) ⊎ (room < at.literals + n)) × (pairs' ≡ pairs)
+-- there is no room for a clause of n words more
+abbrev pub Full : Clauses → ℕ → Type 0
+Full p n = (length p.pairs.now < 2 * p.counts.clauses + 2) ⊎ (length p.literals.now < p.counts.literals + n)
+
+-- the pair of a clause of n words was written, where there is room for it and for its words; nothing else
+pub record Opens (n : ℕ) (p : Clauses) (r : Bool) (p' : Clauses) : Type 0 where
+  pub same : SameBuffers p p'
+  pub literals : p'.literals.now ≡ p.literals.now
+  pub counts : p'.counts ≡ p.counts
+  pub when_open : r ≡ true → (2 * p.counts.clauses + 2 ≤ length p.pairs.now) × (p.counts.literals + n ≤ length p.literals.now)
+      × (p'.pairs.now ≡ put p.pairs.now (2 * p.counts.clauses) (p.counts.literals ∷ n ∷ []))
+  pub when_full : r ≡ false → Full p n × (p'.pairs.now ≡ p.pairs.now)

@@ -1,4 +1,3 @@
-use mathlib.Core.Bool.{true}
 use lib.Dec.{ltb}
 use lib.ListN.{length}
 use Rattle.lists.proofs.BoolLaws.{and_right}

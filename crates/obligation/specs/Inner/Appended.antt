@@ -13,7 +13,7 @@ use Rattle.cnf.specs.Clauses.{Clause, clauses_in}
 use Rattle.obligation_spec.specs.Lists.{source_lists, predicate_literal, gate_lists}
 use Rattle.obligation_spec.specs.Limits.{bounded}
 use Rattle.obligation_spec.specs.Calls.{Asked, circuit, Lent, within}
-use Rattle.obligation_gates.specs.Inner.Encoding.{Low, LowGate, Bounded}
+use Rattle.obligation_gates.specs.Inner.Encoding.{Low, LowGate, BoundedBy}
 use Rattle.obligation_claims.specs.Inner.Claims.{LowKeys, state_claims, outcome_claims}
 use Rattle.obligation.specs.Promise.{sizes, pairs_after, literals_after}
 
@@ -64,7 +64,7 @@ all_lists p c last = front_lists p ++ (claim_lists c ++ (last ∷ []) ∷ [])
 pub record FrontReady (p : Parts) : Type 0 where
   pub low : Low p.currents
   pub few : length p.currents ≤ 8
-  pub bounded : Bounded p.inputs p.relevant p.pairs p.words
+  pub bounded : BoundedBy p.inputs p.relevant p.pairs p.words
   pub clauses : length p.pairs / 2 ≤ 64
   pub enough : 3 * p.ands ≤ length p.gates
   pub most : p.ands ≤ 1000000
@@ -85,10 +85,6 @@ pub record Ready (p : Parts) (c : Claimed) (last : ℕ) : Type 0 where
 pub record Roomy (currents clauses ands keys claims pairs literals : ℕ) : Type 0 where
   pub pairs_suffice : currents + clauses + 3 * ands + claims + 1 ≤ pairs / 2
   pub literals_suffice : currents + 7 * ands + keys * claims + 1025 ≤ literals
-
--- nothing is appended yet
-abbrev pub empty : ClauseCounts
-empty = record { clauses = 0; literals = 0 }
 
 -- the room that the buffers have
 abbrev pub room_of : List ℕ → List ℕ → Lent

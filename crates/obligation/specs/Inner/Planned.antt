@@ -12,4 +12,4 @@ claimed_in p = claimed_of p.keys.now (words_in p.claims) (wide_in p.claims)
 -- what stands before the claims
 abbrev pub parts_in : Question → Plan → Parts
 parts_in q p =
-    parts_of p.currents.now p.source (take q.model.counts.inputs q.model.inputs.now) q.relevant.now q.predicate_pairs.now q.predicate_literals.now q.gates.now q.model.counts.ands
+    parts_of p.currents.now p.source (take q.model.counts.inputs q.model.inputs.now) q.predicate.relevant.now q.predicate.pairs.now q.predicate.literals.now q.gates.now q.model.counts.ands

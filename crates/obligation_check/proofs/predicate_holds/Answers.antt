@@ -1,7 +1,7 @@
 use native.Mathlib.Omega.{arith}
 use mathlib.Core.Path.{refl}
 use borrow.Author.Rules.{rules}
-use Rattle.obligation_check.proofs.BoundaryLaws.{pair_stop, clause-starts, clause-within, clause-fits, clause-stop, clause-more, pairs-stop}
+use Rattle.obligation_check.proofs.BoundaryLaws.{clause-stop, clause-more, pairs-stop}
 use Rattle.obligation_check.proofs.predicate_holds.Goals as goal
 
 pub returns-then-not-indexes_hold : goal.returns-then-not-indexes_hold

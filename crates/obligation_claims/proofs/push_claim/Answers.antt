@@ -15,11 +15,11 @@ within : (c : In-Some) → c.in-Some.n ≤ length c.fill_claim.new.list
 within c =
     omega (arith, claim_words c.args.keys.now c.args.claim.now _ _ (filled c), c.requires.1.list_fits c.if-keys-le3.false, c.fill_claim.auto.list)
 
-pub returns-in-None : goal.returns-in-None
-returns-in-None c = claim_dropped _ _ _ c.fill_claim.ensures c.in-None.is _ _ _
+pub returns-in_default : goal.returns-in_default
+returns-in_default c = claim_dropped _ _ _ c.fill_claim.ensures c.in_default.is _
 
 pub slice_bounds-push_simplified-end : goal.slice_bounds-push_simplified-end
-slice_bounds-push_simplified-end c = within c
+slice_bounds-push_simplified-end c = within (goal.at.slice_bounds-push_simplified-end c).In-Some
 
 pub push_simplified-requires : goal.push_simplified-requires
 push_simplified-requires c =

@@ -4,4 +4,4 @@ use Rattle.obligation_claims.specs.Inner.Kinds.{lists_of}
 use Rattle.obligation_claims.proofs.push_claims.Given as goal
 
 abbrev pub invariant-loop-i : goal.invariant-loop-i
-invariant-loop-i l = Appends (take l.i (lists_of l.keys l.claims)) l.initial.appended l.initial.pairs l.initial.literals l.appended l.pairs l.literals
+invariant-loop-i l = Appends (take l.i (lists_of l.keys l.claims)) l.initial.clauses l.clauses

@@ -9,4 +9,4 @@ pub push_short-requires : goal.push_short-requires
 push_short-requires c = (c.requires.0, few-narrow c.args.keys.now c.args.claim.now _ (few-done c.args.keys.now c.args.claim.now _ c.loop-i.i c.loop-i.invariant (omega arith)) c.requires.2)
 
 pub returns : goal.returns
-returns c = few-appends c.args.keys.now c.args.claim.now _ (few-done c.args.keys.now c.args.claim.now _ c.loop-i.i c.loop-i.invariant (omega arith)) _ _ _ _ _ _ c.push_short.ensures
+returns c = few-appends c.args.keys.now c.args.claim.now _ (few-done c.args.keys.now c.args.claim.now _ c.loop-i.i c.loop-i.invariant (omega arith)) _ _ c.push_short.ensures

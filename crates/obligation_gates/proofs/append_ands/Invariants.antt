@@ -6,4 +6,4 @@ use Rattle.obligation_spec.specs.Lists.{gate_lists}
 use Rattle.obligation_gates.proofs.append_ands.Given as goal
 
 abbrev pub invariant-loop-i : goal.invariant-loop-i
-invariant-loop-i l = Appends (words_of gate_lists (take l.i (triples_of gate_from l.gates))) l.initial.appended l.initial.pairs l.initial.literals l.appended l.pairs l.literals
+invariant-loop-i l = Appends (words_of gate_lists (take l.i (triples_of gate_from l.gates))) l.initial.clauses l.clauses

@@ -3,7 +3,7 @@ use Rattle.obligation_gates.proofs.SourceLaws.{source-next, source-end}
 use Rattle.obligation_gates.proofs.append_sources.Goals as goal
 
 pub loop-i-preserved : goal.loop-i-preserved
-loop-i-preserved c = source-next c.args.currents.now c.args.source c.loop-i.i _ (omega arith) c.source_literal-literal.ensures _ _ _ _ _ _ c.loop-i.invariant _ _ _ c.push_literal-appended.ensures
+loop-i-preserved c = source-next c.args.currents.now c.args.source c.loop-i.i _ (omega arith) c.source_literal.ensures _ _ c.loop-i.invariant _ c.push_single.ensures
 
 pub returns : goal.returns
-returns c = source-end c.args.currents.now c.args.source c.loop-i.i _ _ _ _ _ _ (omega arith) c.loop-i.invariant
+returns c = source-end c.args.currents.now c.args.source c.loop-i.i _ _ (omega arith) c.loop-i.invariant

@@ -11,4 +11,4 @@ push_simplified-requires c = (
 )
 
 pub returns : goal.returns
-returns c = kept-appends c.args.inputs.now c.args.relevant.now c.args.clause.now _ _ c.fill_clause-n.ensures (omega (arith, c.fill_clause-n.ensures.few, c.fill_clause-n.auto.list, c.requires.1, c.requires.2)) _ _ _ _ _ _ c.push_simplified.ensures
+returns c = kept-appends c.args.inputs.now c.args.relevant.now c.args.clause.now _ _ c.fill_clause-n.ensures (omega (arith, c.fill_clause-n.ensures.few, c.fill_clause-n.auto.list, c.requires.1, c.requires.2)) _ _ c.push_simplified.ensures

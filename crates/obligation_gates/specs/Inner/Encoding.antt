@@ -4,9 +4,11 @@ use Rattle.lists.specs.Sets.{member}
 use Rattle.lists.specs.Tests.{Each}
 use Rattle.lists.specs.Words.{lengths}
 use Rattle.aiger.specs.declared.Gate.{Gate}
+use Rattle.cnf.specs.Clauses.{clauses_in}
 use Rattle.cnf.specs.Inner.Appending.{Filled}
 use Rattle.cnf.specs.Simplified.{opposite}
 use Rattle.obligation_spec.specs.Lists.{predicate_literal}
+use Rattle.obligation_check.specs.declared.Predicate.{Predicate}
 use Rattle.obligation_check.specs.Inner.Boundary.{predicate_holds}
 
 -- literals that are so small that their words have 32 bits, as all literals of a model are
@@ -42,11 +44,18 @@ pub record FilledAs (inputs relevant clause list : List ℕ) (n : ℕ) : Type 0 
   pub filled : Filled (map (predicate_literal inputs relevant) kept) list n
   pub few : n ≤ length clause
 
--- relevant inputs and a predicate that passed the check of the boundary, for these inputs, none of which is a constant
-pub record Bounded (inputs relevant pairs words : List ℕ) : Type 0 where
+-- a predicate that passed the check of the boundary, for these inputs, none of which is a constant
+pub record BoundedBy (inputs relevant pairs words : List ℕ) : Type 0 where
   pub low : Low inputs
   pub variables : Each (λ l. 2 ≤ l) inputs
   pub among : Each (λ i. i < length inputs) relevant
   pub most : length relevant ≤ 64
   pub few : lengths pairs ≤ 1024
   pub holds : predicate_holds (length relevant) 0 words pairs ≡ true
+
+abbrev pub Bounded : List ℕ → Predicate → Type 0
+Bounded inputs p = BoundedBy inputs p.relevant.now p.pairs.now p.literals.now
+
+-- the lists of literals of its clauses
+abbrev pub predicate_lists : List ℕ → Predicate → List (List ℕ)
+predicate_lists inputs p = map (map (predicate_literal inputs p.relevant.now)) (clauses_in p.literals.now p.pairs.now)

@@ -1,30 +1,43 @@
 use mathlib.Core.List.{List}
-use mathlib.Core.Path.{subst}
+use mathlib.Core.Path.{refl, subst}
 use Prim.Native.Nat.{ℕ}
+use borrow.Author.Rules.{rules}
 use Rattle.cnf.specs.Inner.Appending.{Appends}
 use Rattle.obligation.specs.Inner.Appended.{claim_lists}
-use Rattle.obligation.specs.Inner.Planned.{claimed_in}
-use Rattle.obligation.proofs.MakingLaws.{lists_same, claims-asked, claims-space, last_space, claims-few, all-appends}
+use Rattle.obligation.specs.Inner.Planned.{parts_in, claimed_in}
+use Rattle.obligation.proofs.MakingLaws.{lists_same, clauses-space, gates-space, front-appends, bounded_inputs, limited_inputs, claims-asked, claims-space, last_space, claims-few, all-holding}
 use Rattle.obligation.proofs.making.append_all.Goals as goal
-use Rattle.obligation.proofs.making.append_all.Goals.{After-append_claims-claimed}
+use Rattle.obligation.proofs.making.append_all.Goals.{After-append_claims}
 
-claimed : (c : After-append_claims-claimed) → Appends (claim_lists (claimed_in c.args.plan.now)) c.append_front-front.result c.append_front-front.new.pairs c.append_front-front.new.literals c.append_claims-claimed.result c.append_claims-claimed.new.pairs c.append_claims-claimed.new.literals
+claimed : (c : After-append_claims) → Appends (claim_lists (claimed_in c.args.plan.now)) c.append_ands.new.clauses c.append_claims.new.clauses
 claimed c =
-    subst (λ (ls : List (List ℕ)). Appends ls c.append_front-front.result c.append_front-front.new.pairs c.append_front-front.new.literals c.append_claims-claimed.result c.append_claims-claimed.new.pairs c.append_claims-claimed.new.literals)
-    (lists_same _ _) c.append_claims-claimed.ensures
+    subst (λ (ls : List (List ℕ)). Appends ls c.append_ands.new.clauses c.append_claims.new.clauses) (lists_same _ _) c.append_claims.ensures
 
-pub append_front-front-requires : goal.append_front-front-requires
-append_front-front-requires c = c.requires.front
+pub append_predicate-requires : goal.append_predicate-requires
+append_predicate-requires c = (bounded_inputs _ c.requires.front _ c.first-inputs.ensures, clauses-space _ c.requires.front _ _ refl c.append_sources.ensures)
 
-pub append_claims-claimed-requires : goal.append_claims-claimed-requires
-append_claims-claimed-requires c = claims-asked _ _ c.requires.claims _ (claims-space _ c.requires.front _ _ _ _ _ c.append_front-front.ensures)
+pub append_ands-requires : goal.append_ands-requires
+append_ands-requires c =
+    let h = limited_inputs (parts_in c.args.question.now c.args.plan.now) _ c.first-inputs.ensures _ _ c.append_predicate.ensures in
+    (c.requires.front.enough, c.requires.front.low_gates, gates-space _ c.requires.front _ _ refl c.append_sources.ensures _ h)
 
-pub push_literal-requires : goal.push_literal-requires
-push_literal-requires c =
-    let k = claimed (goal.at.push_literal-requires c).After-append_claims-claimed in
-    (c.requires.low_last, last_space _ c.requires.front _ _ _ _ _ c.append_front-front.ensures (claimed_in c.args.plan.now) _ _ _ k (claims-few _ _ _ c.requires.claims))
+pub append_claims-requires : goal.append_claims-requires
+append_claims-requires c =
+    let h = limited_inputs (parts_in c.args.question.now c.args.plan.now) _ c.first-inputs.ensures _ _ c.append_predicate.ensures in
+    let f = front-appends _ c.requires.front _ _ refl c.append_sources.ensures _ h _ c.append_ands.ensures in
+    claims-asked _ _ c.requires.claims _ (claims-space _ c.requires.front _ _ refl f)
+
+pub push_single-requires : goal.push_single-requires
+push_single-requires c =
+    let h = limited_inputs (parts_in c.args.question.now c.args.plan.now) _ c.first-inputs.ensures _ _ c.append_predicate.ensures in
+    let f = front-appends _ c.requires.front _ _ refl c.append_sources.ensures _ h _ c.append_ands.ensures in
+    let k = claimed (goal.at.push_single-requires c).After-append_claims in
+    (last_space _ c.requires.front _ _ refl f (claimed_in c.args.plan.now) _ k (claims-few _ _ _ c.requires.claims), c.requires.low_last)
 
 pub returns : goal.returns
 returns c =
-    let k = claimed (goal.at.returns c).After-append_claims-claimed in
-    all-appends _ c.requires.front _ _ _ _ _ c.append_front-front.ensures (claimed_in c.args.plan.now) _ _ _ k c.args.plan.now.last _ _ _ c.push_literal.ensures
+    let h = limited_inputs (parts_in c.args.question.now c.args.plan.now) _ c.first-inputs.ensures _ _ c.append_predicate.ensures in
+    let f = front-appends _ c.requires.front _ _ refl c.append_sources.ensures _ h _ c.append_ands.ensures in
+    let k = claimed (goal.at.returns c).After-append_claims in
+    let a = all-holding _ c.requires.front _ _ refl f (claimed_in c.args.plan.now) _ k c.args.plan.now.last _ c.push_single.ensures in
+    search rules

@@ -1,7 +1,6 @@
 use borrow.Author.Rules.{rules}
-use Rattle.std.proofs.lemmas.Result.{err_from_is_err_and}
 use Rattle.obligation_check.specs.Inner.Questions.{asked_in}
-use Rattle.obligation_check.proofs.BoundaryLaws.{check_refused, check_valid, check_13}
+use Rattle.obligation_check.proofs.BoundaryLaws.{check_valid, check_13}
 use Rattle.obligation_check.proofs.Question.check.Goals as goal
 
 pub returns-then-not-boundary_holds : goal.returns-then-not-boundary_holds
