@@ -4,7 +4,6 @@ ghost use Rattle.model.specs.RecordWords.{record_in};
 ghost use Rattle.model_read.specs.Reading.{read_transition};
 ghost use Rattle.aiger.specs.Refusals.{answered};
 ghost use Rattle.model_step.specs.Step.{step_of};
-ghost use Rattle.nitrasovy.specs.Inner.FlatEnums.{flat_model};
 ghost use Rattle.nitrasovy.specs.FlatModels.{flat_step, ReadsFlat, StepsFlat};
 
 use aiger::Refusal;
@@ -31,26 +30,19 @@ pub struct NitStepped {
     pub low: u64,
 }
 
-impl From<Result<AigerTransition, Refusal>> for NitRead {
-    ghost from_gives = { λ read flat. flat ≡ flat_model (answered read) };
-
-    fn from(read: Result<AigerTransition, Refusal>) -> NitRead {
-        match read {
-            Ok(model) => NitRead { reason: 0, model },
-            Err(refusal) => NitRead {
-                reason: u64::from(refusal),
-                model: model_read::no_model(),
-            },
-        }
-    }
-}
-
 // Reads a transition model from a text; its gate words go to the front of `gates`.
 #[unsafe(no_mangle)]
 pub extern "C" fn nit_read_transition(text: &[u8], gates: &mut [u64], work: &mut [u64]) -> NitRead
     ensures { ReadsFlat (read_transition text.now (length gates.old) (length work.old)) gates.old work.old result gates.new work.new }
 {
-    NitRead::from(model_read::parse_ascii_aiger_transition(text, gates, work))
+    // Kept (by hand): a `From` would copy the record once more, which takes some 200 instructions a call.
+    match model_read::parse_ascii_aiger_transition(text, gates, work) {
+        Ok(model) => NitRead { reason: 0, model },
+        Err(refusal) => NitRead {
+            reason: u64::from(refusal),
+            model: model_read::no_model(),
+        },
+    }
 }
 
 impl From<Result<Outcome, Refusal>> for NitStepped {

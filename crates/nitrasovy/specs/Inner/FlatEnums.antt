@@ -2,17 +2,10 @@
 use Rattle.std.specs.Prelude.{ℕ}
 use Rattle.lists.specs.Answer.{Answer, got, refused}
 use Rattle.cnf.specs.declared.ClauseCounts.{ClauseCounts}
-use Rattle.model.specs.declared.AigerTransition.{AigerTransition}
-use Rattle.model.specs.Circuit.{record_of, no_circuit}
 use Rattle.witness_text.specs.declared.AagCounts.{AagCounts}
-use Rattle.nitrasovy.specs.declared.models.NitRead.{NitRead}
 use Rattle.nitrasovy.specs.declared.obligations.NitMade.{NitMade}
 use Rattle.nitrasovy.specs.declared.witnesses.NitWitness.{NitWitness}
 use Rattle.nitrasovy.specs.declared.compositions.NitComposed.{NitComposed}
-
-abbrev pub flat_model : Answer AigerTransition → NitRead
-flat_model (got m) = record { reason = 0; model = m }
-flat_model (refused n) = record { reason = n; model = record_of no_circuit }
 
 abbrev pub flat_sizes : Answer ClauseCounts → NitMade
 flat_sizes (got t) = record { reason = 0; clauses = t.clauses; literals = t.literals }
