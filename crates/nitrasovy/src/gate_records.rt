@@ -1,4 +1,5 @@
 // The step over gates that are lent as a list of records.
+// Kept (travel): C hands over each argument by itself.
 ghost use Rattle.std.specs.Prelude.{length};
 ghost use Rattle.lists.specs.Words.{words_of};
 ghost use Rattle.aiger.specs.Gates.{gate_words};

@@ -1,4 +1,5 @@
 // The transition reader and the step.
+// Kept (travel): C hands over each argument by itself.
 ghost use Rattle.std.specs.Prelude.{◌≡◌, length};
 ghost use Rattle.model.specs.RecordWords.{record_in};
 ghost use Rattle.model_read.specs.Reading.{read_transition};

@@ -1,4 +1,5 @@
 // The obligations: rows, rows with outputs, and terminal lists. A model is lent as the words of its memory.
+// Kept (travel): C hands over each argument by itself; `question` makes one struct of them.
 ghost use Rattle.std.specs.Prelude.{◌≡◌};
 ghost use Rattle.aiger.specs.Refusals.{answered};
 ghost use Rattle.model.specs.RecordWords.{record_in};
@@ -44,7 +45,6 @@ impl From<Result<ClauseCounts, Refusal>> for NitMade {
 }
 
 // What is asked about a model that is lent as its words.
-// Kept (travel): here C's arguments become one struct.
 fn question<'a>(
     model: &'a [u64],
     gates: &'a [u64],

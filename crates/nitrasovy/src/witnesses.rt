@@ -1,4 +1,5 @@
 // The witness reader.
+// Kept (switch): the flag is an argument of C.
 ghost use Rattle.std.specs.Prelude.{◌≡◌};
 ghost use Rattle.aiger.specs.Refusals.{answered};
 ghost use Rattle.text.specs.Texts.{limited};

@@ -1,4 +1,6 @@
 // Exports of the inner layers under plain C signatures, for the comparison with the Rust in differential/ alone: no part of the delivered library.
+// Kept (travel): C hands over each argument by itself.
+// Kept (switch): the flag is an argument of C.
 #![tactic(auto)]
 
 ghost use Rattle.std.specs.Prelude.{◌≡◌, length};

@@ -1,6 +1,8 @@
 // The exports of crate `probe` as a static library, for the comparison with the Rust in differential/ alone: each has the name, the
 // arguments and the contract of the function that it passes on, word for word.
 // Kept (twin): a crate is a library or a static library, and C calls these by the names that `probe` has.
+// Kept (travel): C hands over each argument by itself.
+// Kept (switch): the flag is an argument of C.
 #![tactic(auto)]
 
 ghost use Rattle.std.specs.Prelude.{◌≡◌, length};
