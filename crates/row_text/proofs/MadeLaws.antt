@@ -123,13 +123,3 @@ module _ (q : Asked) (source : ℕ) (targets : List ℕ) (b : Buffers) (r : Resu
   pub made_printed : (p p' : Printer) → PrintsAnswer p (made_answer r after.pairs after.literals) (room_for (made_answer r after.pairs after.literals)) p'
       → PrintsAnswer p (relation_row q source targets (lent_of b)) (21 * (length b.pairs + length b.literals) + 29) p'
   made_printed p p' w = rw (← by_answer r refl) (more_room p (made_answer r after.pairs after.literals) _ p' _ (made_room r refl) w)
-
--- ---- printing an answer
-
-module _ (r : Result ClauseCounts Refusal) (pairs words : List ℕ) (p p' : Printer) where
-  pub rows_text : (t : ClauseCounts) → r ≡ Ok t → PrintsAnswer p (got (returned t.clauses pairs words)) (room_for (got (returned t.clauses pairs words))) p'
-      → PrintsAnswer p (made_answer r pairs words) (room_for (made_answer r pairs words)) p'
-  rows_text t e w = rw e w
-
-  pub refused_text : (m : Refusal) → r ≡ Err m → PrintsAnswer p (refused (refusal_number m)) 29 p' → PrintsAnswer p (made_answer r pairs words) (room_for (made_answer r pairs words)) p'
-  refused_text m e w = rw e w
