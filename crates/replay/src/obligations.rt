@@ -90,7 +90,7 @@ fn terminal(
     )
 }
 
-// Makes the call that a case names.
+// Prints the name of the call that a case names, and makes it.
 // Kept (switch): a case says which, and each takes other lists.
 fn make(
     call: Call,
@@ -99,20 +99,21 @@ fn make(
     work: &mut [u64],
     pairs: &mut [u64],
     literals: &mut [u32],
+    to: &mut Printer,
 ) -> NitMade {
     match call {
-        Call::RelationRow => relation(numbers, predicate_pairs, work, pairs, literals),
-        Call::TransducerRow => transducer(numbers, predicate_pairs, work, pairs, literals),
-        _ => terminal(numbers, predicate_pairs, work, pairs, literals),
-    }
-}
-
-// The name of a call.
-fn name(call: Call) -> &'static [u8] {
-    match call {
-        Call::RelationRow => b"relation",
-        Call::TransducerRow => b"transducer",
-        _ => b"terminal",
+        Call::RelationRow => {
+            to.bytes(b"relation");
+            relation(numbers, predicate_pairs, work, pairs, literals)
+        }
+        Call::TransducerRow => {
+            to.bytes(b"transducer");
+            transducer(numbers, predicate_pairs, work, pairs, literals)
+        }
+        _ => {
+            to.bytes(b"terminal");
+            terminal(numbers, predicate_pairs, work, pairs, literals)
+        }
     }
 }
 
@@ -126,8 +127,7 @@ fn made_lent(
     literals: &mut [u32],
     to: &mut Printer,
 ) {
-    let made = make(call, numbers, predicate_pairs, work, pairs, literals);
-    to.bytes(name(call));
+    let made = make(call, numbers, predicate_pairs, work, pairs, literals, to);
     to.fields(&[made.reason, made.clauses as u64, made.literals as u64]);
     show::kept(to, pairs, made.clauses.saturating_mul(2));
     show::kept_literals(to, literals, made.literals);

@@ -70,6 +70,7 @@ fn compose_with(
 
 // A case of the composer: work words, bytes of room, bytes of the model's text, and the pairs. The block is that text and the buffer of
 // the witnesses' texts.
+// Kept (twin): `read_case` of `models` lends other buffers to another call.
 pub fn compose_case(numbers: &[u64], texts: &[u8], to: &mut Printer) -> Option<()> {
     let mut work = [show::WORD; 65536];
     let mut room = [show::BYTE; 65536];
