@@ -22,7 +22,9 @@ use Rattle.compose_spec.specs.Mapping.{is_mapped, mapping_of}
 use Rattle.compose_spec.specs.Composing.{is_right, leaves_right}
 use Rattle.compose_joint.proofs.AmountLaws.{origin-words}
 use Rattle.compose_joint.specs.Inner.Joint.{origin_word, origins_from}
-use Rattle.compose_origins.specs.Inner.Mapped.{MappedAt, MapsAt, SaysAt, TestsAt, SaysNames, SayNames, AnyMapped, CanMap, StoresOrigins}
+use Rattle.compose_gather.specs.Inner.Names.{NameWords, name_at}
+use Rattle.compose_gather.proofs.NameLaws.{Says, name_said}
+use Rattle.compose_origins.specs.Inner.Mapped.{FewLeaves, SaysNames, SayNames, AnyMapped, CanMap, StoresOrigins}
 
 -- ---- the names one by one
 
@@ -35,6 +37,10 @@ module _ (t : Bytes) (words : List ℕ) (names : List (Option Bytes)) (say : Say
     names_at =
         sym (pairs-at (name_from t) words i 0 (some none) (omega arith))
         ∙ (ap (λ (l : List (Option (Option Bytes))). get_or l i (some none)) say ∙ get_or-map some names i none)
+
+    -- what they say
+    pub said : Says t (get_or words (2 * i) 0) (get_or words (2 * i + 1) 0) (get_or names i none)
+    said = name_said t (get_or words (2 * i) 0) (get_or words (2 * i + 1) 0) (get_or names i none) names_at
 
     pub names-rest : drop i names ≡ get_or names i none ∷ drop (i + 1) names
     names-rest = rest_more names i none (omega (arith, names-count))
@@ -53,14 +59,14 @@ module _ (t : Bytes) (words : List ℕ) (i count : ℕ) (all : count ≡ length 
   testing-end h names say = sym (k.left names say ∙ ap (any is_mapped) (drop_of_length-le names {i = i} (omega (arith, names-count t words names say))))
 
   module _ (h : i < count) where
-    pub testing-says : SayNames t words → SaysAt t words i
-    testing-says s = record { there = omega arith; says = record { name = get_or s.names i none; is = names_at t words s.names s.say i (omega arith) } }
+    pub testing-says : SayNames t words → NameWords t words (2 * i)
+    testing-says s = record { there = omega arith; within = (said t words s.names s.say i (omega arith)).within }
 
-    module _ (r : Bool) (e : TestsAt t words i r) where
+    module _ (x : Option Bytes) (y : x ≡ name_at t words (2 * i)) (r : Bool) (e : r ≡ is_mapped x) where
       tested : (names : List (Option Bytes)) → SaysNames t words names → any is_mapped names ≡ (r || any is_mapped (drop (i + 1) names))
       tested names say =
           k.left names say ∙ (ap (any is_mapped) (names-rest t words names say i (omega arith))
-          ∙ ap (λ (q : Bool). q || any is_mapped (drop (i + 1) names)) (sym (e.tests (get_or names i none) (names_at t words names say i (omega arith)))))
+          ∙ ap (λ (q : Bool). q || any is_mapped (drop (i + 1) names)) (sym (e ∙ ap is_mapped (y ∙ (said t words names say i (omega arith)).own))))
 
       pub testing-true : r ≡ true → AnyMapped t words true
       testing-true f names say = sym (tested names say ∙ rw f refl)
@@ -136,17 +142,20 @@ module _ (p : ModelLeaves) (t : Bytes) (from count : ℕ) (named : Bool) (w to :
         → name_from t (get_or work (from + 2 * k) 0) (get_or work (from + 2 * k + 1) 0) ≡ some (get_or names k none)
     name-is names say = rw (first, second) (names_at t (part work₀ from (from + 2 * count)) names say k (omega (arith, words-length)))
 
-    pub storing-says : MappedAt p t work (from + 2 * k) k
-    storing-says =
-        record {
-          few = record { model = s.can.few.model; number = omega (arith, s.can.few.number) };
-          there = omega (arith, s.can.behind, s.can.room, s.same);
-          says = record { name = get_or s.can.names.names k none; is = name-is s.can.names.names s.can.names.say };
-        }
+    says : (names : List (Option Bytes)) → SaysNames t (part work₀ from (from + 2 * count)) names
+        → Says t (get_or work (from + 2 * k) 0) (get_or work (from + 2 * k + 1) 0) (get_or names k none)
+    says names say = name_said t (get_or work (from + 2 * k) 0) (get_or work (from + 2 * k + 1) 0) (get_or names k none) (name-is names say)
 
-    module _ (m : Mapping) (e : MapsAt p named k t work (from + 2 * k) m) where
+    pub storing-few : FewLeaves p k
+    storing-few = record { model = s.can.few.model; number = omega (arith, s.can.few.number) }
+
+    pub storing-says : NameWords t work (from + 2 * k)
+    storing-says =
+        record { there = omega (arith, s.can.behind, s.can.room, s.same); within = (says s.can.names.names s.can.names.say).within }
+
+    module _ (x : Option Bytes) (y : x ≡ name_at t work (from + 2 * k)) (m : Mapping) (e : m ≡ mapping_of p named k x) where
       mapping-is : (names : List (Option Bytes)) → SaysNames t (part work₀ from (from + 2 * count)) names → m ≡ mapping_of p named k (get_or names k none)
-      mapping-is names say = e.maps (get_or names k none) (name-is names say)
+      mapping-is names say = e ∙ ap (mapping_of p named k) (y ∙ (says names say).own)
 
       tested_right : (names : List (Option Bytes)) → SaysNames t (part work₀ from (from + 2 * count)) names
           → (is_right m && all_from (λ j name. is_right (mapping_of p named j name)) (k + 1) (drop (k + 1) names)) ≡ leaves_right p named names

@@ -1,12 +1,15 @@
 use borrow.Author.Rules.{rules}
-use Rattle.compose_origins.proofs.LoopLaws.{storing-none, storing-says, storing_wrong, storing-more, storing-end}
+use Rattle.compose_origins.proofs.LoopLaws.{storing-none, storing-few, storing-says, storing_wrong, storing-more, storing-end}
 use Rattle.compose_origins.proofs.store_origins.Goals as goal
 
 pub loop-k-init : goal.loop-k-init
 loop-k-init c = search (rules, storing-none)
 
-pub mapping_at-mapping-requires : goal.mapping_at-mapping-requires
-mapping_at-mapping-requires c = search storing-says
+pub name_at-name-requires : goal.name_at-name-requires
+name_at-name-requires c = search storing-says
+
+pub mapping_of-mapping-requires : goal.mapping_of-mapping-requires
+mapping_of-mapping-requires c = search storing-few
 
 pub loop-k-preserved : goal.loop-k-preserved
 loop-k-preserved c = search storing-more

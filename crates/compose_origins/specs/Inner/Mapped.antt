@@ -1,5 +1,5 @@
 -- For the contracts of the functions that map inputs and latches onto the model's.
-use Rattle.std.specs.Prelude.{ℕ, ◌+◌, ◌*◌, ◌/◌, ◌≤◌, ◌<◌, Bool, true, false, List, map, ◌≡◌, length, drop, get_or, Option, Some, None}
+use Rattle.std.specs.Prelude.{ℕ, ◌+◌, ◌*◌, ◌≤◌, ◌<◌, Bool, true, false, List, map, ◌≡◌, length, drop, Option, Some, None}
 use Rattle.std.proofs.Math.Option as math
 use Rattle.lists.specs.Parts.{Bytes, part, put}
 use Rattle.lists.specs.Tests.{any, all}
@@ -9,8 +9,7 @@ use Rattle.witness_read.specs.Sections.{Sections}
 use Rattle.witness_read.specs.Reading.{counts_in}
 use Rattle.witness_load.specs.Inner.Loaded.{name_from}
 use Rattle.compose_spec.specs.declared.ModelLeaves.{ModelLeaves}
-use Rattle.compose_spec.specs.declared.Mapping.{Mapping}
-use Rattle.compose_spec.specs.Mapping.{is_mapped, maps_by_name, mapping_of}
+use Rattle.compose_spec.specs.Mapping.{is_mapped, maps_by_name}
 use Rattle.compose_spec.specs.Composing.{leaves_right}
 use Rattle.compose_joint.specs.declared.Before.{Before}
 use Rattle.compose_joint.specs.declared.Leaves.{Leaves}
@@ -21,36 +20,6 @@ use Rattle.compose_gather.specs.Inner.Gathered.{words_for, Block, Readable, CanG
 pub record FewLeaves (p : ModelLeaves) (k : ℕ) : Type 0 where
   pub model : p.before + p.count < 1073741824
   pub number : k < 1073741824
-
--- two words say a name of a text, or that there is none
-pub record SaysName (t : Bytes) (offset size : ℕ) : Type 0 where
-  pub name : math.Option Bytes
-  pub is : name_from t offset size ≡ math.some name
-
--- what number k maps to
-abbrev pub MapsTo : ModelLeaves → Bool → ℕ → Bytes → ℕ → ℕ → Mapping → Type 0
-MapsTo p named k t offset size r = (name : math.Option Bytes) → name_from t offset size ≡ math.some name → r ≡ mapping_of p named k name
-
--- whether the name begins with `= `
-abbrev pub TestsName : Bytes → ℕ → ℕ → Bool → Type 0
-TestsName t offset size r = (name : math.Option Bytes) → name_from t offset size ≡ math.some name → r ≡ is_mapped name
-
--- the words of pair i say a name
-pub record SaysAt (t : Bytes) (words : List ℕ) (i : ℕ) : Type 0 where
-  pub there : i < length words / 2
-  pub says : SaysName t (get_or words (2 * i) 0) (get_or words (2 * i + 1) 0)
-
-pub record TestsAt (t : Bytes) (words : List ℕ) (i : ℕ) (r : Bool) : Type 0 where
-  pub tests : TestsName t (get_or words (2 * i) 0) (get_or words (2 * i + 1) 0) r
-
--- the two words at a place say the name of number k
-pub record MappedAt (p : ModelLeaves) (t : Bytes) (work : List ℕ) (at k : ℕ) : Type 0 where
-  pub few : FewLeaves p k
-  pub there : at + 1 < length work
-  pub says : SaysName t (get_or work at 0) (get_or work (at + 1) 0)
-
-pub record MapsAt (p : ModelLeaves) (named : Bool) (k : ℕ) (t : Bytes) (work : List ℕ) (at : ℕ) (r : Mapping) : Type 0 where
-  pub maps : MapsTo p named k t (get_or work at 0) (get_or work (at + 1) 0) r
 
 -- pairs of words say these names
 abbrev pub SaysNames : Bytes → List ℕ → List (math.Option Bytes) → Type 0
