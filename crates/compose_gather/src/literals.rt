@@ -2,7 +2,7 @@
 ghost use Rattle.std.specs.Prelude.{map, ◌≡◌, ◌+◌, ◌<◌};
 ghost use Rattle.lists.specs.Parts.{part, put};
 ghost use Rattle.compose_joint.specs.Inner.Joint.{shifted, shifted_literal, joint_literals, list_of};
-ghost use Rattle.compose_gather.specs.Inner.Gathered.{words_for, range_of, Shiftable, SmallWord, CanShift, shift_for, beyond_counts, SmallBefore, CanShiftList, ShiftsRange, literal_count, CanGather, RightTotals, Gathers};
+ghost use Rattle.compose_gather.specs.Inner.Gathered.{words_for, range_of, Shiftable, SmallWord, CanShift, CanShiftRange, shift_for, beyond_counts, SmallBefore, CanShiftList, ShiftsRange, literal_count, CanGather, RightTotals, Gathers};
 
 use crate::{Range, Witnesses};
 use compose_joint::{Before, Literals, Shift};
@@ -67,13 +67,13 @@ fn shift_literal(by: Shift, l: u64) -> u64
     2 * x as u64 + l % 2
 }
 
-// Literals from one place on, written as joint literals from another place on.
-fn shift_words(work: &mut [u64], from: usize, count: usize, to: usize, by: Shift)
-    requires { CanShift by work.old from count to }
-    ensures { work.new ≡ put work.old to (map (shifted_literal by) (part work.old from (from + count))) }
+// Literals, written as joint literals into as many words.
+fn shift_words(literals: &[u64], joint: &mut [u64], by: Shift)
+    requires { CanShift by literals.now joint.old }
+    ensures { joint.new ≡ map (shifted_literal by) literals.now }
 {
-    for i in 0..count {
-        work[to + i] = shift_literal(by, work[from + i]);
+    for i in 0..literals.len() {
+        joint[i] = shift_literal(by, literals[i]);
     }
 }
 
@@ -106,10 +106,16 @@ fn pass(inputs: usize, latches: usize, before: Before, counts: AagCounts) -> Bef
 
 // The literals of a range behind a place, written as joint literals from another place on. Returns the place after them.
 fn shift_range(range: Range, by: Shift, work: &mut [u64], from: usize, to: usize) -> usize
-    requires { CanShift by work.old (from + range.start) range.count to }
+    requires { CanShiftRange range by work.old from to }
     ensures { ShiftsRange range by work.old from to work.new result }
 {
-    shift_words(work, from + range.start, range.count, to, by);
+    let (words, behind) = work.split_at_mut(to);
+    let start = from + range.start;
+    shift_words(
+        &words[start..start + range.count],
+        &mut behind[..range.count],
+        by,
+    );
     to + range.count
 }
 
