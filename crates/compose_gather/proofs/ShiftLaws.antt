@@ -5,7 +5,7 @@ use mathlib.Core.Path.{◌≡◌, refl, sym, ap, ◌∙◌, subst}
 use native.Mathlib.Omega.{arith}
 use borrow.Author.Tests.{eq-eqb, ne_eqb, le-leb, lt-leb}
 use lib.ListN.{length, get_or, set, length-map, get_or-map, drop_of_length-le}
-use Rattle.lists.specs.Parts.{part, put}
+use Rattle.lists.specs.Parts.{put}
 use Rattle.lists.proofs.PartLaws.{Copied, copied_none, copied_more, copied-done, put_front}
 use Rattle.witness_text.specs.declared.AagCounts.{AagCounts}
 use Rattle.compose_joint.specs.declared.Before.{Before}
@@ -64,7 +64,7 @@ module _ (kind : Literals) (n : AagCounts) where
 -- ---- a list
 
 -- a list written over one that is as long
-put-whole : (o c : List ℕ) → length c ≡ length o → put o 0 c ≡ c
+pub put-whole : (o c : List ℕ) → length c ≡ length o → put o 0 c ≡ c
 put-whole o c e = put_front o c ∙ rw (drop_of_length-le o {i = length c} (omega (arith, e))) (append-nil c)
 
 -- so many literals are written

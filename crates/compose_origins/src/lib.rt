@@ -2,7 +2,7 @@
 #![tactic(auto)]
 
 ghost use Rattle.std.proofs.Math.Option.{some};
-ghost use Rattle.std.specs.Prelude.{Some, option_copied, ◌≡◌, ◌+◌, ◌≤◌, ◌<◌};
+ghost use Rattle.std.specs.Prelude.{Some, SomeIff, true, option_copied, ◌≡◌, ◌+◌, ◌≤◌, ◌<◌};
 ghost use Rattle.text.specs.declared.Reader.TheVariants.{Witness};
 ghost use Rattle.text.specs.Numbers.{number_of};
 ghost use Rattle.compose_gather.specs.Inner.Gathered.{words_for};
@@ -101,46 +101,35 @@ fn any_mapped(text: &[u8], words: &[u64]) -> bool
     false
 }
 
-// The word of an origin: the literal of the model, or an odd number for witness w.
-fn origin_word(w: usize, mapping: Mapping) -> u64
+// The word of an origin, if it is right: the literal of the model, or an odd number for witness w.
+fn origin_word(w: usize, mapping: Mapping) -> Option<u64>
     requires { w < 64 }
-    ensures { result ≡ origin_word w mapping }
+    ensures { SomeIff result (is_right mapping ≡ true) (origin_word w mapping) }
 {
     match mapping {
-        Mapping::Private | Mapping::Wrong => (2 * w + 1) as u64,
-        Mapping::Onto(l) => l,
+        Mapping::Private => Some((2 * w + 1) as u64),
+        Mapping::Onto(l) => Some(l),
+        Mapping::Wrong => None,
     }
 }
 
-fn is_right(mapping: Mapping) -> bool
-    ensures { result ≡ is_right mapping }
-{
-    !matches!(mapping, Mapping::Wrong)
-}
-
-// The origins of so many inputs or latches of witness w, whose names are said from one place on, from another place on. Returns the place after them, or nothing where a literal is wrong (R9.16).
+// The origins of as many inputs or latches of witness w, whose names pairs of words say; or nothing where a literal is wrong (R9.16).
 fn store_origins(
     text: &[u8],
-    work: &mut [u64],
-    from: usize,
-    count: usize,
+    names: &[u64],
     named: bool,
     model_leaves: ModelLeaves,
     w: usize,
-    to: usize,
-) -> Option<usize>
-    requires { CanMap model_leaves text.now work.old from count w to }
-    ensures { StoresOrigins model_leaves text.now from count named w to work.old work.new result }
+    origins: &mut [u64],
+) -> Option<()>
+    requires { CanMap model_leaves text.now names.now w origins.old }
+    ensures { StoresOrigins model_leaves text.now names.now named w origins.new result }
 {
-    for k in 0..count {
-        let name = compose_gather::name_at(text, work, from + 2 * k);
-        let mapping = mapping_of(named, name, model_leaves, k);
-        if !is_right(mapping) {
-            return None;
-        }
-        work[to + k] = origin_word(w, mapping);
+    for k in 0..origins.len() {
+        let name = compose_gather::name_at(text, names, 2 * k);
+        origins[k] = origin_word(w, mapping_of(named, name, model_leaves, k))?;
     }
-    Some(to + count)
+    Some(())
 }
 
 // Where the names of the inputs, or latches, begin; the words of the text begin at a place.
@@ -177,7 +166,16 @@ fn witness_origins(
     let named = maps_by_name(text, counts, work, from);
     let names = names_at(leaves, counts, from, to);
     let count = leaves.count(counts);
-    store_origins(text, work, names, count, named, model_leaves, w, to)
+    let (words, behind) = work.split_at_mut(to);
+    store_origins(
+        text,
+        &words[names..names + 2 * count],
+        named,
+        model_leaves,
+        w,
+        &mut behind[..count],
+    )?;
+    Some(to + count)
 }
 
 // The origins of the inputs, or latches, of all witnesses, from a place on. Returns the place after them, or nothing where a literal is wrong (R9.16).

@@ -8,14 +8,14 @@ loop-k-init c = search (rules, storing-none)
 pub name_at-name-requires : goal.name_at-name-requires
 name_at-name-requires c = search storing-says
 
-pub mapping_of-mapping-requires : goal.mapping_of-mapping-requires
-mapping_of-mapping-requires c = search storing-few
+pub mapping_of-requires : goal.mapping_of-requires
+mapping_of-requires c = search storing-few
 
 pub loop-k-preserved : goal.loop-k-preserved
-loop-k-preserved c = search storing-more
+loop-k-preserved c = search (storing-more, c.in_ok-origins.ensures)
 
-pub returns-then-not-is_right : goal.returns-then-not-is_right
-returns-then-not-is_right c = search storing_wrong
+pub returns-in_err-origins : goal.returns-in_err-origins
+returns-in_err-origins c = rw c.from_residual.ensures (search (storing_wrong, c.in_err-origins.ensures))
 
 pub returns : goal.returns
 returns c = search storing-end

@@ -1,7 +1,7 @@
 -- For the contracts of the functions that map inputs and latches onto the model's.
 use Rattle.std.specs.Prelude.{ℕ, ◌+◌, ◌*◌, ◌≤◌, ◌<◌, Bool, true, false, List, map, ◌≡◌, length, drop, Option, Some, None}
 use Rattle.std.proofs.Math.Option as math
-use Rattle.lists.specs.Parts.{Bytes, part, put}
+use Rattle.lists.specs.Parts.{Bytes, put}
 use Rattle.lists.specs.Tests.{any, all}
 use Rattle.lists.specs.Words.{pairs_of}
 use Rattle.witness_text.specs.declared.AagCounts.{AagCounts}
@@ -32,22 +32,20 @@ pub record SayNames (t : Bytes) (words : List ℕ) : Type 0 where
 abbrev pub AnyMapped : Bytes → List ℕ → Bool → Type 0
 AnyMapped t words r = (names : List (math.Option Bytes)) → SaysNames t words names → r ≡ any is_mapped names
 
--- the words from one place on say names, and there is room for an origin of each from another place on
-pub record CanMap (p : ModelLeaves) (t : Bytes) (work : List ℕ) (from count w to : ℕ) : Type 0 where
-  pub few : FewLeaves p count
+-- pairs of words say names, and there are as many words for origins
+pub record CanMap (p : ModelLeaves) (t : Bytes) (words : List ℕ) (w : ℕ) (origins : List ℕ) : Type 0 where
+  pub few : FewLeaves p (length origins)
   pub witness : w < 64
-  pub names : SayNames t (part work from (from + 2 * count))
-  pub behind : from + 2 * count ≤ to
-  pub room : to + count ≤ length work
+  pub names : SayNames t words
+  pub count : length words ≡ 2 * length origins
 
--- nothing where a literal is wrong, else the origins stand there, and the place after them
-abbrev pub OriginsIf : Option ℕ → ModelLeaves → ℕ → Bool → List (math.Option Bytes) → List ℕ → ℕ → ℕ → List ℕ → Type 0
-OriginsIf (Some e) p w named names work count to work' = (leaves_right p named names ≡ true) × ((work' ≡ put work to (origins_from p w named 0 names)) × (e ≡ to + count))
-OriginsIf None p w named names work count to work' = leaves_right p named names ≡ false
+-- nothing where a literal is wrong, else the origins
+abbrev pub OriginsIf : Option (Unit {0}) → ModelLeaves → ℕ → Bool → List (math.Option Bytes) → List ℕ → Type 0
+OriginsIf (Some e) p w named names origins = (leaves_right p named names ≡ true) × (origins ≡ origins_from p w named 0 names)
+OriginsIf None p w named names origins = leaves_right p named names ≡ false
 
-abbrev pub StoresOrigins : ModelLeaves → Bytes → ℕ → ℕ → Bool → ℕ → ℕ → List ℕ → List ℕ → Option ℕ → Type 0
-StoresOrigins p t from count named w to work work' r =
-    (names : List (math.Option Bytes)) → SaysNames t (part work from (from + 2 * count)) names → OriginsIf r p w named names work count to work'
+abbrev pub StoresOrigins : ModelLeaves → Bytes → List ℕ → Bool → ℕ → List ℕ → Option (Unit {0}) → Type 0
+StoresOrigins p t words named w origins r = (names : List (math.Option Bytes)) → SaysNames t words names → OriginsIf r p w named names origins
 
 -- ---- one witness
 
