@@ -1,14 +1,13 @@
 -- The header, piece by piece.
 use Prim.Native.Nat.{ℕ}
-use mathlib.Core.List.{List, [], ◌∷◌, ◌++◌, map, append-nil}
+use mathlib.Core.List.{List, [], ◌∷◌, ◌++◌}
 use mathlib.Core.Path.{◌≡◌, refl, sym, ap}
 use Rattle.lists.specs.Parts.{Bytes}
 use Rattle.text.specs.Fields.{aag}
-use Rattle.text_decimal.specs.Decimal.{decimal}
-use Rattle.text_decimal.specs.Printed.{spaced}
 use Rattle.text_print.specs.declared.Printer.{Printer}
 use Rattle.text_print.specs.Inner.Lines.{fields_text}
 use Rattle.text_print.specs.Inner.Prints.{PrintsOn}
+use Rattle.text_print.proofs.LineLaws.{spaced_fields}
 use Rattle.text_print.proofs.PrintsLaws.{prints_as, prints_then}
 use Rattle.witness_read.specs.Sections.{Sections}
 use Rattle.compose_spec.specs.Printing.{header_line}
@@ -22,11 +21,6 @@ fields ns = fields_text (λ n. n) ns
 -- the numbers of the header
 abbrev pub header_numbers : Counts → List ℕ
 header_numbers n = n.variables ∷ n.inputs ∷ n.latches ∷ 0 ∷ n.gates ∷ n.bads ∷ n.constraints ∷ 0 ∷ 0 ∷ []
-
--- fields behind a first one
-spaced_fields : (f : Bytes) (ns : List ℕ) → spaced (f ∷ map decimal ns) ≡ f ++ fields ns
-spaced_fields f [] = sym (append-nil f)
-spaced_fields f (n ∷ ns) = ap (λ (x : Bytes). f ++ 32 ∷ x) (spaced_fields (decimal n) ns)
 
 -- `aag`, the fields, and the end of the line
 pub header_printed : (p : Printer) (n : Counts) (p₁ p₂ p₃ : Printer) → PrintsOn p aag p₁ → PrintsOn p₁ (fields (header_numbers n)) p₂ → PrintsOn p₂ (10 ∷ []) p₃

@@ -1,4 +1,3 @@
-pub mod OnwardLaws
 pub mod PieceLaws
 pub mod PrintLaws
 pub mod MadeLaws

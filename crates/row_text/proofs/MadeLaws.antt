@@ -9,7 +9,6 @@ use borrow.Author.Tests.{leb-true}
 use lib.Dec.{leb}
 use lib.ListN.{length, drop, length-append}
 use Rattle.lists.specs.Answer.{Answer, got, refused, unless, and_then}
-use Rattle.lists.specs.Parts.{Bytes}
 use Rattle.model.specs.Circuit.{Circuit}
 use Rattle.cnf.specs.declared.ClauseCounts.{ClauseCounts}
 use Rattle.cnf.specs.Clauses.{Clause, literals_of, pairs_from, returned}
@@ -20,10 +19,10 @@ use Rattle.obligation_spec.specs.Lists.{relation_clauses}
 use Rattle.aiger.specs.declared.Refusal.{Refusal}
 use Rattle.aiger.specs.Refusals.{refusal_number, answered}
 use Rattle.obligation.specs.Promise.{sizes, Buffers, lent_of, Makes, MakesRelation}
-use Rattle.row_text.specs.RowProgram.{printed}
-use Rattle.row_text.specs.Inner.Steps.{numbers_in, InFront}
-use Rattle.row_text.specs.Inner.Made.{made_answer, Standing, Printable}
-use Rattle.text_decimal.specs.Inner.Writing.{Wrote}
+use Rattle.row_text.specs.Inner.Steps.{InFront}
+use Rattle.row_text.specs.Inner.Made.{made_answer, Standing, numbers_in, room_for, PrintsAnswer}
+use Rattle.row_text.proofs.PrintLaws.{more_room}
+use Rattle.text_print.specs.declared.Printer.{Printer}
 
 pub numbers_in_lem : (cs : List Clause) → numbers_in cs ≡ 2 * length cs + length (literals_of cs)
 numbers_in_lem [] = refl
@@ -107,34 +106,20 @@ module _ (q : Asked) (source : ℕ) (targets : List ℕ) (b : Buffers) (r : Resu
   rows : (t : ClauseCounts) → r ≡ Ok t → Rows (relation_row q source targets (lent_of b)) t after
   rows t e = rows_made (relation_row q source targets (lent_of b)) b r after k.makes t e
 
-  standing : (t : ClauseCounts) → r ≡ Ok t → (room : ℕ) → 21 * (length b.pairs + length b.literals) + 29 ≤ room → Standing t.clauses after.pairs after.literals room
-  standing t e room h =
-      let w : Rows (relation_row q source targets (lent_of b)) t after = rows t e in
-      let f : Fits (lent_of b) w.cs = row_fits (lent_of b) w.cs q source targets w.is in
-      record { front = rw w.back w.front; fits = rw w.back (omega (arith, numbers_in_lem w.cs, f.pairs, f.literals)) }
-
-  pub made_printable : (room : ℕ) → 21 * (length b.pairs + length b.literals) + 29 ≤ room → Printable r after.pairs after.literals room
-  made_printable room h = record { rows = λ t e. standing t e room h; fits = omega arith }
+  pub made_standing : Standing r after.pairs after.literals
+  made_standing t e = let w = rows t e in rw w.back w.front
 
   by_answer : (s : Result ClauseCounts Refusal) → r ≡ s → made_answer s after.pairs after.literals ≡ relation_row q source targets (lent_of b)
   by_answer (Ok t) e = let w = rows t e in ap got w.back ∙ sym w.is
   by_answer (Err n) e = none_made (relation_row q source targets (lent_of b)) b r after k.makes n e
 
-  pub made_printed : (o o' : Bytes) (n : ℕ) → Wrote o 0 (printed (made_answer r after.pairs after.literals)) o' n → Wrote o 0 (printed (relation_row q source targets (lent_of b))) o' n
-  made_printed o o' n w = rw (← by_answer r refl) w
+  made_room : (s : Result ClauseCounts Refusal) → r ≡ s → room_for (made_answer s after.pairs after.literals) ≤ 21 * (length b.pairs + length b.literals) + 29
+  made_room (Ok t) e =
+      let w = rows t e in
+      let f : Fits (lent_of b) w.cs = row_fits (lent_of b) w.cs q source targets w.is in
+      omega (arith, ap numbers_in w.back, numbers_in_lem w.cs, f.pairs, f.literals)
+  made_room (Err n) e = omega arith
 
--- ---- printing an answer
-
-module _ (r : Result ClauseCounts Refusal) (pairs words : List ℕ) (room : ℕ) (k : Printable r pairs words room) where
-  pub rows-front : (t : ClauseCounts) → r ≡ Ok t → InFront (returned t.clauses pairs words) t.clauses pairs words
-  rows-front t e = (k.rows t e).front
-
-  pub rows-room : (t : ClauseCounts) → r ≡ Ok t → 21 * numbers_in (returned t.clauses pairs words) + 26 ≤ room
-  rows-room t e = (k.rows t e).fits
-
-pub rows_text : (r : Result ClauseCounts Refusal) (pairs words o o' : List ℕ) (n : ℕ) (t : ClauseCounts) → r ≡ Ok t → Wrote o 0 (printed (got (returned t.clauses pairs words))) o' n
-    → Wrote o 0 (printed (made_answer r pairs words)) o' n
-rows_text r pairs words o o' n t e w = rw e w
-
-pub refused_text : (r : Result ClauseCounts Refusal) (pairs words o o' : List ℕ) (n : ℕ) (m : Refusal) → r ≡ Err m → (x : ℕ) → x ≡ refusal_number m → Wrote o 0 (printed (refused x)) o' n → Wrote o 0 (printed (made_answer r pairs words)) o' n
-refused_text r pairs words o o' n m e x q w = rw e (rw q at w)
+  pub made_printed : (p p' : Printer) → PrintsAnswer p (made_answer r after.pairs after.literals) (room_for (made_answer r after.pairs after.literals)) p'
+      → PrintsAnswer p (relation_row q source targets (lent_of b)) (21 * (length b.pairs + length b.literals) + 29) p'
+  made_printed p p' w = rw (← by_answer r refl) (more_room p (made_answer r after.pairs after.literals) _ p' _ (made_room r refl) w)

@@ -1,99 +1,53 @@
--- The printed lines, number by number.
-use Prim.Native.Nat.{ℕ, ◌+◌, ◌-◌, ◌*◌, ◌≤◌, ◌<◌}
+-- The printed lines, number by number, and how long they are.
+use Prim.Native.Nat.{ℕ, suc, ◌+◌, ◌-◌, ◌*◌, ◌≤◌, ◌<◌, ◌^◌}
 use mathlib.Core.Path.{◌≡◌, refl, sym, ap, ◌∙◌}
-use mathlib.Core.List.{List, [], ◌∷◌, ◌++◌, append_assoc, append-nil}
-use native.Mathlib.Nat.{add-sub_cancel_left}
+use mathlib.Core.List.{List, [], ◌∷◌, ◌++◌, append_assoc}
 use native.Mathlib.Omega.{arith}
-use lib.ListN.{length, drop, get_or, length-append, length-drop, drop_of_length-le}
+use lib.ListN.{length, drop, get_or, length-append, length-drop}
 use lib.Seq.{take_at, drop_at, drop-drop, get_or-drop}
-use Rattle.lists.specs.Answer.{got, refused}
+use Rattle.lists.specs.Answer.{Answer, got, refused}
 use Rattle.lists.specs.Parts.{Bytes, part}
-use Rattle.lists.proofs.PartLaws.{part_length}
-use Rattle.cnf.proofs.ReturnedLaws.{pairs-length}
-use Rattle.lists.proofs.RestLaws.{rest-head, rest_more}
+use Rattle.lists.specs.Tests.{Each}
+use Rattle.lists.proofs.RestLaws.{rest-head}
 use Rattle.text_decimal.specs.Decimal.{decimal}
 use Rattle.text_decimal.specs.Printed.{number_line, text_of}
-use Rattle.text_decimal.specs.Inner.Writing.{Wrote}
+use Rattle.text_decimal.proofs.DecimalLaws.{decimal-length-word}
+use Rattle.text_print.specs.declared.Printer.{Printer}
+use Rattle.text_print.specs.Inner.Lines.{fields_text}
+use Rattle.text_print.specs.Inner.Prints.{PrintsOn}
+use Rattle.text_print.proofs.LineLaws.{spaced_fields}
+use Rattle.text_print.proofs.PrintsLaws.{Printing, prints_as, prints_then, printing-none, printing-more, printing-done}
 use Rattle.cnf.specs.Clauses.{Clause, literals_of, pairs_from}
+use Rattle.cnf.proofs.ReturnedLaws.{pairs-length}
+use Rattle.aiger.specs.declared.Refusal.{Refusal}
+use Rattle.aiger.specs.Refusals.{refusal_number}
 use Rattle.row_text.specs.RowProgram.{clause_lines, rows_word, refused_word, printed}
-use Rattle.row_text.specs.Inner.Steps.{spaced_numbers, clause_bytes, clauses_bytes, numbers_in, InFront, Prints}
-use Rattle.row_text.proofs.OnwardLaws.{Onward, onward-start, onward-more, onward-done, wrote-both}
-
--- ---- the numbers of a line
-
-pub line_flat : (n : ℕ) (ns : List ℕ) → number_line (n ∷ ns) ≡ decimal n ++ spaced_numbers ns
-line_flat n [] = sym (append-nil (decimal n))
-line_flat n (m ∷ ns) = ap (λ (x : Bytes). decimal n ++ 32 ∷ x) (line_flat m ns)
-
--- the words of a clause are being printed: the first i of them stand in the buffer
-pub record Spacing (o₀ : Bytes) (at₀ : ℕ) (ws : List ℕ) (o : Bytes) (at i : ℕ) : Type 0 where
-  pub on : Onward o₀ at₀ (spaced_numbers ws) o at (spaced_numbers (drop i ws))
-  pub few : at ≤ at₀ + 21 * i
-  pub passed : i ≤ length ws
-  pub room : at₀ + 21 * length ws ≤ length o₀
-
-module _ (o₀ : Bytes) (at₀ : ℕ) (ws : List ℕ) where
-  pub spacing-none : at₀ + 21 * length ws ≤ length o₀ → Spacing o₀ at₀ ws o₀ at₀ 0
-  spacing-none h = record { on = onward-start o₀ at₀ (spaced_numbers ws); few = omega arith; passed = omega arith; room = h }
-
-  module _ (o : Bytes) (at i : ℕ) (k : Spacing o₀ at₀ ws o at i) where
-    pub spacing-room : i < length ws → at + 21 ≤ length o
-    spacing-room h = omega (arith, k.few, k.room, k.on.same)
-
-    pub spacing-more : (v : ℕ) (o' : Bytes) (n : ℕ) → i < length ws → v ≡ get_or ws i 0 → Prints o at (32 ∷ decimal v) 21 o' n → Spacing o₀ at₀ ws o' n (i + 1)
-    spacing-more v o' n h e w =
-        record {
-          on =
-              onward-more o₀ at₀ (spaced_numbers ws) o at (spaced_numbers (drop i ws)) (32 ∷ decimal v) (spaced_numbers (drop (i + 1) ws)) o' n k.on
-              (ap spaced_numbers (rest_more ws i 0 h) ∙ rw (← e))
-              w.wrote;
-          few = omega (arith, k.few, w.few);
-          passed = omega arith;
-          room = k.room;
-        }
-
-    pub spacing-done : length ws ≤ i → Prints o₀ at₀ (spaced_numbers ws) (21 * length ws) o at
-    spacing-done h =
-        record {
-          wrote =
-              onward-done o₀ at₀ (spaced_numbers ws) o at (spaced_numbers (drop i ws)) k.on (ap spaced_numbers (drop_of_length-le ws h))
-              (omega (arith, k.few, k.passed, k.room, k.on.same));
-          few = omega (arith, k.few, k.passed);
-        }
+use Rattle.row_text.specs.Inner.Steps.{InFront}
+use Rattle.row_text.specs.Inner.Made.{numbers_in, room_for, PrintsAnswer}
 
 -- ---- the line of a clause
 
-module _ (o : Bytes) (at offset size start more : ℕ) (words : List ℕ) (es : start ≡ offset) (em : more ≡ size) (h : offset + size ≤ length words) where
-  cut_size : size ≡ length (part words offset (offset + size))
-  cut_size = sym (part_length words offset (offset + size) h ∙ add-sub_cancel_left offset size)
+abbrev fields : List ℕ → Bytes
+fields ns = fields_text (λ n. n) ns
 
-  flat : clause_bytes offset (part words offset (offset + size))
-      ≡ (10 ∷ decimal offset) ++ ((32 ∷ decimal size) ++ spaced_numbers (part words offset (offset + size)))
-  flat =
-      ap (λ (x : Bytes). 10 ∷ x) (line_flat offset (length (part words offset (offset + size)) ∷ part words offset (offset + size)))
-      ∙ ap (λ (n : ℕ). 10 ∷ (decimal offset ++ 32 ∷ (decimal n ++ spaced_numbers (part words offset (offset + size))))) (sym cut_size)
-
-  pub clause-room : (third room : ℕ) → third + 21 * size ≤ room → third + 21 * length (part words start (start + more)) ≤ room
-  clause-room third room k = rw (es, em) (rw (← cut_size) k)
-
-  pub clause-written : (o₁ : Bytes) (n₁ : ℕ) (o₂ : Bytes) (n₂ : ℕ) (o₃ : Bytes) (n₃ : ℕ)
-      → Prints o at (10 ∷ decimal offset) 21 o₁ n₁ → Prints o₁ n₁ (32 ∷ decimal size) 21 o₂ n₂
-      → Prints o₂ n₂ (spaced_numbers (part words start (start + more))) (21 * length (part words start (start + more))) o₃ n₃
-      → Prints o at (clause_bytes offset (part words offset (offset + size))) (21 * (size + 2)) o₃ n₃
-  clause-written o₁ n₁ o₂ n₂ o₃ n₃ u v w₀ =
-      let w : Prints o₂ n₂ (spaced_numbers (part words offset (offset + size))) (21 * length (part words offset (offset + size))) o₃ n₃ = rw (es, em) at w₀ in
-      record {
-        wrote =
-            rw flat
-            (wrote-both o at (10 ∷ decimal offset) o₁ n₁ ((32 ∷ decimal size) ++ spaced_numbers (part words offset (offset + size))) o₃ n₃ u.wrote
-            (wrote-both o₁ n₁ (32 ∷ decimal size) o₂ n₂ (spaced_numbers (part words offset (offset + size))) o₃ n₃ v.wrote w.wrote));
-        few = omega (arith, u.few, v.few, w.few, cut_size);
-      }
+module _ (offset size start more : ℕ) (words : List ℕ) (es : start ≡ offset) (em : more ≡ size) where
+  pub clause_printed : (p p₁ p₂ p₃ p₄ : Printer) → PrintsOn p (decimal offset) p₁ → PrintsOn p₁ (32 ∷ decimal size) p₂ → PrintsOn p₂ (fields (part words start (start + more))) p₃
+      → PrintsOn p₃ (10 ∷ []) p₄ → PrintsOn p (number_line (offset ∷ size ∷ part words offset (offset + size)) ++ 10 ∷ []) p₄
+  clause_printed p p₁ p₂ p₃ p₄ q r s₀ t =
+      let ns : List ℕ = part words offset (offset + size) in
+      let s : PrintsOn p₂ (fields ns) p₃ = rw (es, em) at s₀ in
+      let rest : PrintsOn p₁ (fields (size ∷ ns)) p₃ = prints_then p₁ (32 ∷ decimal size) p₂ (fields ns) p₃ r s in
+      let line : Bytes = decimal offset ++ fields (size ∷ ns) in
+      prints_as p (line ++ 10 ∷ []) p₄ (number_line (offset ∷ size ∷ ns) ++ 10 ∷ []) (ap (λ (x : Bytes). x ++ 10 ∷ []) (sym (spaced_fields (decimal offset) (size ∷ ns))))
+      (prints_then p line p₃ (10 ∷ []) p₄ (prints_then p (decimal offset) p₁ (fields (size ∷ ns)) p₃ q rest) t)
 
 -- ---- all clauses
 
--- the lines of clauses are being printed: those of the first i stand in the buffer, and `rest` are left, whose words begin at `off`
-pub record Listing (cs : List Clause) (count : ℕ) (pairs words : List ℕ) (o₀ : Bytes) (at₀ : ℕ) (o : Bytes) (at i : ℕ) : Type 0 where
+abbrev lines_from : ℕ → List Clause → Bytes
+lines_from off cs = text_of (clause_lines off cs)
+
+-- the lines of clauses are being printed: those of the first i are, and `rest` are left, whose words begin at `off`
+pub record Listing (cs : List Clause) (count : ℕ) (pairs words : List ℕ) (p₀ p : Printer) (i : ℕ) : Type 0 where
   pub rest : List Clause
   pub off : ℕ
   pub other_pairs : List ℕ
@@ -102,14 +56,11 @@ pub record Listing (cs : List Clause) (count : ℕ) (pairs words : List ℕ) (o�
   pub pairs-left : drop (2 * i) pairs ≡ pairs_from off rest ++ other_pairs
   pub in_words : off ≤ length words
   pub words_left : drop off words ≡ literals_of rest ++ other_words
-  pub on : Onward o₀ at₀ (clauses_bytes 0 cs) o at (clauses_bytes off rest)
-  pub few : at + 21 * numbers_in rest ≤ at₀ + 21 * numbers_in cs
-  pub room : at₀ + 21 * numbers_in cs ≤ length o₀
+  pub printing : Printing p₀ (lines_from 0 cs) p (lines_from off rest)
   pub long : 2 * count ≤ length pairs
 
-pub listing_none : (cs : List Clause) (count : ℕ) (pairs words : List ℕ) (o : Bytes) (at : ℕ) → InFront cs count pairs words → at + 21 * numbers_in cs ≤ length o
-    → Listing cs count pairs words o at o at 0
-listing_none cs count pairs words o at f h =
+pub listing_none : (cs : List Clause) (count : ℕ) (pairs words : List ℕ) (p : Printer) → InFront cs count pairs words → Listing cs count pairs words p p 0
+listing_none cs count pairs words p f =
     record {
       rest = cs;
       off = 0;
@@ -119,9 +70,7 @@ listing_none cs count pairs words o at f h =
       pairs-left = f.pairs-are;
       in_words = omega arith;
       words_left = f.words_are;
-      on = onward-start o at (clauses_bytes 0 cs);
-      few = omega arith;
-      room = h;
+      printing = printing-none p (lines_from 0 cs);
       long = omega (arith, f.counted, pairs-length 0 cs, ap length f.pairs-are, length-append (pairs_from 0 cs) f.other_pairs);
     }
 
@@ -139,16 +88,11 @@ none_left : (rest : List Clause) → length rest ≡ 0 → rest ≡ []
 none_left [] h = refl
 none_left (c ∷ cs) h = absurd (omega arith)
 
-module _ (cs : List Clause) (count : ℕ) (pairs words : List ℕ) (o₀ : Bytes) (at₀ : ℕ) (o : Bytes) (at i : ℕ) (k : Listing cs count pairs words o₀ at₀ o at i) where
-  pub listing-done : count ≤ i → Prints o₀ at₀ (clauses_bytes 0 cs) (21 * numbers_in cs) o at
+module _ (cs : List Clause) (count : ℕ) (pairs words : List ℕ) (p₀ p : Printer) (i : ℕ) (k : Listing cs count pairs words p₀ p i) where
+  pub listing-done : count ≤ i → PrintsOn p₀ (lines_from 0 cs) p
   listing-done h =
       let none : k.rest ≡ [] = none_left k.rest (omega (arith, k.left)) in
-      record {
-        wrote =
-            onward-done o₀ at₀ (clauses_bytes 0 cs) o at (clauses_bytes k.off k.rest) k.on (ap (clauses_bytes k.off) none)
-            (omega (arith, k.few, k.room, k.on.same));
-        few = omega (arith, k.few);
-      }
+      printing-done p₀ (lines_from 0 cs) p (lines_from k.off k.rest) k.printing (ap (lines_from k.off) none)
 
   module _ (h : i < count) where
     n : Next k.rest
@@ -179,16 +123,15 @@ module _ (cs : List Clause) (count : ℕ) (pairs words : List ℕ) (o₀ : Bytes
           let f : offset ≡ k.off = omega (arith, offset_is) in
           rw m (rw (f, words-first) (take_at n.c (literals_of n.others ++ k.other_words) (length n.c) refl))
 
-      pub listing-room : at + 21 * (size + 2) ≤ length o
-      listing-room = omega (arith, k.few, k.room, k.on.same, size_is, ap numbers_in n.is)
-
-      pub listing-more : (o' : Bytes) (to : ℕ) → Prints o at (clause_bytes offset (part words offset (offset + size))) (21 * (size + 2)) o' to
-          → Listing cs count pairs words o₀ at₀ o' to (i + 1)
-      listing-more o' to w =
+      pub listing-more : (p' : Printer) → PrintsOn p (number_line (offset ∷ size ∷ part words offset (offset + size)) ++ 10 ∷ []) p' → Listing cs count pairs words p₀ p' (i + 1)
+      listing-more p' w =
           let f : offset ≡ k.off = omega (arith, offset_is) in
+          let s : size ≡ length n.c = omega (arith, size_is) in
           let twice : 2 * (i + 1) ≡ 2 * i + 2 = omega arith in
-          let same : clause_bytes offset (part words offset (offset + size)) ≡ clause_bytes k.off n.c =
-          ap (clause_bytes offset) here ∙ ap (λ (x : ℕ). clause_bytes x n.c) f in
+          let line : Bytes = number_line (offset ∷ size ∷ part words offset (offset + size)) in
+          let same : number_line (k.off ∷ length n.c ∷ n.c) ≡ line =
+          ap (λ (x : ℕ). number_line (x ∷ length n.c ∷ n.c)) (sym f) ∙ ap (λ (x : ℕ). number_line (offset ∷ x ∷ n.c)) (sym s) ∙ ap (λ (c : Clause). number_line (offset ∷ size ∷ c)) (sym here) in
+          let later : Bytes = lines_from (k.off + length n.c) n.others in
           record {
             rest = n.others;
             off = k.off + length n.c;
@@ -201,36 +144,77 @@ module _ (cs : List Clause) (count : ℕ) (pairs words : List ℕ) (o₀ : Bytes
                 sym (drop-drop (length n.c) k.off words)
                 ∙ ap (drop (length n.c)) words-first
                 ∙ drop_at n.c (literals_of n.others ++ k.other_words) (length n.c) refl;
-            on =
-                onward-more o₀ at₀ (clauses_bytes 0 cs) o at (clauses_bytes k.off k.rest) (clause_bytes offset (part words offset (offset + size)))
-                (clauses_bytes (k.off + length n.c) n.others) o' to k.on
-                (ap (clauses_bytes k.off) n.is ∙ ap (λ (x : Bytes). x ++ clauses_bytes (k.off + length n.c) n.others) (sym same))
-                w.wrote;
-            few = omega (arith, k.few, w.few, size_is, ap numbers_in n.is);
-            room = k.room;
+            printing =
+                printing-more p₀ (lines_from 0 cs) p (lines_from k.off k.rest) k.printing (line ++ 10 ∷ []) later p'
+                (ap (lines_from k.off) n.is ∙ ap (λ (x : Bytes). x ++ 10 ∷ later) same ∙ sym (append_assoc line (10 ∷ []) later))
+                w;
             long = k.long;
           }
 
--- ---- the whole text
+-- ---- how long the lines are
 
--- the lines ahead of which others stand
-lines_flat : (l : Bytes) (at : ℕ) (cs : List Clause) → text_of (l ∷ clause_lines at cs) ≡ l ++ (clauses_bytes at cs ++ 10 ∷ [])
-lines_flat l at [] = refl
-lines_flat l at (c ∷ cs) =
-    ap (λ (x : Bytes). l ++ 10 ∷ x) (lines_flat (number_line (at ∷ length c ∷ c)) (at + length c) cs)
-    ∙ ap (λ (x : Bytes). l ++ x) (sym (append_assoc (clause_bytes at c) (clauses_bytes (at + length c) cs) (10 ∷ [])))
+-- a number that a word holds
+abbrev Word : ℕ → Type 0
+Word n = n < 2 ^ 64
 
-pub refused-printed : (o : Bytes) (n : ℕ) (o₁ : Bytes) (n₁ : ℕ) (o₂ : Bytes) (n₂ most : ℕ) → Prints o 0 (refused_word ++ decimal n) most o₁ n₁ → Prints o₁ n₁ (10 ∷ []) 1 o₂ n₂
-    → Wrote o 0 (printed (refused n)) o₂ n₂
-refused-printed o n o₁ n₁ o₂ n₂ most u v =
-    wrote-both o 0 (refused_word ++ decimal n) o₁ n₁ (10 ∷ []) o₂ n₂ u.wrote v.wrote
+each_left : (xs ys : List ℕ) → Each Word (xs ++ ys) → Each Word xs
+each_left [] ys e = tt
+each_left (x ∷ xs) ys e = (e.0, each_left xs ys e.1)
 
-pub rows-printed : (cs : List Clause) (count : ℕ) (pairs words o : Bytes) (o₁ : Bytes) (n₁ : ℕ) (o₂ : Bytes) (n₂ : ℕ) (o₃ : Bytes) (n₃ most : ℕ) → InFront cs count pairs words
-    → Prints o 0 (rows_word ++ decimal count) most o₁ n₁ → Prints o₁ n₁ (clauses_bytes 0 cs) (21 * numbers_in cs) o₂ n₂ → Prints o₂ n₂ (10 ∷ []) 1 o₃ n₃
-    → Wrote o 0 (printed (got cs)) o₃ n₃
-rows-printed cs count pairs words o o₁ n₁ o₂ n₂ o₃ n₃ most f u v w =
-    let flat : printed (got cs) ≡ (rows_word ++ decimal count) ++ (clauses_bytes 0 cs ++ 10 ∷ []) =
-    lines_flat (rows_word ++ decimal (length cs)) 0 cs ∙ ap (λ (n : ℕ). (rows_word ++ decimal n) ++ (clauses_bytes 0 cs ++ 10 ∷ [])) f.counted in
-    rw flat
-    (wrote-both o 0 (rows_word ++ decimal count) o₁ n₁ (clauses_bytes 0 cs ++ 10 ∷ []) o₃ n₃ u.wrote
-    (wrote-both o₁ n₁ (clauses_bytes 0 cs) o₂ n₂ (10 ∷ []) o₃ n₃ v.wrote w.wrote))
+each_right : (xs ys : List ℕ) → Each Word (xs ++ ys) → Each Word ys
+each_right [] ys e = e
+each_right (x ∷ xs) ys e = each_right xs ys e.1
+
+each_word : (xs : List ℕ) → ((i : ℕ) → get_or xs i 0 < 2 ^ 64) → Each Word xs
+each_word [] h = tt
+each_word (x ∷ xs) h = (h 0, each_word xs (λ i. h (suc i)))
+
+fields-length : (ns : List ℕ) → Each Word ns → length (fields ns) ≤ 21 * length ns
+fields-length [] e = omega arith
+fields-length (n ∷ ns) e = omega (arith, decimal-length-word n e.0, fields-length ns e.1, length-append (32 ∷ decimal n) (fields ns))
+
+line-length : (n : ℕ) (ns : List ℕ) → Word n → Each Word ns → length (number_line (n ∷ ns)) ≤ 20 + 21 * length ns
+line-length n ns h e = omega (arith, ap length (spaced_fields (decimal n) ns), decimal-length-word n h, fields-length ns e, length-append (decimal n) (fields ns))
+
+lines-length : (off : ℕ) (cs : List Clause) → off + length (literals_of cs) < 2 ^ 64 → Each Word (literals_of cs) → length (lines_from off cs) ≤ 21 * numbers_in cs
+lines-length off [] h e = omega arith
+lines-length off (c ∷ cs) h e =
+    let size : length (literals_of (c ∷ cs)) ≡ length c + length (literals_of cs) = length-append c (literals_of cs) in
+    let line : Bytes = number_line (off ∷ length c ∷ c) in
+    let first = line-length off (length c ∷ c) (omega (arith, size)) (omega (arith, size), each_left c (literals_of cs) e) in
+    let others = lines-length (off + length c) cs (omega (arith, size)) (each_right c (literals_of cs) e) in
+    omega (arith, first, others, length-append line (10 ∷ lines_from (off + length c) cs))
+
+-- ---- answers
+
+module _ (p p₁ p₂ p₃ : Printer) where
+  pub refused_printed : (r : Refusal) (n : ℕ) → n ≡ refusal_number r → n < 2 ^ 64 → PrintsOn p refused_word p₁ → PrintsOn p₁ (decimal n) p₂ → PrintsOn p₂ (10 ∷ []) p₃
+      → PrintsAnswer p (refused (refusal_number r)) 29 p₃
+  refused_printed r n e w q s t =
+      let line : Bytes = refused_word ++ decimal n in
+      rw (← e)
+      (record {
+        prints = prints_then p line p₂ (10 ∷ []) p₃ (prints_then p refused_word p₁ (decimal n) p₂ q s) t;
+        few = omega (arith, length-append line (10 ∷ []), length-append refused_word (decimal n), decimal-length-word n w);
+      })
+
+  pub rows_printed : (cs : List Clause) (count : ℕ) (pairs words : List ℕ) (p₄ : Printer) → InFront cs count pairs words → ((i : ℕ) → get_or words i 0 < 2 ^ 64) → length words < 2 ^ 64 → count < 2 ^ 64
+      → PrintsOn p rows_word p₁ → PrintsOn p₁ (decimal count) p₂ → PrintsOn p₂ (10 ∷ []) p₃ → PrintsOn p₃ (lines_from 0 cs) p₄ → PrintsAnswer p (got cs) (room_for (got cs)) p₄
+  rows_printed cs count pairs words p₄ f small n w q s t u =
+      let line : Bytes = rows_word ++ decimal count in
+      let lines : Bytes = lines_from 0 cs in
+      let all : printed (got cs) ≡ line ++ 10 ∷ lines = ap (λ (k : ℕ). (rows_word ++ decimal k) ++ 10 ∷ lines) f.counted in
+      let literals : Each Word (literals_of cs) = each_left (literals_of cs) f.other_words (each_word (literals_of cs ++ f.other_words) (rw f.words_are at small)) in
+      let size : length words ≡ length (literals_of cs) + length f.other_words = ap length f.words_are ∙ length-append (literals_of cs) f.other_words in
+      record {
+        prints =
+            prints_as p ((line ++ 10 ∷ []) ++ lines) p₄ (printed (got cs)) (append_assoc line (10 ∷ []) lines ∙ sym all)
+            (prints_then p (line ++ 10 ∷ []) p₃ lines p₄ (prints_then p line p₂ (10 ∷ []) p₃ (prints_then p rows_word p₁ (decimal count) p₂ q s) t) u);
+        few =
+            omega
+            (arith, ap length all, length-append line (10 ∷ lines), length-append rows_word (decimal count), decimal-length-word count w, lines-length 0 cs (omega (arith, size)) literals);
+      }
+
+-- bytes that are more than enough
+pub more_room : (p : Printer) (a : Answer (List Clause)) (most : ℕ) (p' : Printer) (room : ℕ) → most ≤ room → PrintsAnswer p a most p' → PrintsAnswer p a room p'
+more_room p a most p' room h q = record { prints = q.prints; few = omega (arith, q.few) }

@@ -4,19 +4,20 @@
 ghost use Rattle.std.specs.Prelude.{◌≡◌, [], ◌∷◌, ◌++◌, ◌+◌, ◌*◌, ◌≤◌, ◌<◌, length, drop};
 ghost use Rattle.lists.specs.Answer.{got, refused};
 ghost use Rattle.lists.specs.Parts.{part};
-ghost use Rattle.scan.specs.Spans.{span};
-ghost use Rattle.text_decimal.specs.Decimal.{decimal};
-ghost use Rattle.text_decimal.specs.Inner.Writing.{Wrote};
+ghost use Rattle.text_decimal.specs.Printed.{number_line, text_of};
+ghost use Rattle.text_print.specs.Inner.Prints.{PrintsOn};
+ghost use Rattle.aiger.specs.Refusals.{refusal_number};
 ghost use Rattle.cnf.specs.Clauses.{returned};
-ghost use Rattle.row_text.specs.RowProgram.{pieces, numbers_of, printed, row_text, bare, RowWrites};
-ghost use Rattle.row_text.specs.Inner.Steps.{in_piece, answer_in, spaced_numbers, clause_bytes, clauses_bytes, numbers_in, InFront, Prints};
 ghost use Rattle.obligation_spec.specs.Calls.{relation_row};
-ghost use Rattle.row_text.specs.Inner.Made.{made_answer, Printable, PrintsIn, PrintsFor};
+ghost use Rattle.row_text.specs.RowProgram.{pieces, numbers_of, bare, row_for, row_answer, clause_lines, RowWrites};
+ghost use Rattle.row_text.specs.Inner.Steps.{in_piece, answer_in, InFront};
+ghost use Rattle.row_text.specs.Inner.Made.{made_answer, Standing, room_for, PrintsAnswer, PrintsIn};
 
 use aiger::Refusal;
 use cnf::ClauseCounts;
 use model::AigerTransition;
 use text::ByteTest;
+use text_print::Printer;
 
 // A byte that is no space.
 struct InPiece {}
@@ -46,104 +47,68 @@ fn read_numbers(line: &[u8], numbers: &mut [u64]) -> Option<usize>
     Some(count)
 }
 
-// Writes some bytes and then the digits of a number, which has at most 20.
-fn write_number(out: &mut [u8], at: usize, before: &[u8], n: u64) -> usize
-    requires { at + (length before.now + 20) ≤ length out.old }
-    ensures { Prints out.old at (before.now ++ decimal n) (length before.now + 20) out.new result }
-{
-    let Some(start) = text_decimal::write_bytes(out, at, before) else {
-        return at;
-    };
-    let Some(end) = text_decimal::write_decimal(out, start, n) else {
-        return at;
-    };
-    end
-}
-
-// Writes the literals of a clause, each with a space in front.
-fn write_words(out: &mut [u8], at: usize, words: &[u32]) -> usize
-    requires { at + 21 * length words.now ≤ length out.old }
-    ensures { Prints out.old at (spaced_numbers words.now) (21 * length words.now) out.new result }
-{
-    let mut to = at;
-    for word in words {
-        to = write_number(out, to, b" ", u64::from(*word));
-    }
-    to
-}
-
-// Writes the line of a clause after the end of the line ahead.
-fn write_clause(out: &mut [u8], at: usize, literals: &[u32], offset: u64, size: u64) -> usize
-    requires { (offset + size ≤ length literals.now) × (at + 21 * (size + 2) ≤ length out.old) }
-    ensures { Prints out.old at (clause_bytes offset (part literals.now offset (offset + size))) (21 * (size + 2)) out.new result }
+// Prints the line of a clause.
+fn print_clause(to: &mut Printer, literals: &[u32], offset: u64, size: u64)
+    requires { offset + size ≤ length literals.now }
+    ensures { PrintsOn to.old (number_line (offset ∷ size ∷ part literals.now offset (offset + size)) ++ 10 ∷ []) to.new }
 {
     let start = offset as usize;
     let end = start + size as usize;
-    let second = write_number(out, at, b"\n", offset);
-    let third = write_number(out, second, b" ", size);
-    write_words(out, third, &literals[start..end])
+    to.number(offset);
+    to.field(size);
+    to.fields(&literals[start..end]);
+    to.byte(10);
 }
 
-// Writes the lines of all clauses.
-fn write_clauses(out: &mut [u8], at: usize, pairs: &[u64], literals: &[u32], count: usize) -> usize
-    requires { InFront (returned count pairs.now literals.now) count pairs.now literals.now × (at + 21 * numbers_in (returned count pairs.now literals.now) ≤ length out.old) }
-    ensures { Prints out.old at (clauses_bytes 0 (returned count pairs.now literals.now)) (21 * numbers_in (returned count pairs.now literals.now)) out.new result }
+// Prints the lines of all clauses.
+fn print_clauses(to: &mut Printer, pairs: &[u64], literals: &[u32], count: usize)
+    requires { InFront (returned count pairs.now literals.now) count pairs.now literals.now }
+    ensures { PrintsOn to.old (text_of (clause_lines 0 (returned count pairs.now literals.now))) to.new }
 {
-    let mut to = at;
     for i in 0..count {
-        to = write_clause(out, to, literals, pairs[2 * i], pairs[2 * i + 1]);
+        print_clause(to, literals, pairs[2 * i], pairs[2 * i + 1]);
     }
-    to
 }
 
-// Writes the end of a line.
-fn write_end(out: &mut [u8], at: usize) -> usize
-    requires { at < length out.old }
-    ensures { Prints out.old at (10 ∷ []) 1 out.new result }
+// Prints clauses, of which each number takes 21 bytes at most.
+fn print_rows(to: &mut Printer, pairs: &[u64], literals: &[u32], count: usize)
+    requires { InFront (returned count pairs.now literals.now) count pairs.now literals.now }
+    ensures { PrintsAnswer to.old (got (returned count pairs.now literals.now)) (room_for (got (returned count pairs.now literals.now))) to.new }
 {
-    let Some(end) = text_decimal::write_byte(out, at, 10) else {
-        return at;
-    };
-    end
-}
-
-// Prints the clauses.
-fn write_rows(out: &mut [u8], pairs: &[u64], literals: &[u32], count: usize) -> usize
-    requires { InFront (returned count pairs.now literals.now) count pairs.now literals.now × (21 * numbers_in (returned count pairs.now literals.now) + 26 ≤ length out.old) }
-    ensures { Wrote out.old 0 (printed (got (returned count pairs.now literals.now))) out.new result }
-{
-    let first = write_number(out, 0, b"rows ", count as u64);
-    let end = write_clauses(out, first, pairs, literals, count);
-    write_end(out, end)
+    to.bytes(b"rows ");
+    to.number(count as u64);
+    to.byte(10);
+    print_clauses(to, pairs, literals, count);
 }
 
 // Prints a refusal.
-fn write_refused(out: &mut [u8], n: u64) -> usize
-    requires { 29 ≤ length out.old }
-    ensures { Wrote out.old 0 (printed (refused n)) out.new result }
+fn print_refused(to: &mut Printer, refusal: Refusal)
+    ensures { PrintsAnswer to.old (refused (refusal_number refusal)) 29 to.new }
 {
-    let end = write_number(out, 0, b"refused ", n);
-    write_end(out, end)
+    to.bytes(b"refused ");
+    to.number(u64::from(refusal));
+    to.byte(10);
 }
 
 // Prints an answer.
 fn print_made(
+    to: &mut Printer,
     made: Result<ClauseCounts, Refusal>,
     pairs: &[u64],
     literals: &[u32],
-    out: &mut [u8],
-) -> usize
-    requires { Printable made pairs.now literals.now (length out.old) }
-    ensures { Wrote out.old 0 (printed (made_answer made pairs.now literals.now)) out.new result }
+)
+    requires { Standing made pairs.now literals.now }
+    ensures { PrintsAnswer to.old (made_answer made pairs.now literals.now) (room_for (made_answer made pairs.now literals.now)) to.new }
 {
     match made {
-        Ok(made) => write_rows(out, pairs, literals, made.clauses),
-        Err(refusal) => write_refused(out, u64::from(refusal)),
+        Ok(made) => print_rows(to, pairs, literals, made.clauses),
+        Err(refusal) => print_refused(to, refusal),
     }
 }
 
 // Makes the clauses of a row, without relevant inputs or predicate, and prints them.
 fn print_row(
+    to: &mut Printer,
     model: AigerTransition,
     gates: &[u64],
     source: u64,
@@ -151,10 +116,8 @@ fn print_row(
     work: &mut [u64],
     pairs: &mut [u64],
     literals: &mut [u32],
-    out: &mut [u8],
-) -> usize
-    requires { 21 * (length pairs.old + length literals.old) + 29 ≤ length out.old }
-    ensures { Wrote out.old 0 (printed (relation_row (bare model gates.now) source targets.now (record { work = length work.old; pairs = length pairs.old; literals = length literals.old }))) out.new result }
+)
+    ensures { PrintsAnswer to.old (relation_row (bare model gates.now) source targets.now (record { work = length work.old; pairs = length pairs.old; literals = length literals.old })) (21 * (length pairs.old + length literals.old) + 29) to.new }
 {
     let none = [0u32; 1];
     let made = obligation::relation_row_completeness_cnf(
@@ -169,27 +132,27 @@ fn print_row(
         pairs,
         literals,
     );
-    print_made(made, pairs, literals, out)
+    print_made(to, made, pairs, literals);
 }
 
 // Reads the model and prints the row for it, with the lent words.
 fn print_for(
+    to: &mut Printer,
     numbers: &[u64],
     text: &[u8],
     gates: &mut [u64],
     work: &mut [u64],
     pairs: &mut [u64],
     literals: &mut [u32],
-    out: &mut [u8],
-) -> usize
-    requires { 21 * (length pairs.old + length literals.old) + 29 ≤ length out.old }
-    ensures { PrintsIn numbers.now text.now gates.old (length work.old) (length pairs.old) (length literals.old) out.old result out.new }
+)
+    ensures { PrintsIn to.old numbers.now text.now gates.old (length work.old) (length pairs.old) (length literals.old) to.new }
 {
     if numbers.len() == 0 {
-        return write_refused(out, 14);
+        return print_refused(to, Refusal::Claim);
     }
     match model_read::parse_ascii_aiger_transition(text, gates, work) {
         Ok(model) => print_row(
+            to,
             model,
             gates,
             numbers[0],
@@ -197,9 +160,8 @@ fn print_for(
             work,
             pairs,
             literals,
-            out,
         ),
-        Err(refusal) => write_refused(out, u64::from(refusal)),
+        Err(refusal) => print_refused(to, refusal),
     }
 }
 
@@ -211,39 +173,37 @@ fn after_line(input: &[u8], end: usize) -> &[u8]
 }
 
 // Prints the row for the numbers of the first line and the text after it, with the words that R14.4 lends.
-fn print_lent(numbers: &[u64], text: &[u8], out: &mut [u8]) -> usize
-    requires { 700000 ≤ length out.old }
-    ensures { PrintsFor numbers.now text.now out.old result out.new }
+fn print_lent(to: &mut Printer, numbers: &[u64], text: &[u8])
+    ensures { PrintsAnswer to.old (row_for numbers.now text.now) 700000 to.new }
 {
     let mut gates = [0u64; 6000];
     let mut work = [0u64; 2100];
     let mut pairs = [0u64; 16384];
     let mut literals = [0u32; 16384];
     print_for(
+        to,
         numbers,
         text,
         &mut gates,
         &mut work,
         &mut pairs,
         &mut literals,
-        out,
-    )
+    );
 }
 
 // Prints what the program answers.
-fn print_text(input: &[u8], out: &mut [u8]) -> usize
-    requires { 700000 ≤ length out.old }
-    ensures { Wrote out.old 0 (row_text input.now) out.new result }
+fn print_text(to: &mut Printer, input: &[u8])
+    ensures { PrintsAnswer to.old (row_answer input.now) 700000 to.new }
 {
     if 16384 < input.len() {
-        return write_refused(out, 3);
+        return print_refused(to, Refusal::Text);
     }
     let mut numbers = [0u64; 16385];
     let end = scan::line_end(input, 0);
     let Some(n) = read_numbers(&input[..end], &mut numbers) else {
-        return write_refused(out, 14);
+        return print_refused(to, Refusal::Claim);
     };
-    print_lent(lists::first(&numbers, n), after_line(input, end), out)
+    print_lent(to, lists::first(&numbers, n), after_line(input, end));
 }
 
 // The output of the row program for an input: 700,000 bytes are enough for every one, and with fewer nothing is written.
@@ -253,5 +213,7 @@ pub fn row(input: &[u8], out: &mut [u8]) -> usize
     if out.len() < 700000 {
         return 0;
     }
-    print_text(input, out)
+    let mut to = Printer { out, at: 0 };
+    print_text(&mut to, input);
+    to.at
 }

@@ -1,8 +1,9 @@
 -- The digits of a number of any size: how they come about, how many they are, and which bytes they are.
-use Prim.Native.Nat.{ℕ, zero, suc, ◌+◌, ◌/◌, ◌%◌, ◌^◌, ◌≤◌, ◌<◌}
+use Prim.Native.Nat.{ℕ, zero, suc, max, ◌+◌, ◌*◌, ◌/◌, ◌%◌, ◌^◌, ◌≤◌, ◌<◌}
 use mathlib.Core.Path.{◌≡◌, refl, ap, ◌∙◌}
 use mathlib.Core.List.{[], ◌∷◌, ◌++◌}
 use mathlib.Core.Bool.{Bool, true, false}
+use native.Mathlib.Nat.{pow-succ'}
 use native.Mathlib.Omega.{arith}
 use borrow.Author.Tests.{ltb-true, ltb-false, lt-ltb, le-ltb}
 use lib.Dec.{ltb}
@@ -85,6 +86,31 @@ decimal-length_le (suc (suc k)) n z h = by_size (ltb n 10) refl (decimal-length_
 
 pub decimal-length-word : (n : ℕ) → n < 2 ^ 64 → length (decimal n) ≤ 20
 decimal-length-word n h = decimal-length_le 20 n (omega arith) (omega arith)
+
+ten_pos : (k : ℕ) → 0 < 10 ^ k
+ten_pos zero = omega arith
+ten_pos (suc k) = rw (pow-succ' 10 k) (omega (arith, ten_pos k))
+
+-- more than k digits from 10^k on
+digits-over : (k n : ℕ) → 10 ^ k ≤ n → k < length (decimal n)
+digits-over zero n h = decimal-some n
+digits-over (suc k) n h =
+    let p : 10 * 10 ^ k ≤ n = rw (pow-succ' 10 k) at h in
+    omega (arith, digits-over k (n / 10) (omega arith), length_more n (omega (arith, ten_pos k)))
+
+pub digits_are : (n k : ℕ) → 10 ^ k ≤ n → n < 10 ^ suc k → suc k ≡ length (decimal n)
+digits_are n k h l = omega (arith, digits-over k n h, decimal-length_le (suc k) n (omega arith) l)
+
+-- the largest power of ten that is not above n, or above 1
+pub digits-counted : (n m k : ℕ) → m ≡ max n 1 → 10 ^ k ≤ m → m < 10 * 10 ^ k → k + 1 ≡ length (decimal n)
+digits-counted n m k e h l = by_zero n e
+  where
+    there : suc k ≡ length (decimal m)
+    there = digits_are m k h (rw (pow-succ' 10 k) l)
+
+    by_zero : (j : ℕ) → m ≡ max j 1 → k + 1 ≡ length (decimal j)
+    by_zero zero q = omega (arith, length_one 0 (omega arith), length_one m (omega arith), there)
+    by_zero (suc j) q = let same : m ≡ suc j = omega arith in omega (arith, there, ap (λ (x : ℕ). length (decimal x)) same)
 
 -- ---- which bytes
 

@@ -5,7 +5,7 @@ use mathlib.Core.Path.{◌≡◌, refl, sym, ap, ◌∙◌}
 use mathlib.Core.Bool.{Bool, true, false, cond}
 use mathlib.Core.List.{[], ◌∷◌, ◌++◌, append-nil}
 use native.Mathlib.Omega.{arith}
-use borrow.Author.Tests.{leb-true, leb-false, le-leb, lt-leb}
+use borrow.Author.Tests.{leb-true, le-leb, lt-leb}
 use lib.Dec.{leb}
 use borrow.Rule.Slice.PartMut.{put_mid}
 use lib.ListN.{length, take, drop, set, length-set, drop_of_length-le}
@@ -35,10 +35,6 @@ module _ (o : Bytes) (at : ℕ) (bytes : Bytes) where
 
 -- ---- what a caller learns
 
-pub record Kept (o : Bytes) (at : ℕ) (bytes o' : Bytes) : Type 0 where
-  pub over : length o < at + length bytes
-  pub is : o' ≡ o
-
 module _ (o : Bytes) (at : ℕ) (bytes o' : Bytes) (r : Option ℕ) where
   pub wrote : (next : ℕ) → r ≡ written_at (length o) at bytes → o' ≡ written o at bytes → r ≡ Some next → Wrote o at bytes o' next
   unfolding written_at written
@@ -53,18 +49,6 @@ module _ (o : Bytes) (at : ℕ) (bytes o' : Bytes) (r : Option ℕ) where
       by-room false t e k =
           let never : ◌≡◌ {A = ℕ} 0 1 = cc in
           absurd (omega arith)
-
-  pub kept : r ≡ written_at (length o) at bytes → o' ≡ written o at bytes → r ≡ None → Kept o at bytes o'
-  unfolding written_at written
-  kept e k m = by-room (leb (at + length bytes) (length o)) refl e k
-    where
-      by-room :
-          (q : Bool) → leb (at + length bytes) (length o) ≡ q → r ≡ cond q (Some (at + length bytes)) None → o' ≡ cond q (put o at bytes) o
-          → Kept o at bytes o'
-      by-room true t e k =
-          let never : ◌≡◌ {A = ℕ} 0 1 = cc in
-          absurd (omega arith)
-      by-room false t e k = record { over = leb-false (at + length bytes) (length o) t; is = k }
 
 -- the bytes written stand in the buffer, and reading a number's digits there gives the number
 module _ (o : Bytes) (at : ℕ) (o' : Bytes) (next : ℕ) where

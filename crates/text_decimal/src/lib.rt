@@ -1,5 +1,6 @@
 // Numbers, single bytes and constants written into a lent buffer: each function answers where to write on, or none where the bytes do
 // not fit; then none of them is written.
+// Kept (travel): these answer for one write at a place, and the printer of `text_print`, which goes on and counts, stands above them.
 #![tactic(auto)]
 
 ghost use Rattle.std.specs.Prelude.{◌≡◌, [], ◌∷◌, ◌+◌, ◌≤◌, length, SomeIff};
@@ -10,18 +11,11 @@ ghost use Rattle.text_decimal.specs.Inner.Writing.{written, written_at};
 pub fn decimal_length(n: u64) -> usize
     ensures { result ≡ length (decimal n) }
 {
-    let mut rest = n;
-    let mut count: usize = 1;
-    // Kept (loop): what is left falls to its tenth.
-    while 10 <= rest {
-        rest = rest / 10;
-        count += 1;
-    }
-    count
+    n.max(1).ilog10() as usize + 1
 }
 
 // Where n bytes from a place on end, if a buffer has room for them.
-pub fn end_within(room: usize, at: usize, n: usize) -> Option<usize>
+fn end_within(room: usize, at: usize, n: usize) -> Option<usize>
     ensures { SomeIff result (at + n ≤ room) (at + n) }
 {
     let left = room.checked_sub(at)?;

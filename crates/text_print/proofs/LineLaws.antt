@@ -1,17 +1,22 @@
 -- Fields, and the lines of literals and gates, one after the other, as the loops print them.
 use Prim.Native.Nat.{ℕ, suc, ◌+◌, ◌-◌, ◌*◌, ◌≤◌, ◌<◌}
 use mathlib.Core.Path.{◌≡◌, refl, sym, ap, ◌∙◌}
-use mathlib.Core.List.{List, [], ◌∷◌, ◌++◌, append_assoc}
+use mathlib.Core.List.{List, [], ◌∷◌, ◌++◌, map, append_assoc, append-nil}
 use native.Mathlib.Numerals.{add-one}
 use native.Mathlib.Omega.{arith}
 use lib.ListN.{length, get_or, drop, length-drop, drop_of_length-le}
 use Rattle.lists.specs.Parts.{Bytes}
 use Rattle.lists.proofs.RestLaws.{rest_more}
 use Rattle.text_decimal.specs.Decimal.{decimal}
-use Rattle.text_decimal.specs.Printed.{number_line, text_of}
+use Rattle.text_decimal.specs.Printed.{spaced, number_line, text_of}
 use Rattle.text_print.specs.Inner.Lines.{fields_text, literal_lines, literals_from, gate_lines}
 
 -- ---- fields
+
+-- fields behind a first one
+pub spaced_fields : (f : Bytes) (ns : List ℕ) → spaced (f ∷ map decimal ns) ≡ f ++ fields_text (λ n. n) ns
+spaced_fields f [] = sym (append-nil f)
+spaced_fields f (n ∷ ns) = ap (λ (x : Bytes). f ++ 32 ∷ x) (spaced_fields (decimal n) ns)
 
 module _ {A : Type 0} (value : A → ℕ) (xs : List A) (i : ℕ) where
   pub fields-more : (x : A) (n : ℕ) → i < length xs → x ≡ get_or xs i x → n ≡ value x → fields_text value (drop i xs) ≡ (32 ∷ decimal n) ++ fields_text value (drop (i + 1) xs)

@@ -98,12 +98,6 @@ module _ (ws : List ℕ) (e : ℕ) (p₀ : Printer) (all : Bytes) (p : Printer) 
   bits_left : (t : ℕ) → 2 ^ t ≤ rest → t < w.left
   bits_left t h = ⊎_elim (λ b. b) (λ b. absurd (omega (arith, pow_mono {i = w.left} {j = t} b, w.bits.small))) (below_or t w.left)
 
-  pub word_room : 0 < rest → k < e
-  word_room h = omega (arith, bits_left 0 h, w.ends)
-
-  pub word-room_eight : 0 < rest → rest % 256 ≡ 0 → k + 8 < e
-  word-room_eight h z = omega (arith, bits_left 8 (omega arith), w.ends)
-
   skipped : (t rest' : ℕ) → t ≤ w.left → rest ≡ 2 ^ t * rest' → InWord ws e p₀ all p (k + t) rest'
   skipped t rest' h z =
       let q : Passed ws k w.left t rest' = bits-zeros ws t k w.left rest' h (rw (← z) w.bits) in

@@ -1,32 +1,14 @@
 -- Digits, fields and lines written where there is room for them.
-use Prim.Native.Nat.{ℕ, zero, suc, ◌+◌, ◌-◌, ◌*◌, ◌/◌, ◌%◌, ◌^◌, ◌≤◌, ◌<◌}
+use Prim.Native.Nat.{ℕ, ◌+◌, ◌-◌, ◌*◌, ◌/◌, ◌%◌, ◌≤◌, ◌<◌}
 use mathlib.Core.Path.{◌≡◌, refl, sym, ap, ◌∙◌}
 use mathlib.Core.List.{[], ◌∷◌, ◌++◌, append_assoc}
-use native.Mathlib.Nat.{pow-succ'}
 use native.Mathlib.Omega.{arith}
 use lib.ListN.{length, set, length-append}
 use Rattle.lists.specs.Parts.{Bytes, put}
 use Rattle.lists.proofs.PartLaws.{put_one, put-put, put-length}
 use Rattle.text_decimal.specs.Decimal.{decimal}
 use Rattle.text_decimal.specs.Printed.{number_line}
-use Rattle.text_decimal.proofs.DecimalLaws.{decimal-some, decimal-length_le, length_more}
 use Rattle.text_decimal.proofs.WritingLaws.{Writing, writing_more, writing-done}
-
--- ---- how many digits
-
-ten_pos : (k : ℕ) → 0 < 10 ^ k
-ten_pos zero = omega arith
-ten_pos (suc k) = rw (pow-succ' 10 k) (omega (arith, ten_pos k))
-
--- more than k digits from 10^k on
-digits-over : (k n : ℕ) → 10 ^ k ≤ n → k < length (decimal n)
-digits-over zero n h = decimal-some n
-digits-over (suc k) n h =
-    let p : 10 * 10 ^ k ≤ n = rw (pow-succ' 10 k) at h in
-    omega (arith, digits-over k (n / 10) (omega arith), length_more n (omega (arith, ten_pos k)))
-
-pub digits_are : (n k : ℕ) → 10 ^ k ≤ n → n < 10 ^ suc k → suc k ≡ length (decimal n)
-digits_are n k h l = omega (arith, digits-over k n h, decimal-length_le (suc k) n (omega arith) l)
 
 -- ---- digits, two at a time
 

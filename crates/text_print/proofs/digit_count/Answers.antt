@@ -1,7 +1,6 @@
 use mathlib.Core.Path.{sym}
 use native.Mathlib.Omega.{arith}
-use Rattle.text_decimal.proofs.DecimalLaws.{length_one, decimal-length-word}
-use Rattle.text_print.proofs.WriteLaws.{digits_are}
+use Rattle.text_decimal.proofs.DecimalLaws.{length_one, digits_are, decimal-length-word}
 use borrow.Author.Rules.{rules}
 use Rattle.text_print.proofs.digit_count.Goals as goal
 

@@ -1,6 +1,0 @@
-use Rattle.cnf.specs.Clauses.{returned}
-use Rattle.row_text.proofs.PrintLaws.{Listing}
-use Rattle.row_text.proofs.write_clauses.Given as goal
-
-abbrev pub invariant-loop-i : goal.invariant-loop-i
-invariant-loop-i l = Listing (returned l.count l.pairs l.literals) l.count l.pairs l.literals l.initial.out l.at l.out l.to l.i
