@@ -36,4 +36,3 @@ name_said t start size name h = go (eqb start 0) refl h
     go false e k =
         let f = found (leb (start + size) (length t)) refl k in
         record { own = rw e f.0; within = f.1 }
-

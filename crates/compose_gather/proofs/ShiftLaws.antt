@@ -8,13 +8,12 @@ use lib.ListN.{length, get_or, set, length-map, get_or-map, drop_of_length-le}
 use Rattle.lists.specs.Parts.{put}
 use Rattle.lists.proofs.PartLaws.{Copied, copied_none, copied_more, copied-done, put_front}
 use Rattle.witness_text.specs.declared.AagCounts.{AagCounts}
-use Rattle.compose_joint.specs.declared.Before.{Before}
 use Rattle.compose_joint.specs.declared.Shift.{Shift}
 use Rattle.compose_joint.specs.declared.Literals.{Literals}
 use Rattle.compose_joint.specs.declared.Literals.TheVariants as literals
 use Rattle.compose_joint.specs.Inner.Joint.{shifted, shifted_literal}
 use Rattle.compose_gather.specs.declared.Range.{Range}
-use Rattle.compose_gather.specs.Inner.Gathered.{range_of, Shiftable, CanShift, CanShiftRange, SmallWord, shift_for, CanShiftList, ShiftsRange}
+use Rattle.compose_gather.specs.Inner.Gathered.{range_of, Shiftable, CanShift, SmallWord}
 
 -- ---- one variable
 
@@ -97,12 +96,3 @@ module _ (h : Shift) (xs ys₀ ys : List ℕ) (i : ℕ) (k : Shifting h xs ys₀
               (subst (λ (j : ℕ). Copied ys₀ 0 (map (shifted_literal h) xs) (set ys j (get_or (map (shifted_literal h) xs) i 0)) (i + 1)) first
               (copied_more ys₀ 0 (map (shifted_literal h) xs) ys i k.copied 0 (omega (arith, less, length-map xs (shifted_literal h)))));
         }
-
--- ---- a list of one witness
-
-module _ (kind : Literals) (n : AagCounts) (i q : ℕ) (b : Before) (work : List ℕ) (from to : ℕ) (h : Shift) (f : h ≡ shift_for i q b n) (range : Range) (e : range ≡ range_of kind n) where
-  pub list_can : CanShiftList kind n (shift_for i q b n) work from to → CanShiftRange range h work from to
-  list_can k = rw (e, f) k.can
-
-  pub list_shifted : (work' : List ℕ) (r : ℕ) → ShiftsRange range h work from to work' r → ShiftsRange (range_of kind n) (shift_for i q b n) work from to work' r
-  list_shifted work' r k = subst (λ (x : Range). ShiftsRange x (shift_for i q b n) work from to work' r) e (subst (λ (y : Shift). ShiftsRange range y work from to work' r) f k)

@@ -34,6 +34,7 @@ pub struct Range {
 }
 
 // So many bytes from a place on.
+// Kept (buffer): this is where a start and a size, as pairs of words say them, become a slice.
 fn piece(s: &[u8], start: usize, size: usize) -> &[u8]
     requires { start + size ≤ length s.now }
     ensures { result.now ≡ part s.now start (start + size) }

@@ -2,13 +2,14 @@
 ghost use Rattle.std.specs.Prelude.{map, ◌≡◌, ◌+◌, ◌<◌};
 ghost use Rattle.lists.specs.Parts.{part, put};
 ghost use Rattle.compose_joint.specs.Inner.Joint.{shifted, shifted_literal, joint_literals, list_of};
-ghost use Rattle.compose_gather.specs.Inner.Gathered.{words_for, range_of, Shiftable, SmallWord, CanShift, CanShiftRange, shift_for, beyond_counts, SmallBefore, CanShiftList, ShiftsRange, literal_count, CanGather, RightTotals, Gathers};
+ghost use Rattle.compose_gather.specs.Inner.Gathered.{words_for, range_of, Shiftable, SmallWord, CanShift, CanShiftRange, shift_for, beyond_counts, SmallBefore, ShiftsRange, literal_count, CanGather, RightTotals, Gathers};
 
 use crate::{Range, Witnesses};
 use compose_joint::{Before, Literals, Shift};
 use witness_text::AagCounts;
 
 // Where a list of literals stands among the words of a text with these counts.
+// Kept (switch): nothing else tells one list from another, so four functions would be no plainer.
 fn range_of(kind: Literals, counts: AagCounts) -> Range
     requires { words_for counts < 18446744073709551616 }
     ensures { result ≡ range_of kind counts }
@@ -119,26 +120,6 @@ fn shift_range(range: Range, by: Shift, work: &mut [u64], from: usize, to: usize
     to + range.count
 }
 
-// A list of one witness, whose words begin at a place, written as joint literals from another place on. Returns the place after it.
-fn shift_list(
-    kind: Literals,
-    counts: AagCounts,
-    inputs: usize,
-    latches: usize,
-    before: Before,
-    work: &mut [u64],
-    from: usize,
-    to: usize,
-) -> usize
-    requires small_before { SmallBefore inputs latches before counts }
-    requires can_shift_list { CanShiftList kind counts (shift_for inputs latches before counts) work.old from to }
-    ensures { ShiftsRange (range_of kind counts) (shift_for inputs latches before counts) work.old from to work.new result }
-{
-    let by = shift_of(inputs, latches, before, counts);
-    let range = range_of(kind, counts);
-    shift_range(range, by, work, from, to)
-}
-
 // A list of all witnesses, from a place on. Returns the place after it.
 pub fn gather(
     witnesses: &Witnesses,
@@ -162,7 +143,8 @@ pub fn gather(
     for w in 0..witnesses.len() {
         let n = witnesses.counts_of(w);
         let next = crate::after_words(n, from, at);
-        at = shift_list(kind, n, inputs, latches, b, work, from, at);
+        let by = shift_of(inputs, latches, b, n);
+        at = shift_range(range_of(kind, n), by, work, from, at);
         from = next;
         b = pass(inputs, latches, b, n);
     }

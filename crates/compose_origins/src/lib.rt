@@ -114,6 +114,7 @@ fn origin_word(w: usize, mapping: Mapping) -> Option<u64>
 }
 
 // The origins of as many inputs or latches of witness w, whose names pairs of words say; or nothing where a literal is wrong (R9.16).
+// Kept (switch): `named` as in `mapping_of`.
 fn store_origins(
     text: &[u8],
     names: &[u64],

@@ -147,11 +147,6 @@ pub record SmallBefore (i q : ℕ) (b : Before) (n : AagCounts) : Type 0 where
   pub few_inputs : i < 1073741824
   pub few_latches : q < 1073741824
 
--- a list of a witness may be written as joint literals: its words stand from one place on, and there is room from another
-pub record CanShiftList (kind : Literals) (n : AagCounts) (h : Shift) (work : List ℕ) (from to : ℕ) : Type 0 where
-  pub words : from + words_for n ≤ to
-  pub can : CanShiftRange (range_of kind n) h work from to
-
 -- the literals of a range stand from a place on as joint literals, and r is the place after them
 pub record ShiftsRange (range : Range) (h : Shift) (work : List ℕ) (from to : ℕ) (work' : List ℕ) (r : ℕ) : Type 0 where
   pub is : work' ≡ put work to (map (shifted_literal h) (part work (from + range.start) (from + range.start + range.count)))
