@@ -60,20 +60,20 @@ fn compose_laid(
     work: &mut [u64],
     model_counts: AagCounts,
     totals: Totals,
-    at: Layout,
+    layout: Layout,
     out: &mut [u8],
 ) -> Result<usize, Refusal>
-    requires { LaidSome model_counts totals witnesses.now.texts.bytes.now witnesses.now.texts.pairs.now work.old at }
-    ensures { ComposesLaid model_counts totals witnesses.now.texts.bytes.now witnesses.now.texts.pairs.now work.old at out.old out.new result }
+    requires { LaidSome model_counts totals witnesses.now.texts.bytes.now witnesses.now.texts.pairs.now work.old layout }
+    ensures { ComposesLaid model_counts totals witnesses.now.texts.bytes.now witnesses.now.texts.pairs.now work.old layout out.old out.new result }
 {
-    let merged = compose_merge::merge(work, at, model_counts, totals)?;
+    let merged = compose_merge::merge(work, layout, model_counts, totals)?;
     if !all_safe(witnesses) {
         return Err(Refusal::NoSafety);
     }
     let composition = Composition {
         witnesses: *witnesses,
         work,
-        at,
+        at: layout,
         merged,
         totals,
     };
@@ -91,10 +91,10 @@ fn compose_fitting(
     requires { CanLay model_counts totals witnesses.now.texts.bytes.now witnesses.now.texts.pairs.now work.old }
     ensures { ComposesFitting model_counts totals witnesses.now.texts.bytes.now witnesses.now.texts.pairs.now work.old out.old out.new result }
 {
-    let Some(at) = compose_layout::lay(witnesses, work, model_counts, totals) else {
+    let Some(layout) = compose_layout::lay(witnesses, work, model_counts, totals) else {
         return Err(Refusal::Mapping);
     };
-    compose_laid(witnesses, work, model_counts, totals, at, out)
+    compose_laid(witnesses, work, model_counts, totals, layout, out)
 }
 
 // Reads the witnesses and composes them, for a model with these counts.

@@ -38,6 +38,7 @@ fn gate_key(work: &[u64], at: usize, vars: usize) -> u64
 }
 
 // The number of a key in the table at a place, where a new one is added.
+// Kept (buffer): this is where the table is cut out of the words.
 fn number_of(work: &mut [u64], table: usize, count: usize, shared: usize, key: u64) -> usize
     requires { Findable table count shared key work.old }
     ensures { FindsIn table count shared key work.old work.new result }
@@ -49,6 +50,7 @@ fn number_of(work: &mut [u64], table: usize, count: usize, shared: usize, key: u
 // How many gates the composition has, or none (R9.17): equal unordered operand pairs share a gate. The composed variables of the gates are stored behind
 // those of the `known` joint variables.
 // Kept (travel): this call and `define_latches` name different places of the one lent slice, and each is called once: a struct would be made for one call.
+// Kept (buffer): operands, variables and table are parts of that slice, which the laws of `compose_merge` follow as one list through all passes.
 pub fn share_gates(
     work: &mut [u64],
     operands: usize,
@@ -90,6 +92,7 @@ fn same_pair(work: &[u64], at: usize, x: u64, y: u64) -> bool
 }
 
 // Whether the latch whose words stand at `at` is as its first definition, which stands at `place`; where there is none yet, it is stored there.
+// Kept (switch): both ways begin with the same two translated words, and the loop says which latch was met before.
 fn define_latch(work: &mut [u64], at: usize, vars: usize, place: usize, known: bool) -> bool
     requires { Storable at vars place work.old }
     ensures { DefinesLatch at vars place work.old work.new known result }
@@ -105,6 +108,7 @@ fn define_latch(work: &mut [u64], at: usize, vars: usize, place: usize, known: b
 }
 
 // How many latches the composition has where all definitions of each agree, or none (R9.18). The first definition of each composed latch is stored from the place `definitions` on.
+// Kept (buffer): as in `share_gates`.
 pub fn define_latches(
     work: &mut [u64],
     words: usize,

@@ -1,5 +1,6 @@
 -- Laws of gathering.
 pub mod TextLaws
+pub mod NameLaws
 pub mod CountLaws
 pub mod RoomLaws
 pub mod CheckLaws

@@ -1,20 +1,19 @@
 -- Laws of joint literals, one after the other.
 use Prim.Native.Nat.{ℕ, ◌+◌, ◌*◌, ◌/◌, ◌%◌, ◌≤◌, ◌<◌}
-use mathlib.Core.List.{List, map}
+use mathlib.Core.List.{List, map, append-nil}
 use mathlib.Core.Path.{◌≡◌, refl, sym, ap, ◌∙◌, subst}
 use native.Mathlib.Omega.{arith}
 use borrow.Author.Tests.{eq-eqb, ne_eqb, le-leb, lt-leb}
-use lib.ListN.{length, get_or, set, take, length-map, get_or-map}
-use Rattle.lists.specs.Parts.{part, put}
-use Rattle.lists.proofs.PartLaws.{Copied, copied_none, copied_more, copied-done, part_length, part_at, put-before}
+use lib.ListN.{length, get_or, set, length-map, get_or-map, drop_of_length-le}
+use Rattle.lists.specs.Parts.{put}
+use Rattle.lists.proofs.PartLaws.{Copied, copied_none, copied_more, copied-done, put_front}
 use Rattle.witness_text.specs.declared.AagCounts.{AagCounts}
-use Rattle.compose_joint.specs.declared.Before.{Before}
 use Rattle.compose_joint.specs.declared.Shift.{Shift}
 use Rattle.compose_joint.specs.declared.Literals.{Literals}
 use Rattle.compose_joint.specs.declared.Literals.TheVariants as literals
 use Rattle.compose_joint.specs.Inner.Joint.{shifted, shifted_literal}
 use Rattle.compose_gather.specs.declared.Range.{Range}
-use Rattle.compose_gather.specs.Inner.Gathered.{range_of, Shiftable, CanShift, SmallWord, shift_for, CanShiftList, ShiftsRange}
+use Rattle.compose_gather.specs.Inner.Gathered.{range_of, Shiftable, CanShift, SmallWord}
 
 -- ---- one variable
 
@@ -63,53 +62,37 @@ module _ (kind : Literals) (n : AagCounts) where
 
 -- ---- a list
 
--- the joint literals of a list in the words
-abbrev pub shifted_words : Shift → List ℕ → ℕ → ℕ → List ℕ
-shifted_words h work from count = map (shifted_literal h) (part work from (from + count))
+-- a list written over one that is as long
+pub put-whole : (o c : List ℕ) → length c ≡ length o → put o 0 c ≡ c
+put-whole o c e = put_front o c ∙ rw (drop_of_length-le o {i = length c} (omega (arith, e))) (append-nil c)
 
 -- so many literals are written
-pub record Shifting (h : Shift) (work₀ work : List ℕ) (from count to i : ℕ) : Type 0 where
-  pub can : CanShift h work₀ from count to
-  pub copied : Copied work₀ to (shifted_words h work₀ from count) work i
+pub record Shifting (h : Shift) (xs ys₀ ys : List ℕ) (i : ℕ) : Type 0 where
+  pub can : CanShift h xs ys₀
+  pub copied : Copied ys₀ 0 (map (shifted_literal h) xs) ys i
 
-module _ (h : Shift) (work₀ : List ℕ) (from count to : ℕ) (can : CanShift h work₀ from count to) where
-  words-length : length (shifted_words h work₀ from count) ≡ count
-  words-length = length-map (part work₀ from (from + count)) (shifted_literal h) ∙ (part_length work₀ from (from + count) (omega (arith, can.behind, can.room)) ∙ omega arith)
+pub shifting-none : (h : Shift) (xs ys : List ℕ) → CanShift h xs ys → Shifting h xs ys ys 0
+shifting-none h xs ys can =
+    record { can = can; copied = copied_none ys 0 (map (shifted_literal h) xs) (omega (arith, can.same, length-map xs (shifted_literal h))) }
 
-  pub shifting-none : Shifting h work₀ work₀ from count to 0
-  shifting-none = record { can = can; copied = copied_none work₀ to (shifted_words h work₀ from count) (omega (arith, can.room, words-length)) }
+module _ (h : Shift) (xs ys₀ ys : List ℕ) (i : ℕ) (k : Shifting h xs ys₀ ys i) where
+  pub shifting-end : length xs ≤ i → ys ≡ map (shifted_literal h) xs
+  shifting-end e =
+      copied-done ys₀ 0 (map (shifted_literal h) xs) ys i k.copied (omega (arith, length-map xs (shifted_literal h)))
+      ∙ put-whole ys₀ (map (shifted_literal h) xs) (length-map xs (shifted_literal h) ∙ sym k.can.same)
 
-  word_at : (i : ℕ) → i < count → get_or (shifted_words h work₀ from count) i 0 ≡ shifted_literal h (get_or work₀ (from + i) 0)
-  word_at i less = get_or-map (shifted_literal h) (part work₀ from (from + count)) i 0 ∙ ap (shifted_literal h) (part_at work₀ from (from + count) i 0 (omega arith))
+  module _ (less : i < length xs) where
+    pub shifting-small : Shiftable h (get_or xs i 0)
+    shifting-small = record { by = k.can.small; small = k.can.literals i less }
 
-module _ (h : Shift) (work₀ work : List ℕ) (from count to i : ℕ) (k : Shifting h work₀ work from count to i) where
-  pub shifting-end : count ≤ i → work ≡ put work₀ to (shifted_words h work₀ from count)
-  shifting-end e = copied-done work₀ to (shifted_words h work₀ from count) work i k.copied (omega (arith, words-length h work₀ from count to k.can))
-
-  module _ (less : i < count) where
-    -- the literals are not written over
-    same-literal : get_or work (from + i) 0 ≡ get_or work₀ (from + i) 0
-    same-literal =
-        ap (λ (l : List ℕ). get_or l (from + i) 0) k.copied.is
-        ∙ put-before work₀ to (take i (shifted_words h work₀ from count)) (omega (arith, k.can.room)) (from + i) 0 (omega (arith, k.can.behind))
-
-    pub shifting-small : (l : ℕ) → l ≡ get_or work (from + i) 0 → Shiftable h l
-    shifting-small l e = record { by = k.can.small; small = rw (e, same-literal) (k.can.literals i less) }
-
-    pub shifting-more : (l y : ℕ) → l ≡ get_or work (from + i) 0 → y ≡ shifted_literal h l → Shifting h work₀ (set work (to + i) y) from count to (i + 1)
-    shifting-more l y e f =
-        let n : length (shifted_words h work₀ from count) ≡ count = words-length h work₀ from count to k.can in
-        let z : y ≡ get_or (shifted_words h work₀ from count) i 0 = f ∙ (ap (shifted_literal h) (e ∙ same-literal) ∙ sym (word_at h work₀ from count to k.can i less)) in
+    pub shifting-more : (y : ℕ) → y ≡ shifted_literal h (get_or xs i 0) → Shifting h xs ys₀ (set ys i y) (i + 1)
+    shifting-more y f =
+        let first : 0 + i ≡ i = omega arith in
+        let z : y ≡ get_or (map (shifted_literal h) xs) i 0 = f ∙ sym (get_or-map (shifted_literal h) xs i 0) in
         record {
           can = k.can;
-          copied = rw z (copied_more work₀ to (shifted_words h work₀ from count) work i k.copied 0 (omega (arith, n)));
+          copied =
+              rw z
+              (subst (λ (j : ℕ). Copied ys₀ 0 (map (shifted_literal h) xs) (set ys j (get_or (map (shifted_literal h) xs) i 0)) (i + 1)) first
+              (copied_more ys₀ 0 (map (shifted_literal h) xs) ys i k.copied 0 (omega (arith, less, length-map xs (shifted_literal h)))));
         }
-
--- ---- a list of one witness
-
-module _ (kind : Literals) (n : AagCounts) (i q : ℕ) (b : Before) (work : List ℕ) (from to : ℕ) (h : Shift) (f : h ≡ shift_for i q b n) (range : Range) (e : range ≡ range_of kind n) where
-  pub list_can : CanShiftList kind n (shift_for i q b n) work from to → CanShift h work (from + range.start) range.count to
-  list_can k = rw (e, f) k.can
-
-  pub list_shifted : (work' : List ℕ) (r : ℕ) → ShiftsRange range h work from to work' r → ShiftsRange (range_of kind n) (shift_for i q b n) work from to work' r
-  list_shifted work' r k = subst (λ (x : Range). ShiftsRange x (shift_for i q b n) work from to work' r) e (subst (λ (y : Shift). ShiftsRange range y work from to work' r) f k)

@@ -29,7 +29,9 @@ use Rattle.compose_joint.specs.declared.Literals.{Literals}
 use Rattle.compose_joint.specs.declared.Literals.TheVariants as literals
 use Rattle.compose_joint.specs.Inner.Joint.{total_of, input_count, latch_count, gate_count, shift_of, shifted_literal, joint_literals, list_of, beyond}
 use Rattle.compose_gather.specs.Inner.Counts.{CountsOf}
-use Rattle.compose_gather.specs.Inner.Gathered.{words_for, RightTotals, range_of, literal_count, shift_for, beyond_counts, SmallBefore, CanShiftList, ShiftsRange}
+use Rattle.compose_joint.specs.declared.Shift.{Shift}
+use Rattle.compose_gather.specs.declared.Range.{Range}
+use Rattle.compose_gather.specs.Inner.Gathered.{words_for, RightTotals, range_of, literal_count, shift_for, beyond_counts, SmallBefore, CanShiftRange, ShiftsRange}
 use Rattle.compose_gather.proofs.TextLaws.{first_read, none_read}
 use Rattle.compose_gather.proofs.CheckLaws.{read_counted}
 use Rattle.compose_gather.proofs.BlockLaws.{words_for_lem}
@@ -142,30 +144,32 @@ module _ (kind : Literals) (i q : ℕ) (buffer : Bytes) (pairs work₀ work : Li
       (list_small kind next.first (read_range limited true (get_or (texts_in buffer pairs) w []) next.first next.reads) (read_counted (get_or (texts_in buffer pairs) w []) next.first next.reads).most)
       (omega (arith, long)))
 
-  can_shift : CanShiftList kind (counts_in next.first) (shift_for i q b (counts_in next.first)) work from at
+  can_shift : CanShiftRange (range_of kind (counts_in next.first)) (shift_for i q b (counts_in next.first)) work from at
   can_shift =
       record {
-        words = subst (λ (m : AagCounts). from + words_for m ≤ at) counts gather-behind;
-        can =
+        small =
             record {
-              small =
-                  record {
-                    by_input = omega (arith, small-before.inputs, small-before.few_inputs);
-                    by_latch = omega (arith, small-before.latches, small-before.few_inputs, small-before.few_latches);
-                    by_gate = omega (arith, small-before.gates, small-before.few_inputs, small-before.few_latches);
-                  };
-              behind = omega (arith, range-within kind next.first, next.behind, next.onward);
-              room = omega (arith, long, next.room, next.same);
-              literals = literals-small;
+              by_input = omega (arith, small-before.inputs, small-before.few_inputs);
+              by_latch = omega (arith, small-before.latches, small-before.few_inputs, small-before.few_latches);
+              by_gate = omega (arith, small-before.gates, small-before.few_inputs, small-before.few_latches);
             };
+        behind = omega (arith, range-within kind next.first, next.behind, next.onward);
+        room = omega (arith, long, next.room, next.same);
+        literals = literals-small;
       }
 
-  pub gather-can : CanShiftList kind n (shift_for i q b n) work from at
-  gather-can = subst (λ (m : AagCounts). CanShiftList kind m (shift_for i q b m) work from at) (sym counts) can_shift
+  -- the shift and the range that the code has
+  module _ (h : Shift) (f : h ≡ shift_for i q b n) (range : Range) (g : range ≡ range_of kind n) where
+    pub gather-can : CanShiftRange range h work from at
+    gather-can =
+        subst (λ (x : Range). CanShiftRange x h work from at) (sym (g ∙ ap (range_of kind) counts))
+        (subst (λ (x : Shift). CanShiftRange (range_of kind (counts_in next.first)) x work from at) (sym (f ∙ ap (shift_for i q b) counts)) can_shift)
 
-  module _ (work' : List ℕ) (r : ℕ) (l : ShiftsRange (range_of kind n) (shift_for i q b n) work from at work' r) where
+  module _ (h : Shift) (f : h ≡ shift_for i q b n) (range : Range) (g : range ≡ range_of kind n) (work' : List ℕ) (r : ℕ) (l : ShiftsRange range h work from at work' r) where
     shifts : ShiftsRange (range_of kind (counts_in next.first)) (shift_for i q b (counts_in next.first)) work from at work' r
-    shifts = subst (λ (m : AagCounts). ShiftsRange (range_of kind m) (shift_for i q b m) work from at work' r) counts l
+    shifts =
+        subst (λ (x : Range). ShiftsRange x (shift_for i q b (counts_in next.first)) work from at work' r) (g ∙ ap (range_of kind) counts)
+        (subst (λ (x : Shift). ShiftsRange range x work from at work' r) (f ∙ ap (shift_for i q b) counts) l)
 
     written : work' ≡ put work at (joint_literals (list_of kind) i q w b next.first)
     written = shifts.is ∙ ap (λ (x : List ℕ). put work at (map (shifted_literal (shift_of i q b next.first)) x)) list_there
@@ -175,10 +179,10 @@ module _ (kind : Literals) (i q : ℕ) (buffer : Bytes) (pairs work₀ work : Li
 
     pub gather-more : (from' : ℕ) (b' : Before) → from' ≡ from + words_for n → b' ≡ beyond_counts b n
         → Gathering (joint_literals (list_of kind) i q) (literal_count kind) buffer pairs work₀ work' to from' r b' (w + 1)
-    gather-more from' b' f g =
-        let x : from + word_count next.first ≡ from' = omega (arith, short, f) in
+    gather-more from' b' c' d' =
+        let x : from + word_count next.first ≡ from' = omega (arith, short, c') in
         let y : at + literal_count kind next.first ≡ r = omega (arith, shifts.next, long) in
-        let z : beyond b next.first ≡ b' = sym (g ∙ ap (beyond_counts b) counts) in
+        let z : beyond b next.first ≡ b' = sym (d' ∙ ap (beyond_counts b) counts) in
         subst (λ (j : ℕ). Gathering (joint_literals (list_of kind) i q) (literal_count kind) buffer pairs work₀ work' to j r b' (w + 1)) x
         (subst (λ (j : ℕ). Gathering (joint_literals (list_of kind) i q) (literal_count kind) buffer pairs work₀ work' to (from + word_count next.first) j b' (w + 1)) y
         (subst (λ (d : Before). Gathering (joint_literals (list_of kind) i q) (literal_count kind) buffer pairs work₀ work' to (from + word_count next.first) (at + literal_count kind next.first) d (w + 1)) z further))

@@ -2,3 +2,4 @@
 pub mod Checking
 pub mod Counts
 pub mod Gathered
+pub mod Names

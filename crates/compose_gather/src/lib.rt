@@ -7,11 +7,13 @@ ghost use Rattle.compose_gather.specs.Inner.Checking.{less, room_after, added_co
 ghost use Rattle.compose_gather.specs.Inner.Counts.{CanCheck, ChecksOne, ChecksAll};
 ghost use Rattle.compose_gather.specs.Inner.Gathered.{words_for, LoadableAt, LoadsAt, CanLoad, LoadsAll};
 
-pub mod counts;
+mod counts;
 pub mod literals;
+mod names;
 mod texts;
 
 use aiger::Refusal;
+pub use names::name_at;
 pub use texts::{Texts, Witnesses};
 use witness_text::AagCounts;
 
@@ -32,7 +34,8 @@ pub struct Range {
 }
 
 // So many bytes from a place on.
-pub fn piece(s: &[u8], start: usize, size: usize) -> &[u8]
+// Kept (buffer): this is where a start and a size, as pairs of words say them, become a slice.
+fn piece(s: &[u8], start: usize, size: usize) -> &[u8]
     requires { start + size ≤ length s.now }
     ensures { result.now ≡ part s.now start (start + size) }
 {

@@ -2,13 +2,14 @@
 ghost use Rattle.std.specs.Prelude.{map, ◌≡◌, ◌+◌, ◌<◌};
 ghost use Rattle.lists.specs.Parts.{part, put};
 ghost use Rattle.compose_joint.specs.Inner.Joint.{shifted, shifted_literal, joint_literals, list_of};
-ghost use Rattle.compose_gather.specs.Inner.Gathered.{words_for, range_of, Shiftable, SmallWord, CanShift, shift_for, beyond_counts, SmallBefore, CanShiftList, ShiftsRange, literal_count, CanGather, RightTotals, Gathers};
+ghost use Rattle.compose_gather.specs.Inner.Gathered.{words_for, range_of, Shiftable, SmallWord, CanShift, CanShiftRange, shift_for, beyond_counts, SmallBefore, ShiftsRange, literal_count, CanGather, RightTotals, Gathers};
 
 use crate::{Range, Witnesses};
 use compose_joint::{Before, Literals, Shift};
 use witness_text::AagCounts;
 
 // Where a list of literals stands among the words of a text with these counts.
+// Kept (switch): nothing else tells one list from another, so four functions would be no plainer.
 fn range_of(kind: Literals, counts: AagCounts) -> Range
     requires { words_for counts < 18446744073709551616 }
     ensures { result ≡ range_of kind counts }
@@ -67,13 +68,13 @@ fn shift_literal(by: Shift, l: u64) -> u64
     2 * x as u64 + l % 2
 }
 
-// Literals from one place on, written as joint literals from another place on.
-fn shift_words(work: &mut [u64], from: usize, count: usize, to: usize, by: Shift)
-    requires { CanShift by work.old from count to }
-    ensures { work.new ≡ put work.old to (map (shifted_literal by) (part work.old from (from + count))) }
+// Literals, written as joint literals into as many words.
+fn shift_words(literals: &[u64], joint: &mut [u64], by: Shift)
+    requires { CanShift by literals.now joint.old }
+    ensures { joint.new ≡ map (shifted_literal by) literals.now }
 {
-    for i in 0..count {
-        work[to + i] = shift_literal(by, work[from + i]);
+    for i in 0..literals.len() {
+        joint[i] = shift_literal(by, literals[i]);
     }
 }
 
@@ -106,31 +107,17 @@ fn pass(inputs: usize, latches: usize, before: Before, counts: AagCounts) -> Bef
 
 // The literals of a range behind a place, written as joint literals from another place on. Returns the place after them.
 fn shift_range(range: Range, by: Shift, work: &mut [u64], from: usize, to: usize) -> usize
-    requires { CanShift by work.old (from + range.start) range.count to }
+    requires { CanShiftRange range by work.old from to }
     ensures { ShiftsRange range by work.old from to work.new result }
 {
-    shift_words(work, from + range.start, range.count, to, by);
+    let (words, behind) = work.split_at_mut(to);
+    let start = from + range.start;
+    shift_words(
+        &words[start..start + range.count],
+        &mut behind[..range.count],
+        by,
+    );
     to + range.count
-}
-
-// A list of one witness, whose words begin at a place, written as joint literals from another place on. Returns the place after it.
-fn shift_list(
-    kind: Literals,
-    counts: AagCounts,
-    inputs: usize,
-    latches: usize,
-    before: Before,
-    work: &mut [u64],
-    from: usize,
-    to: usize,
-) -> usize
-    requires small_before { SmallBefore inputs latches before counts }
-    requires can_shift_list { CanShiftList kind counts (shift_for inputs latches before counts) work.old from to }
-    ensures { ShiftsRange (range_of kind counts) (shift_for inputs latches before counts) work.old from to work.new result }
-{
-    let by = shift_of(inputs, latches, before, counts);
-    let range = range_of(kind, counts);
-    shift_range(range, by, work, from, to)
 }
 
 // A list of all witnesses, from a place on. Returns the place after it.
@@ -156,7 +143,8 @@ pub fn gather(
     for w in 0..witnesses.len() {
         let n = witnesses.counts_of(w);
         let next = crate::after_words(n, from, at);
-        at = shift_list(kind, n, inputs, latches, b, work, from, at);
+        let by = shift_of(inputs, latches, b, n);
+        at = shift_range(range_of(kind, n), by, work, from, at);
         from = next;
         b = pass(inputs, latches, b, n);
     }

@@ -34,6 +34,7 @@ impl<'a> Texts<'a> {
 }
 
 // Texts that are read, with the nine counts of each as they were read.
+// Kept (buffer): the bytes and pairs are the caller's, and the counts stand in a local array beside them, since there is no heap.
 #[derive(Clone, Copy)]
 pub struct Witnesses<'a> {
     pub texts: Texts<'a>,

@@ -63,6 +63,7 @@ impl Leaves {
     }
 
     // The byte that begins their symbol lines.
+    // Kept (by hand): no `From`, since neither this byte nor the text below stands for inputs or latches anywhere else.
     pub fn kind(self) -> u8
         ensures { result ≡ kind_of self }
     {

@@ -6,7 +6,8 @@ use Rattle.lists.specs.Quoted.{bytes}
 use Rattle.text_decimal.specs.Decimal.{decimal}
 use Rattle.compose_spec.specs.Numbering.{private_input}
 use Rattle.compose_joint.specs.declared.Leaves.TheVariants.{Inputs, Latches}
-use Rattle.compose_names.specs.Inner.Names.{own_name, name_for}
+use Rattle.compose_gather.specs.Inner.Names.{own_name}
+use Rattle.compose_names.specs.Inner.Names.{name_for}
 use Rattle.compose_names.specs.Inner.Symbols.{new_lines, next_after}
 
 -- literal 6 of the model, whatever the witness calls it: `= 6`

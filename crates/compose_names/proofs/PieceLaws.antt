@@ -1,12 +1,11 @@
 -- The pieces of a symbol line, printed one after the other.
-use Prim.Native.Nat.{ℕ, ◌+◌, ◌%◌}
+use Prim.Native.Nat.{ℕ, ◌%◌}
 use mathlib.Core.List.{[], ◌∷◌, ◌++◌, append_assoc}
 use mathlib.Core.Option.{Option, some}
 use mathlib.Core.Path.{◌≡◌, sym, ap, ◌∙◌, refl}
 use native.Mathlib.Omega.{arith}
-use borrow.Author.Tests.{eq-eqb, ne_eqb}
 use lib.Dec.{eqb}
-use Rattle.lists.specs.Parts.{Bytes, part}
+use Rattle.lists.specs.Parts.{Bytes}
 use Rattle.text_decimal.specs.Decimal.{decimal}
 use Rattle.text_print.specs.declared.Printer.{Printer}
 use Rattle.text_print.specs.Inner.Prints.{PrintsOn}
@@ -16,7 +15,7 @@ use Rattle.compose_spec.specs.Numbering.{or_else, private_name}
 use Rattle.compose_spec.specs.Printing.{symbol_line}
 use Rattle.compose_joint.specs.declared.Leaves.{Leaves}
 use Rattle.compose_joint.specs.Inner.Joint.{unnamed_of}
-use Rattle.compose_names.specs.Inner.Names.{own_name, name_for}
+use Rattle.compose_names.specs.Inner.Names.{name_for}
 
 -- three pieces
 pub three_pieces : (p : Printer) (b : Bytes) (p₁ : Printer) (c : Bytes) (p₂ : Printer) (d : Bytes) (p₃ : Printer)
@@ -24,14 +23,6 @@ pub three_pieces : (p : Printer) (b : Bytes) (p₁ : Printer) (c : Bytes) (p₂ 
 three_pieces p b p₁ c p₂ d p₃ q r s = prints_then p b p₁ (c ++ d) p₃ q (prints_then p₁ c p₂ d p₃ r s)
 
 module _ (p : Printer) (leaves : Leaves) where
-  module _ (t : Bytes) (start size : ℕ) (p' : Printer) where
-    -- no name, and a name
-    pub own_none : start ≡ 0 → (b : Bytes) → b ≡ unnamed_of leaves → PrintsOn p b p' → PrintsOn p (or_else (unnamed_of leaves) (own_name t start size)) p'
-    own_none e b f q = prints_as p b p' (or_else (unnamed_of leaves) (own_name t start size)) (f ∙ sym (rw (eq-eqb start 0 e) refl)) q
-
-    pub own_some : (start ≡ 0 → ⊥) → PrintsOn p (part t start (start + size)) p' → PrintsOn p (or_else (unnamed_of leaves) (own_name t start size)) p'
-    own_some e q = prints_as p (part t start (start + size)) p' (or_else (unnamed_of leaves) (own_name t start size)) (sym (rw (ne_eqb start 0 e) refl)) q
-
   module _ (w origin : ℕ) (name : Option Bytes) (p₁ p₂ : Printer) where
     -- `= ` and the literal
     pub shared-printed : origin % 2 ≡ 0 → PrintsOn p equals p₁ → PrintsOn p₁ (decimal origin) p₂ → PrintsOn p (name_for leaves w origin name) p₂

@@ -16,7 +16,7 @@ module _ (t : Bytes) (work : List ℕ) (p : Starts) where
   -- each row of so many
   pub row_words : (count first next k : ℕ) → CanPrintNames t work p count first next → k < count → RowWords t work p k
   row_words count first next k c h =
-      record { name = omega (arith, c.named); origin = omega (arith, c.origins_fit); within = c.within k h }
+      record { name = record { there = omega (arith, c.named); within = c.within k h }; origin = omega (arith, c.origins_fit) }
 
 -- the places with a start of the names
 abbrev from : Starts → ℕ → Starts

@@ -1,14 +1,15 @@
 // The symbol lines of the composition's inputs, or latches: each where it first appears among those of all witnesses.
 #![tactic(auto)]
 
-ghost use Rattle.std.specs.Prelude.{[], ◌∷◌, ◌++◌, ◌≡◌, get_or, ◌+◌, ◌*◌};
+ghost use Rattle.std.specs.Prelude.{[], ◌∷◌, ◌++◌, ◌≡◌, option_copied};
 ghost use Rattle.std.proofs.Math.Option.{some};
 ghost use Rattle.text_print.specs.Inner.Prints.{PrintsOn};
 ghost use Rattle.compose_spec.specs.Numbering.{or_else, private_name};
 ghost use Rattle.compose_spec.specs.Printing.{symbol_line};
 ghost use Rattle.compose_joint.specs.Inner.Joint.{unnamed_of, kind_of};
-ghost use Rattle.compose_names.specs.Inner.Names.{own_name};
-ghost use Rattle.compose_names.specs.Inner.Symbols.{row_in, own_in, rows_from, RowWords, CanPrintNames, PrintsNew, CanPrintWitness, rows_in, CanPass, passed, CanPrintSymbols, PrintsSymbols};
+ghost use Rattle.compose_gather.specs.Inner.Names.{name_of};
+ghost use Rattle.compose_names.specs.Inner.Names.{name_for};
+ghost use Rattle.compose_names.specs.Inner.Symbols.{row_in, rows_from, RowWords, CanPrintNames, PrintsNew, CanPrintWitness, rows_in, CanPass, passed, CanPrintSymbols, PrintsSymbols};
 
 use compose_gather::Witnesses;
 use compose_joint::Leaves;
@@ -42,45 +43,41 @@ fn print_owner(to: &mut Printer, w: usize)
     to.byte(b':');
 }
 
+// Prints a witness's own name, or what stands for it.
+fn print_own(to: &mut Printer, leaves: Leaves, name: Option<&[u8]>)
+    ensures { PrintsOn to.old (or_else (unnamed_of leaves) (name_of (option_copied name.entry))) to.new }
+{
+    match name {
+        Some(name) => to.bytes(name),
+        None => to.bytes(leaves.unnamed()),
+    }
+}
+
+// Prints the name in the composition, by the origin word, of what witness w names so.
+fn print_name(to: &mut Printer, leaves: Leaves, w: usize, origin: u64, name: Option<&[u8]>)
+    ensures { PrintsOn to.old (name_for leaves w origin (name_of (option_copied name.entry))) to.new }
+{
+    if origin % 2 == 0 {
+        to.bytes(b"= ");
+        to.number(origin);
+        return;
+    }
+    print_owner(to, w);
+    print_own(to, leaves, name);
+}
+
 impl<'a> Rows<'a> {
-    // Prints the witness's own name of row k, or what stands for it.
-    fn print_own(&self, to: &mut Printer, k: usize)
-        requires { RowWords self.now.text.now self.now.work.now self.now.starts k }
-        ensures { PrintsOn to.old (or_else (unnamed_of self.now.leaves) (own_in self.now k)) to.new }
-    {
-        let start = self.work[self.starts.names + 2 * k] as usize;
-        let size = self.work[self.starts.names + 2 * k + 1] as usize;
-        if start == 0 {
-            to.bytes(self.leaves.unnamed());
-            return;
-        }
-        to.bytes(&self.text[start..start + size]);
-    }
-
-    // Prints the name that row k has in the composition, by its origin word.
-    fn print_name(&self, to: &mut Printer, k: usize)
-        requires { RowWords self.now.text.now self.now.work.now self.now.starts k }
-        ensures { PrintsOn to.old (row_in self.now k).name to.new }
-    {
-        let origin = self.work[self.starts.origins + k];
-        if origin % 2 == 0 {
-            to.bytes(b"= ");
-            to.number(origin);
-            return;
-        }
-        print_owner(to, self.w);
-        self.print_own(to, k);
-    }
-
     // Prints the symbol line of row k.
     fn print_row(&self, to: &mut Printer, k: usize, number: u64)
         requires { RowWords self.now.text.now self.now.work.now self.now.starts k }
         ensures { PrintsOn to.old (symbol_line (kind_of self.now.leaves) number (row_in self.now k).name ++ 10 ∷ []) to.new }
     {
+        let origin = self.work[self.starts.origins + k];
+        let name = compose_gather::name_at(self.text, self.work, self.starts.names + 2 * k);
         to.byte(self.leaves.kind());
         to.number(number);
         to.byte(b' ');
-        self.print_name(to, k);
+        print_name(to, self.leaves, self.w, origin, name);
         to.byte(b'\n');
     }
 

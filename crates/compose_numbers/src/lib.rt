@@ -42,6 +42,7 @@ fn number_leaf(
 }
 
 // Numbers inputs, or latches, by their origin words. A private one is new each time; one of the model has one number, which is kept in the assigned numbers.
+// Kept (buffer): origins, assigned numbers and variables are parts of the one lent slice, which the laws of `compose_merge` follow through all passes.
 pub fn number_leaves(
     work: &mut [u64],
     origins: usize,
@@ -79,6 +80,7 @@ fn add_literal(
 }
 
 // Collects composed literals in the set of bits at place `bits`, which is empty at first, and counts them.
+// Kept (buffer): as in `number_leaves`.
 pub fn add_literals(
     work: &mut [u64],
     from: usize,

@@ -1,18 +1,16 @@
 -- Laws of the loops over the names that pairs of words say.
-use Rattle.std.specs.Prelude.{not, Some, None}
-use borrow.Author.Tests.{not-true, not-false}
+use Rattle.std.specs.Prelude.{Some, None}
 use Prim.Native.Nat.{ℕ, zero, suc, ◌+◌, ◌*◌, ◌/◌, ◌≤◌, ◌<◌}
 use mathlib.Core.Bool.{Bool, true, false, ◌||◌, ◌&&◌}
 use mathlib.Core.List.{List, [], ◌∷◌}
 use mathlib.Core.Option.{Option, some, none}
-use mathlib.Core.Path.{◌≡◌, refl, sym, ap, ◌∙◌}
+use mathlib.Core.Path.{◌≡◌, refl, sym, ap, ◌∙◌, subst}
 use native.Mathlib.Numerals.{add-one}
 use native.Mathlib.Omega.{arith}
-use lib.ListN.{length, get_or, drop, take, set, length-map, length-set, get_or-map, drop_of_length-le}
-use lib.Seq.{get_or-take, take-set-le}
-use Rattle.lists.specs.Parts.{Bytes, part}
+use lib.ListN.{length, get_or, drop, set, length-map, get_or-map, drop_of_length-le}
+use Rattle.lists.specs.Parts.{Bytes}
 use Rattle.lists.specs.Tests.{any, all_from}
-use Rattle.lists.proofs.PartLaws.{Copied, copied_none, copied_more, copied-done, part_length, part_at}
+use Rattle.lists.proofs.PartLaws.{Copied, copied_none, copied_more, copied-done}
 use Rattle.lists.proofs.RestLaws.{rest_more}
 use Rattle.lists.proofs.WordLaws.{pairs-at, pairs-count}
 use Rattle.witness_load.specs.Inner.Loaded.{name_from}
@@ -22,7 +20,10 @@ use Rattle.compose_spec.specs.Mapping.{is_mapped, mapping_of}
 use Rattle.compose_spec.specs.Composing.{is_right, leaves_right}
 use Rattle.compose_joint.proofs.AmountLaws.{origin-words}
 use Rattle.compose_joint.specs.Inner.Joint.{origin_word, origins_from}
-use Rattle.compose_origins.specs.Inner.Mapped.{MappedAt, MapsAt, SaysAt, TestsAt, SaysNames, SayNames, AnyMapped, CanMap, StoresOrigins}
+use Rattle.compose_gather.specs.Inner.Names.{NameWords, name_at}
+use Rattle.compose_gather.proofs.ShiftLaws.{put-whole}
+use Rattle.compose_gather.proofs.NameLaws.{Says, name_said}
+use Rattle.compose_origins.specs.Inner.Mapped.{FewLeaves, SaysNames, SayNames, AnyMapped, CanMap, StoresOrigins}
 
 -- ---- the names one by one
 
@@ -35,6 +36,10 @@ module _ (t : Bytes) (words : List ℕ) (names : List (Option Bytes)) (say : Say
     names_at =
         sym (pairs-at (name_from t) words i 0 (some none) (omega arith))
         ∙ (ap (λ (l : List (Option (Option Bytes))). get_or l i (some none)) say ∙ get_or-map some names i none)
+
+    -- what they say
+    pub said : Says t (get_or words (2 * i) 0) (get_or words (2 * i + 1) 0) (get_or names i none)
+    said = name_said t (get_or words (2 * i) 0) (get_or words (2 * i + 1) 0) (get_or names i none) names_at
 
     pub names-rest : drop i names ≡ get_or names i none ∷ drop (i + 1) names
     names-rest = rest_more names i none (omega (arith, names-count))
@@ -53,14 +58,14 @@ module _ (t : Bytes) (words : List ℕ) (i count : ℕ) (all : count ≡ length 
   testing-end h names say = sym (k.left names say ∙ ap (any is_mapped) (drop_of_length-le names {i = i} (omega (arith, names-count t words names say))))
 
   module _ (h : i < count) where
-    pub testing-says : SayNames t words → SaysAt t words i
-    testing-says s = record { there = omega arith; says = record { name = get_or s.names i none; is = names_at t words s.names s.say i (omega arith) } }
+    pub testing-says : SayNames t words → NameWords t words (2 * i)
+    testing-says s = record { there = omega arith; within = (said t words s.names s.say i (omega arith)).within }
 
-    module _ (r : Bool) (e : TestsAt t words i r) where
+    module _ (x : Option Bytes) (y : x ≡ name_at t words (2 * i)) (r : Bool) (e : r ≡ is_mapped x) where
       tested : (names : List (Option Bytes)) → SaysNames t words names → any is_mapped names ≡ (r || any is_mapped (drop (i + 1) names))
       tested names say =
           k.left names say ∙ (ap (any is_mapped) (names-rest t words names say i (omega arith))
-          ∙ ap (λ (q : Bool). q || any is_mapped (drop (i + 1) names)) (sym (e.tests (get_or names i none) (names_at t words names say i (omega arith)))))
+          ∙ ap (λ (q : Bool). q || any is_mapped (drop (i + 1) names)) (sym (e ∙ ap is_mapped (y ∙ (said t words names say i (omega arith)).own))))
 
       pub testing-true : r ≡ true → AnyMapped t words true
       testing-true f names say = sym (tested names say ∙ rw f refl)
@@ -78,103 +83,85 @@ module _ (p : ModelLeaves) (w : ℕ) (named : Bool) where
       let z : suc j + k ≡ j + suc k = omega arith in
       origins-at (suc j) k names (omega arith) ∙ ap (λ (n : ℕ). origin_word w (mapping_of p named n (get_or names k none))) z
 
--- so many names are right, and their origins stand there
-pub record StoringFor (p : ModelLeaves) (w : ℕ) (named : Bool) (work₀ work : List ℕ) (to k : ℕ) (names : List (Option Bytes)) : Type 0 where
+-- so many names are right, and their origins are stored
+pub record StoringFor (p : ModelLeaves) (w : ℕ) (named : Bool) (os₀ os : List ℕ) (k : ℕ) (names : List (Option Bytes)) : Type 0 where
   pub right : all_from (λ j name. is_right (mapping_of p named j name)) k (drop k names) ≡ leaves_right p named names
-  pub copied : Copied work₀ to (origins_from p w named 0 names) work k
+  pub copied : Copied os₀ 0 (origins_from p w named 0 names) os k
 
-pub record Storing (p : ModelLeaves) (t : Bytes) (from count : ℕ) (named : Bool) (w to : ℕ) (work₀ work : List ℕ) (k : ℕ) : Type 0 where
-  pub can : CanMap p t work₀ from count w to
-  pub passed : k ≤ count
-  pub same : length work ≡ length work₀
-  pub kept : take to work ≡ take to work₀
-  pub each : (names : List (Option Bytes)) → SaysNames t (part work₀ from (from + 2 * count)) names → StoringFor p w named work₀ work to k names
+pub record Storing (p : ModelLeaves) (t : Bytes) (words : List ℕ) (named : Bool) (w : ℕ) (os₀ os : List ℕ) (k : ℕ) : Type 0 where
+  pub can : CanMap p t words w os₀
+  pub passed : k ≤ length os₀
+  pub each : (names : List (Option Bytes)) → SaysNames t words names → StoringFor p w named os₀ os k names
 
-pub storing-none : (p : ModelLeaves) (t : Bytes) (from count : ℕ) (named : Bool) (w to : ℕ) (work : List ℕ) → CanMap p t work from count w to → Storing p t from count named w to work work 0
-storing-none p t from count named w to work k =
-    record {
-      can = k;
-      passed = omega arith;
-      same = refl;
-      kept = refl;
-      each = λ names say.
-          record {
-            right = refl;
-            copied =
-                copied_none work to (origins_from p w named 0 names)
-                (omega (arith, origin-words p w named 0 names, names-count t (part work from (from + 2 * count)) names say, part_length work from (from + 2 * count) (omega (arith, k.behind, k.room)), k.room));
-          };
-    }
+module _ (p : ModelLeaves) (t : Bytes) (words : List ℕ) (named : Bool) (w : ℕ) (os₀ : List ℕ) where
+  -- as many names as words for origins
+  as_many : CanMap p t words w os₀ → (names : List (Option Bytes)) → SaysNames t words names → length names ≡ length os₀
+  as_many k names say = omega (arith, names-count t words names say, k.count)
 
-module _ (p : ModelLeaves) (t : Bytes) (from count : ℕ) (named : Bool) (w to : ℕ) (work₀ work : List ℕ) (k : ℕ) (s : Storing p t from count named w to work₀ work k) where
-  words-length : length (part work₀ from (from + 2 * count)) ≡ 2 * count
-  words-length = part_length work₀ from (from + 2 * count) (omega (arith, s.can.behind, s.can.room)) ∙ omega arith
-
-  pub storing-end : count ≤ k → StoresOrigins p t from count named w to work₀ work (Some (to + count))
-  storing-end h names say =
-      let f = s.each names say in
-      let n : length names ≡ count = omega (arith, names-count t (part work₀ from (from + 2 * count)) names say, words-length) in (
-        sym f.right ∙ ap (all_from (λ j name. is_right (mapping_of p named j name)) k) (drop_of_length-le names {i = k} (omega arith)),
-        (copied-done work₀ to (origins_from p w named 0 names) work k f.copied (omega (arith, origin-words p w named 0 names)), refl),
-      )
-
-  module _ (less : k < count) where
-    -- the words of the names are not written over
-    kept_word : (i : ℕ) → i < 2 * count → get_or work (from + i) 0 ≡ get_or (part work₀ from (from + 2 * count)) i 0
-    kept_word i h =
-        sym (get_or-take to work (from + i) 0 (omega (arith, s.can.behind)))
-        ∙ (ap (λ (l : List ℕ). get_or l (from + i) 0) s.kept
-        ∙ (get_or-take to work₀ (from + i) 0 (omega (arith, s.can.behind)) ∙ sym (part_at work₀ from (from + 2 * count) i 0 (omega arith))))
-
-    first : get_or work (from + 2 * k) 0 ≡ get_or (part work₀ from (from + 2 * count)) (2 * k) 0
-    first = kept_word (2 * k) (omega arith)
-
-    second : get_or work (from + 2 * k + 1) 0 ≡ get_or (part work₀ from (from + 2 * count)) (2 * k + 1) 0
-    second = let z : from + 2 * k + 1 ≡ from + (2 * k + 1) = omega arith in ap (λ (i : ℕ). get_or work i 0) z ∙ kept_word (2 * k + 1) (omega arith)
-
-    name-is : (names : List (Option Bytes)) → SaysNames t (part work₀ from (from + 2 * count)) names
-        → name_from t (get_or work (from + 2 * k) 0) (get_or work (from + 2 * k + 1) 0) ≡ some (get_or names k none)
-    name-is names say = rw (first, second) (names_at t (part work₀ from (from + 2 * count)) names say k (omega (arith, words-length)))
-
-    pub storing-says : MappedAt p t work (from + 2 * k) k
-    storing-says =
-        record {
-          few = record { model = s.can.few.model; number = omega (arith, s.can.few.number) };
-          there = omega (arith, s.can.behind, s.can.room, s.same);
-          says = record { name = get_or s.can.names.names k none; is = name-is s.can.names.names s.can.names.say };
-        }
-
-    module _ (m : Mapping) (e : MapsAt p named k t work (from + 2 * k) m) where
-      mapping-is : (names : List (Option Bytes)) → SaysNames t (part work₀ from (from + 2 * count)) names → m ≡ mapping_of p named k (get_or names k none)
-      mapping-is names say = e.maps (get_or names k none) (name-is names say)
-
-      tested_right : (names : List (Option Bytes)) → SaysNames t (part work₀ from (from + 2 * count)) names
-          → (is_right m && all_from (λ j name. is_right (mapping_of p named j name)) (k + 1) (drop (k + 1) names)) ≡ leaves_right p named names
-      tested_right names say =
-          ap (λ (q : Mapping). is_right q && all_from (λ j name. is_right (mapping_of p named j name)) (k + 1) (drop (k + 1) names)) (mapping-is names say)
-          ∙ (ap (λ (i : ℕ). is_right (mapping_of p named k (get_or names k none)) && all_from (λ j name. is_right (mapping_of p named j name)) i (drop (k + 1) names)) (add-one k)
-          ∙ (sym (ap (all_from (λ j name. is_right (mapping_of p named j name)) k) (names-rest t (part work₀ from (from + 2 * count)) names say k (omega (arith, words-length)))) ∙ (s.each names say).right))
-
-      module _ (r : Bool) (q : r ≡ is_right m) where
-        pub storing_wrong : not r ≡ true → StoresOrigins p t from count named w to work₀ work None
-        storing_wrong f names say = sym (tested_right names say) ∙ ap (λ (z : Bool). z && all_from (λ j name. is_right (mapping_of p named j name)) (k + 1) (drop (k + 1) names)) (sym q ∙ not-true r f)
-
-        pub storing-more : not r ≡ false → (v : ℕ) → v ≡ origin_word w m → Storing p t from count named w to work₀ (set work (to + k) v) (k + 1)
-        storing-more f v g =
+  pub storing-none : CanMap p t words w os₀ → Storing p t words named w os₀ os₀ 0
+  storing-none k =
+      record {
+        can = k;
+        passed = omega arith;
+        each = λ names say.
             record {
-              can = s.can;
-              passed = omega arith;
-              same = length-set work (to + k) v ∙ s.same;
-              kept = take-set-le to work (to + k) v (omega arith) ∙ s.kept;
-              each = λ names say. stored names say;
-            }
+              right = refl;
+              copied = copied_none os₀ 0 (origins_from p w named 0 names) (omega (arith, origin-words p w named 0 names, as_many k names say));
+            };
+      }
+
+  module _ (os : List ℕ) (k : ℕ) (s : Storing p t words named w os₀ os k) where
+    pub storing-end : length os₀ ≤ k → StoresOrigins p t words named w os (Some tt)
+    storing-end h names say =
+        let f = s.each names say in
+        let n : length names ≡ length os₀ = as_many s.can names say in
+        let o = origin-words p w named 0 names in (
+          sym f.right ∙ ap (all_from (λ j name. is_right (mapping_of p named j name)) k) (drop_of_length-le names {i = k} (omega arith)),
+          copied-done os₀ 0 (origins_from p w named 0 names) os k f.copied (omega (arith, o)) ∙ put-whole os₀ (origins_from p w named 0 names) (o ∙ n),
+        )
+
+    module _ (less : k < length os₀) where
+      says : (names : List (Option Bytes)) → SaysNames t words names → Says t (get_or words (2 * k) 0) (get_or words (2 * k + 1) 0) (get_or names k none)
+      says names say = said t words names say k (omega (arith, s.can.count))
+
+      pub storing-few : FewLeaves p k
+      storing-few = record { model = s.can.few.model; number = omega (arith, s.can.few.number) }
+
+      pub storing-says : NameWords t words (2 * k)
+      storing-says = record { there = omega (arith, s.can.count); within = (says s.can.names.names s.can.names.say).within }
+
+      module _ (x : Option Bytes) (y : x ≡ name_at t words (2 * k)) (m : Mapping) (e : m ≡ mapping_of p named k x) where
+        mapping-is : (names : List (Option Bytes)) → SaysNames t words names → m ≡ mapping_of p named k (get_or names k none)
+        mapping-is names say = e ∙ ap (mapping_of p named k) (y ∙ (says names say).own)
+
+        tested_right : (names : List (Option Bytes)) → SaysNames t words names
+            → (is_right m && all_from (λ j name. is_right (mapping_of p named j name)) (k + 1) (drop (k + 1) names)) ≡ leaves_right p named names
+        tested_right names say =
+            ap (λ (q : Mapping). is_right q && all_from (λ j name. is_right (mapping_of p named j name)) (k + 1) (drop (k + 1) names)) (mapping-is names say)
+            ∙ (ap (λ (i : ℕ). is_right (mapping_of p named k (get_or names k none)) && all_from (λ j name. is_right (mapping_of p named j name)) i (drop (k + 1) names)) (add-one k)
+            ∙ (sym (ap (all_from (λ j name. is_right (mapping_of p named j name)) k) (names-rest t words names say k (omega (arith, s.can.count)))) ∙ (s.each names say).right))
+
+        pub storing_wrong : (is_right m ≡ true → ⊥) → StoresOrigins p t words named w os None
+        storing_wrong f names say =
+            sym (tested_right names say) ∙ ap (λ (z : Bool). z && all_from (λ j name. is_right (mapping_of p named j name)) (k + 1) (drop (k + 1) names)) (wrong (is_right m) f)
           where
-            stored : (names : List (Option Bytes)) → SaysNames t (part work₀ from (from + 2 * count)) names → StoringFor p w named work₀ (set work (to + k) v) to (k + 1) names
+            wrong : (b : Bool) → (b ≡ true → ⊥) → b ≡ false
+            wrong true n = absurd (n refl)
+            wrong false n = refl
+
+        pub storing-more : is_right m ≡ true → (v : ℕ) → v ≡ origin_word w m → Storing p t words named w os₀ (set os k v) (k + 1)
+        storing-more f v g = record { can = s.can; passed = omega arith; each = λ names say. stored names say }
+          where
+            stored : (names : List (Option Bytes)) → SaysNames t words names → StoringFor p w named os₀ (set os k v) (k + 1) names
             stored names say =
-                let n : length names ≡ count = omega (arith, names-count t (part work₀ from (from + 2 * count)) names say, words-length) in
+                let n : length names ≡ length os₀ = as_many s.can names say in
+                let here : 0 + k ≡ k = omega arith in
                 let z : v ≡ get_or (origins_from p w named 0 names) k 0 =
-                g ∙ (ap (origin_word w) (mapping-is names say ∙ ap (λ (j : ℕ). mapping_of p named j (get_or names k none)) (omega arith)) ∙ sym (origins-at p w named 0 k names (omega arith))) in
+                g ∙ (ap (origin_word w) (mapping-is names say ∙ ap (λ (j : ℕ). mapping_of p named j (get_or names k none)) (sym here)) ∙ sym (origins-at p w named 0 k names (omega arith))) in
                 record {
-                  right = ap (λ (z : Bool). z && all_from (λ j name. is_right (mapping_of p named j name)) (k + 1) (drop (k + 1) names)) (sym (sym q ∙ not-false r f)) ∙ tested_right names say;
-                  copied = rw z (copied_more work₀ to (origins_from p w named 0 names) work k (s.each names say).copied 0 (omega (arith, origin-words p w named 0 names)));
+                  right = ap (λ (z : Bool). z && all_from (λ j name. is_right (mapping_of p named j name)) (k + 1) (drop (k + 1) names)) (sym f) ∙ tested_right names say;
+                  copied =
+                      rw z
+                      (subst (λ (j : ℕ). Copied os₀ 0 (origins_from p w named 0 names) (set os j (get_or (origins_from p w named 0 names) k 0)) (k + 1)) here
+                      (copied_more os₀ 0 (origins_from p w named 0 names) os k (s.each names say).copied 0 (omega (arith, origin-words p w named 0 names))));
                 }

@@ -32,10 +32,10 @@ module _ (p : ModelLeaves) (l : ℕ) where
     pub onto_before : x ≤ p.before → mapping.Wrong ≡ onto_number p (Some l)
     onto_before h = rw (le-ltb p.before (l / 2) (omega arith), and-false (not (odd l))) refl
 
-    pub onto_behind : p.before + p.count < x → mapping.Wrong ≡ onto_number p (Some l)
-    onto_behind h = rw (lt-leb (l / 2) (p.before + p.count) (omega arith), and-false (ltb p.before (l / 2)), and-false (not (odd l))) refl
+    pub onto_behind : p.before < x → p.count < x - p.before → mapping.Wrong ≡ onto_number p (Some l)
+    onto_behind b h = rw (lt-leb (l / 2) (p.before + p.count) (omega arith), and-false (ltb p.before (l / 2)), and-false (not (odd l))) refl
 
-    pub onto_it : (l % 2 ≡ 1 → ⊥) → p.before < x → x ≤ p.before + p.count → mapping.Onto l ≡ onto_number p (Some l)
+    pub onto_it : (l % 2 ≡ 1 → ⊥) → p.before < x → x - p.before ≤ p.count → mapping.Onto l ≡ onto_number p (Some l)
     onto_it n h k = rw (ne_eqb (l % 2) 1 n, lt-ltb p.before (l / 2) (omega arith), le-leb (l / 2) (p.before + p.count) (omega arith)) refl
 
 -- ---- a name

@@ -1,15 +1,16 @@
 -- Laws of the origins of one witness.
 use Rattle.std.specs.Prelude.{ℕ, ◌+◌, ◌-◌, ◌*◌, ◌≤◌, Option, Some, None}
 use mathlib.Core.Bool.{Bool}
-use mathlib.Core.List.{List, map, map-append}
+use mathlib.Core.List.{List, map, map-append, ◌++◌}
 use mathlib.Core.Option.{some}
 use mathlib.Core.Path.{◌≡◌, sym, ap, ◌∙◌, subst}
 use native.Mathlib.Omega.{arith}
-use lib.ListN.{length, take, drop, length-map}
-use lib.Seq.{take_at, drop_at, drop-drop, take-take}
-use Rattle.lists.specs.Parts.{Bytes, part}
+use lib.ListN.{length, take, drop, length-map, length-drop}
+use lib.Seq.{take_at, drop_at, drop-drop, take-take, length-take-le}
+use Rattle.lists.specs.Parts.{Bytes, part, put}
+use Rattle.lists.proofs.KeptLaws.{part-within}
 use Rattle.lists.specs.Words.{pairs_of}
-use Rattle.lists.proofs.PartLaws.{drop-take}
+use Rattle.lists.proofs.PartLaws.{drop-take, part_length}
 use Rattle.lists.proofs.WordLaws.{pairs-take, pairs-drop}
 use Rattle.witness_text.specs.declared.AagCounts.{AagCounts}
 use Rattle.witness_read.specs.Sections.{Sections, leaves, latch_names, names_in}
@@ -19,10 +20,11 @@ use Rattle.compose_spec.specs.declared.ModelLeaves.{ModelLeaves}
 use Rattle.compose_spec.specs.Mapping.{maps_by_name}
 use Rattle.compose_joint.specs.declared.Leaves.{Leaves}
 use Rattle.compose_joint.specs.declared.Leaves.TheVariants as leaf
-use Rattle.compose_joint.specs.Inner.Joint.{names_of, leaf_counts, names_before}
+use Rattle.compose_joint.specs.Inner.Joint.{names_of, leaf_counts, names_before, origins_from}
+use Rattle.compose_joint.proofs.AmountLaws.{origin-words}
 use Rattle.compose_gather.specs.Inner.Gathered.{Block}
-use Rattle.compose_gather.proofs.CountLaws.{leaves-within}
-use Rattle.compose_origins.specs.Inner.Mapped.{SaysNames, SayNames, AnyMapped, CanMap, OriginsIf, StoresOrigins, CanTest, TestsWitness, CanMapWitness, WitnessOrigins, MapsWitness}
+use Rattle.compose_gather.proofs.CountLaws.{counts-leaves, leaves-within}
+use Rattle.compose_origins.specs.Inner.Mapped.{SaysNames, SayNames, AnyMapped, CanMap, OriginsIf, StoresOrigins, CanTest, TestsWitness, CanMapWitness, MapsWitness}
 
 -- ---- the names among the words of a text
 
@@ -88,27 +90,51 @@ module _ (p : ModelLeaves) (leaves : Leaves) (t : Bytes) (n : AagCounts) (work :
     pub witness_test : CanTest t n work from
     witness_test = record { sections = k.sections; counts = k.counts; block = k.block; room = omega (arith, k.behind, k.room) }
 
-    module _ (names count : ℕ) (a : names ≡ from + names_before leaves n) (c : count ≡ leaf_counts leaves n) where
-      pub witness-can : CanMap p t work names count w to
+    module _ (names count : ℕ) (a : names ≡ from + names_before leaves n) (c : count ≡ leaf_counts leaves n) (front behind : List ℕ) (f : front ≡ take to work) (b : behind ≡ drop to work) where
+      -- the words of the names, among those in front of the origins
+      words : part front names (names + 2 * count) ≡ part work names (names + 2 * count)
+      words =
+          ap (λ (l : List ℕ). part l names (names + 2 * count)) f
+          ∙ part-within work to names (names + 2 * count) (omega (arith, a, c, k.behind, leaves-within leaves n))
+
+      say : (s : Sections) → n ≡ counts_in s → Block t s (drop from work) → SaysNames t (part front names (names + 2 * count)) (names_of leaves s)
+      say s e d = ap (pairs_of (name_from t)) words ∙ rw (a, c, e) (leaves-say leaves t s work from d)
+
+      -- as many words for origins
+      there : length (take count behind) ≡ count
+      there = ap (λ (l : List ℕ). length (take count l)) b ∙ length-take-le count (drop to work) (omega (arith, length-drop to work, k.room, c))
+
+      pub witness-can : CanMap p t (part front names (names + 2 * count)) w (take count behind)
       witness-can =
           record {
-            few = record { model = k.few.model; number = omega (arith, k.few.number, leaves-few leaves n) };
+            few = record { model = k.few.model; number = omega (arith, there, k.few.number, leaves-few leaves n) };
             witness = k.witness;
-            names = record { names = names_of leaves k.sections; say = rw (a, c, k.counts) (leaves-say leaves t k.sections work from k.block) };
-            behind = omega (arith, k.behind, leaves-within leaves n);
-            room = omega (arith, k.room);
+            names = record { names = names_of leaves k.sections; say = say k.sections k.counts k.block };
+            count =
+                ap length words
+                ∙ (part_length work names (names + 2 * count) (omega (arith, a, c, k.behind, k.room, leaves-within leaves n)) ∙ omega (arith, there));
           }
 
-  module _ (names count : ℕ) (a : names ≡ from + names_before leaves n) (c : count ≡ leaf_counts leaves n) (named : Bool) (r : Option ℕ) (work' : List ℕ)
-      (tests : TestsWitness t n work from named) (stores : StoresOrigins p t names count named w to work work' r) where
-    if_stored : (s : Sections) → n ≡ counts_in s → Block t s (drop from work) → OriginsIf r p w (maps_by_name s) (names_of leaves s) work count to work'
-    if_stored s e b =
-        subst (λ (q : Bool). OriginsIf r p w q (names_of leaves s) work count to work') (tests.tests s e b)
-        (stores (names_of leaves s) (rw (a, c, e) (leaves-say leaves t s work from b)))
+      module _ (named : Bool) (tests : TestsWitness t n work from named) (os : List ℕ) where
+        stored : (r : Option (Unit {0})) → StoresOrigins p t (part front names (names + 2 * count)) named w os r
+            → (s : Sections) → n ≡ counts_in s → Block t s (drop from work) → OriginsIf r p w (maps_by_name s) (names_of leaves s) os
+        stored r stores s e d = subst (λ (q : Bool). OriginsIf r p w q (names_of leaves s) os) (tests.tests s e d) (stores (names_of leaves s) (say s e d))
 
-    decided : (q : Option ℕ) (s : Sections) → OriginsIf q p w (maps_by_name s) (names_of leaves s) work count to work' → WitnessOrigins p leaves n w s work to work' q
-    decided (Some e) s o = (o.0, (o.1.0, o.1.1 ∙ ap (λ (j : ℕ). to + j) c))
-    decided None s o = o
+        pub witness_wrong : StoresOrigins p t (part front names (names + 2 * count)) named w os None → (work' : List ℕ) → MapsWitness p leaves t n work from w to work' None
+        witness_wrong stores work' = record { maps = λ s e d. stored None stores s e d }
 
-    pub witness-mapped : MapsWitness p leaves t n work from w to work' r
-    witness-mapped = record { maps = λ s e b. decided r s (if_stored s e b) }
+        placed : (xs : List ℕ) → length xs ≡ count → os ≡ xs → front ++ (os ++ drop count behind) ≡ put work to xs
+        placed xs e q =
+            rw (f, b, q)
+            (ap (λ (l : List ℕ). take to work ++ (xs ++ l)) (drop-drop count to work ∙ ap (λ (j : ℕ). drop (to + j) work) (sym e)))
+
+        pub witness-mapped : (u : Unit {0}) → StoresOrigins p t (part front names (names + 2 * count)) named w os (Some u)
+            → MapsWitness p leaves t n work from w to (front ++ (os ++ drop count behind)) (Some (to + count))
+        witness-mapped u stores =
+            record {
+              maps = λ s e d.
+                  let o = stored (Some u) stores s e d in
+                  let long : length (origins_from p w (maps_by_name s) 0 (names_of leaves s)) ≡ count =
+                  origin-words p w (maps_by_name s) 0 (names_of leaves s) ∙ (sym (counts-leaves leaves s) ∙ (ap (leaf_counts leaves) (sym e) ∙ sym c)) in
+                  (o.0, (placed (origins_from p w (maps_by_name s) 0 (names_of leaves s)) long o.1, ap (λ (j : ℕ). to + j) c));
+            }

@@ -2,14 +2,15 @@
 #![tactic(auto)]
 
 ghost use Rattle.std.proofs.Math.Option.{some};
-ghost use Rattle.std.specs.Prelude.{Some, ◌≡◌, ◌+◌, ◌≤◌, ◌<◌};
+ghost use Rattle.std.specs.Prelude.{Some, SomeIff, true, option_copied, ◌≡◌, ◌+◌, ◌≤◌, ◌<◌};
 ghost use Rattle.text.specs.declared.Reader.TheVariants.{Witness};
 ghost use Rattle.text.specs.Numbers.{number_of};
 ghost use Rattle.compose_gather.specs.Inner.Gathered.{words_for};
-ghost use Rattle.compose_spec.specs.Mapping.{onto_number, by_name, by_position};
+ghost use Rattle.compose_gather.specs.Inner.Names.{name_of};
+ghost use Rattle.compose_spec.specs.Mapping.{onto_number, by_name, by_position, mapping_of, is_mapped};
 ghost use Rattle.compose_spec.specs.Composing.{is_right};
 ghost use Rattle.compose_joint.specs.Inner.Joint.{origin_word, names_before};
-ghost use Rattle.compose_origins.specs.Inner.Mapped.{FewLeaves, SaysName, MapsTo, MappedAt, MapsAt, TestsName, SaysAt, TestsAt, SayNames, AnyMapped, CanMap, StoresOrigins, CanTest, TestsWitness, CanMapWitness, MapsWitness, CanMapAll, MapsAll};
+ghost use Rattle.compose_origins.specs.Inner.Mapped.{FewLeaves, SayNames, AnyMapped, CanMap, StoresOrigins, CanTest, TestsWitness, CanMapWitness, MapsWitness, CanMapAll, MapsAll};
 
 use compose_gather::Witnesses;
 use compose_joint::Leaves;
@@ -18,17 +19,10 @@ use witness_text::AagCounts;
 
 // What a literal behind `= ` maps to.
 fn onto(model_leaves: ModelLeaves, l: u64) -> Mapping
-    requires { FewLeaves model_leaves 0 }
     ensures { result ≡ onto_number model_leaves (Some l) }
 {
     let x = (l / 2) as usize;
-    if l % 2 == 1 {
-        return Mapping::Wrong;
-    }
-    if x <= model_leaves.before {
-        return Mapping::Wrong;
-    }
-    if model_leaves.before + model_leaves.count < x {
+    if l % 2 == 1 || x <= model_leaves.before || model_leaves.count < x - model_leaves.before {
         return Mapping::Wrong;
     }
     Mapping::Onto(l)
@@ -36,7 +30,6 @@ fn onto(model_leaves: ModelLeaves, l: u64) -> Mapping
 
 // What the bytes behind `= ` map to.
 fn onto_digits(model_leaves: ModelLeaves, digits: &[u8]) -> Mapping
-    requires { FewLeaves model_leaves 0 }
     ensures { result ≡ onto_number model_leaves (number_of Witness digits.now) }
 {
     match text::numbers::parse_number(digits) {
@@ -47,7 +40,6 @@ fn onto_digits(model_leaves: ModelLeaves, digits: &[u8]) -> Mapping
 
 // What an input or latch of this name maps to.
 fn by_name(model_leaves: ModelLeaves, name: &[u8]) -> Mapping
-    requires { FewLeaves model_leaves 0 }
     ensures { result ≡ by_name model_leaves (some name.now) }
 {
     if name.len() < 2 {
@@ -70,64 +62,29 @@ fn by_position(model_leaves: ModelLeaves, k: usize) -> Mapping
     Mapping::Private
 }
 
-// What input or latch number k maps to; two words say its name.
-fn mapping_of(
-    text: &[u8],
-    offset: usize,
-    size: usize,
-    named: bool,
-    model_leaves: ModelLeaves,
-    k: usize,
-) -> Mapping
-    requires few_leaves { FewLeaves model_leaves k }
-    requires says_name { SaysName text.now offset size }
-    ensures { MapsTo model_leaves named k text.now offset size result }
+// What input or latch number k, which may have a name, maps to in a witness that maps by name or by position.
+// Kept (switch): which of both it is was found of the whole witness, and the definition branches on it.
+fn mapping_of(named: bool, name: Option<&[u8]>, model_leaves: ModelLeaves, k: usize) -> Mapping
+    requires { FewLeaves model_leaves k }
+    ensures { result ≡ mapping_of model_leaves named k (name_of (option_copied name.entry)) }
 {
-    if named {
-        if offset == 0 {
-            return Mapping::Private;
-        }
-        return by_name(model_leaves, compose_gather::piece(text, offset, size));
+    if !named {
+        return by_position(model_leaves, k);
     }
-    by_position(model_leaves, k)
-}
-
-// What input or latch number k maps to; the two words at a place say its name.
-fn mapping_at(
-    text: &[u8],
-    work: &[u64],
-    at: usize,
-    named: bool,
-    model_leaves: ModelLeaves,
-    k: usize,
-) -> Mapping
-    requires { MappedAt model_leaves text.now work.now at k }
-    ensures { MapsAt model_leaves named k text.now work.now at result }
-{
-    let offset = work[at] as usize;
-    let size = work[at + 1] as usize;
-    mapping_of(text, offset, size, named, model_leaves, k)
-}
-
-// Whether a name begins with `= `; two words say it.
-fn is_mapped(text: &[u8], offset: usize, size: usize) -> bool
-    requires { SaysName text.now offset size }
-    ensures { TestsName text.now offset size result }
-{
-    if offset == 0 {
-        return false;
+    match name {
+        Some(name) => by_name(model_leaves, name),
+        None => Mapping::Private,
     }
-    scan::begins_with(compose_gather::piece(text, offset, size), b"= ")
 }
 
-// Whether name number i begins with `= `.
-fn mapped_at(text: &[u8], words: &[u64], i: usize) -> bool
-    requires { SaysAt text.now words.now i }
-    ensures { TestsAt text.now words.now i result }
+// Whether there is a name that begins with `= `.
+fn is_mapped(name: Option<&[u8]>) -> bool
+    ensures { result ≡ is_mapped (name_of (option_copied name.entry)) }
 {
-    let offset = words[2 * i] as usize;
-    let size = words[2 * i + 1] as usize;
-    is_mapped(text, offset, size)
+    match name {
+        Some(name) => scan::begins_with(name, b"= "),
+        None => false,
+    }
 }
 
 // Whether one of the names begins with `= `.
@@ -137,52 +94,43 @@ fn any_mapped(text: &[u8], words: &[u64]) -> bool
 {
     let count = words.len() / 2;
     for i in 0..count {
-        if mapped_at(text, words, i) {
+        if is_mapped(compose_gather::name_at(text, words, 2 * i)) {
             return true;
         }
     }
     false
 }
 
-// The word of an origin: the literal of the model, or an odd number for witness w.
-fn origin_word(w: usize, mapping: Mapping) -> u64
+// The word of an origin, if it is right: the literal of the model, or an odd number for witness w.
+fn origin_word(w: usize, mapping: Mapping) -> Option<u64>
     requires { w < 64 }
-    ensures { result ≡ origin_word w mapping }
+    ensures { SomeIff result (is_right mapping ≡ true) (origin_word w mapping) }
 {
     match mapping {
-        Mapping::Private | Mapping::Wrong => (2 * w + 1) as u64,
-        Mapping::Onto(l) => l,
+        Mapping::Private => Some((2 * w + 1) as u64),
+        Mapping::Onto(l) => Some(l),
+        Mapping::Wrong => None,
     }
 }
 
-fn is_right(mapping: Mapping) -> bool
-    ensures { result ≡ is_right mapping }
-{
-    !matches!(mapping, Mapping::Wrong)
-}
-
-// The origins of so many inputs or latches of witness w, whose names are said from one place on, from another place on. Returns the place after them, or nothing where a literal is wrong (R9.16).
+// The origins of as many inputs or latches of witness w, whose names pairs of words say; or nothing where a literal is wrong (R9.16).
+// Kept (switch): `named` as in `mapping_of`.
 fn store_origins(
     text: &[u8],
-    work: &mut [u64],
-    from: usize,
-    count: usize,
+    names: &[u64],
     named: bool,
     model_leaves: ModelLeaves,
     w: usize,
-    to: usize,
-) -> Option<usize>
-    requires { CanMap model_leaves text.now work.old from count w to }
-    ensures { StoresOrigins model_leaves text.now from count named w to work.old work.new result }
+    origins: &mut [u64],
+) -> Option<()>
+    requires { CanMap model_leaves text.now names.now w origins.old }
+    ensures { StoresOrigins model_leaves text.now names.now named w origins.new result }
 {
-    for k in 0..count {
-        let mapping = mapping_at(text, work, from + 2 * k, named, model_leaves, k);
-        if !is_right(mapping) {
-            return None;
-        }
-        work[to + k] = origin_word(w, mapping);
+    for k in 0..origins.len() {
+        let name = compose_gather::name_at(text, names, 2 * k);
+        origins[k] = origin_word(w, mapping_of(named, name, model_leaves, k))?;
     }
-    Some(to + count)
+    Some(())
 }
 
 // Where the names of the inputs, or latches, begin; the words of the text begin at a place.
@@ -219,7 +167,16 @@ fn witness_origins(
     let named = maps_by_name(text, counts, work, from);
     let names = names_at(leaves, counts, from, to);
     let count = leaves.count(counts);
-    store_origins(text, work, names, count, named, model_leaves, w, to)
+    let (words, behind) = work.split_at_mut(to);
+    store_origins(
+        text,
+        &words[names..names + 2 * count],
+        named,
+        model_leaves,
+        w,
+        &mut behind[..count],
+    )?;
+    Some(to + count)
 }
 
 // The origins of the inputs, or latches, of all witnesses, from a place on. Returns the place after them, or nothing where a literal is wrong (R9.16).

@@ -12,6 +12,8 @@ use compose_merge::Merged;
 use text_print::Printer;
 
 // A merged composition: all that its text is printed from.
+// Kept (travel): that there are a model and witnesses of which it is the composition stays in the contracts: a ghost field would have to
+// forget which they are, and the functions that print need them.
 #[derive(Clone, Copy)]
 pub struct Composition<'a> {
     pub witnesses: Witnesses<'a>,

@@ -111,12 +111,18 @@ pub record SmallWord (r is-it : ℕ) : Type 0 where
   pub is : r ≡ is-it
   pub small : r < 8589934592
 
--- literals that are small, and room for them behind
-pub record CanShift (h : Shift) (work : List ℕ) (from count to : ℕ) : Type 0 where
+-- literals that are small, and as many words
+pub record CanShift (h : Shift) (xs ys : List ℕ) : Type 0 where
   pub small : SmallShift h
-  pub behind : from + count ≤ to
-  pub room : to + count ≤ length work
-  pub literals : (i : ℕ) → i < count → get_or work (from + i) 0 < 4294967296
+  pub same : length ys ≡ length xs
+  pub literals : (i : ℕ) → i < length xs → get_or xs i 0 < 4294967296
+
+-- the literals of a range behind a place are small, and there is room for them behind all of that
+pub record CanShiftRange (range : Range) (h : Shift) (work : List ℕ) (from to : ℕ) : Type 0 where
+  pub small : SmallShift h
+  pub behind : from + range.start + range.count ≤ to
+  pub room : to + range.count ≤ length work
+  pub literals : (i : ℕ) → i < range.count → get_or work (from + range.start + i) 0 < 4294967296
 
 -- the shift of a witness with these counts, where there are i inputs and q latches in all
 abbrev pub shift_for : ℕ → ℕ → Before → AagCounts → Shift
@@ -140,11 +146,6 @@ pub record SmallBefore (i q : ℕ) (b : Before) (n : AagCounts) : Type 0 where
   pub gates : b.gates + n.gates < 1073741824
   pub few_inputs : i < 1073741824
   pub few_latches : q < 1073741824
-
--- a list of a witness may be written as joint literals: its words stand from one place on, and there is room from another
-pub record CanShiftList (kind : Literals) (n : AagCounts) (h : Shift) (work : List ℕ) (from to : ℕ) : Type 0 where
-  pub words : from + words_for n ≤ to
-  pub can : CanShift h work (from + (range_of kind n).start) (range_of kind n).count to
 
 -- the literals of a range stand from a place on as joint literals, and r is the place after them
 pub record ShiftsRange (range : Range) (h : Shift) (work : List ℕ) (from to : ℕ) (work' : List ℕ) (r : ℕ) : Type 0 where

@@ -1,6 +1,6 @@
 -- For the contracts of the functions that print symbol lines: names with their composed variables, walked in their order.
 use Rattle.std.specs.Prelude.{ℕ, zero, suc, ◌+◌, ◌-◌, ◌*◌, ◌≤◌, ◌<◌, cond, List, [], ◌∷◌, map, ◌≡◌, eqb, length, get_or}
-use Rattle.std.proofs.Math.Option.{Option, some}
+use Rattle.std.proofs.Math.Option.{some}
 use Rattle.lists.specs.Parts.{Bytes, part}
 use Rattle.text_decimal.specs.Printed.{text_of}
 use Rattle.text_print.specs.declared.Printer.{Printer}
@@ -13,9 +13,10 @@ use Rattle.compose_spec.specs.Calling.{texts_in}
 use Rattle.compose_joint.specs.declared.Leaves.{Leaves}
 use Rattle.compose_joint.specs.Inner.Joint.{total_of, origins, entries_of, leaf_counts, names_before, kind_of}
 use Rattle.compose_gather.specs.Inner.Gathered.{words_for, Blocks, word_total, Readable, leaf_count_of}
+use Rattle.compose_gather.specs.Inner.Names.{NameWords, name_at}
 use Rattle.compose_names.specs.declared.Starts.{Starts}
 use Rattle.compose_names.specs.declared.Rows.{Rows}
-use Rattle.compose_names.specs.Inner.Names.{firsts_of, own_name, name_for}
+use Rattle.compose_names.specs.Inner.Names.{firsts_of, name_for}
 
 -- a composed variable and the name that one with this variable has
 pub record Row : Type 0 where
@@ -40,13 +41,10 @@ abbrev pub row_at : Bytes → List ℕ → Leaves → ℕ → Starts → ℕ →
 row_at t work leaf w p k =
     record {
       number = get_or work (p.numbers + k) 0;
-      name = name_for leaf w (get_or work (p.origins + k) 0) (own_name t (get_or work (p.names + 2 * k) 0) (get_or work (p.names + 2 * k + 1) 0));
+      name = name_for leaf w (get_or work (p.origins + k) 0) (name_at t work (p.names + 2 * k));
     }
 
--- the own name of row k, and row k, of one witness's rows
-abbrev pub own_in : Rows → ℕ → Option Bytes
-own_in r k = own_name r.text.now (get_or r.work.now (r.starts.names + 2 * k) 0) (get_or r.work.now (r.starts.names + 2 * k + 1) 0)
-
+-- row k of one witness's rows
 abbrev pub row_in : Rows → ℕ → Row
 row_in r k = row_at r.text.now r.work.now r.leaves r.w r.starts k
 
@@ -57,9 +55,8 @@ rows_from row k (suc left) = row k ∷ rows_from row (suc k) left
 
 -- the words of row k stand at their places
 pub record RowWords (t : Bytes) (work : List ℕ) (p : Starts) (k : ℕ) : Type 0 where
-  pub name : p.names + 2 * k + 1 < length work
+  pub name : NameWords t work (p.names + 2 * k)
   pub origin : p.origins + k < length work
-  pub within : get_or work (p.names + 2 * k) 0 + get_or work (p.names + 2 * k + 1) 0 ≤ length t
 
 -- the words of so many names stand at their places, and composed variables are small
 pub record CanPrintNames (t : Bytes) (work : List ℕ) (p : Starts) (count first next : ℕ) : Type 0 where

@@ -5,11 +5,11 @@ use Rattle.compose_origins.proofs.any_mapped.Goals as goal
 pub loop-i-init : goal.loop-i-init
 loop-i-init c = search (rules, testing-none)
 
-pub mapped_at-requires : goal.mapped_at-requires
-mapped_at-requires c = search testing-says
+pub name_at-requires : goal.name_at-requires
+name_at-requires c = search testing-says
 
-pub returns-then-mapped_at : goal.returns-then-mapped_at
-returns-then-mapped_at c = search testing-true
+pub returns-then-is_mapped : goal.returns-then-is_mapped
+returns-then-is_mapped c = search testing-true
 
 pub loop-i-preserved : goal.loop-i-preserved
 loop-i-preserved c = search testing-more

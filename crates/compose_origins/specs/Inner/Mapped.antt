@@ -1,7 +1,7 @@
 -- For the contracts of the functions that map inputs and latches onto the model's.
-use Rattle.std.specs.Prelude.{ℕ, ◌+◌, ◌*◌, ◌/◌, ◌≤◌, ◌<◌, Bool, true, false, List, map, ◌≡◌, length, drop, get_or, Option, Some, None}
+use Rattle.std.specs.Prelude.{ℕ, ◌+◌, ◌*◌, ◌≤◌, ◌<◌, Bool, true, false, List, map, ◌≡◌, length, drop, Option, Some, None}
 use Rattle.std.proofs.Math.Option as math
-use Rattle.lists.specs.Parts.{Bytes, part, put}
+use Rattle.lists.specs.Parts.{Bytes, put}
 use Rattle.lists.specs.Tests.{any, all}
 use Rattle.lists.specs.Words.{pairs_of}
 use Rattle.witness_text.specs.declared.AagCounts.{AagCounts}
@@ -9,8 +9,7 @@ use Rattle.witness_read.specs.Sections.{Sections}
 use Rattle.witness_read.specs.Reading.{counts_in}
 use Rattle.witness_load.specs.Inner.Loaded.{name_from}
 use Rattle.compose_spec.specs.declared.ModelLeaves.{ModelLeaves}
-use Rattle.compose_spec.specs.declared.Mapping.{Mapping}
-use Rattle.compose_spec.specs.Mapping.{is_mapped, maps_by_name, mapping_of}
+use Rattle.compose_spec.specs.Mapping.{is_mapped, maps_by_name}
 use Rattle.compose_spec.specs.Composing.{leaves_right}
 use Rattle.compose_joint.specs.declared.Before.{Before}
 use Rattle.compose_joint.specs.declared.Leaves.{Leaves}
@@ -21,36 +20,6 @@ use Rattle.compose_gather.specs.Inner.Gathered.{words_for, Block, Readable, CanG
 pub record FewLeaves (p : ModelLeaves) (k : ℕ) : Type 0 where
   pub model : p.before + p.count < 1073741824
   pub number : k < 1073741824
-
--- two words say a name of a text, or that there is none
-pub record SaysName (t : Bytes) (offset size : ℕ) : Type 0 where
-  pub name : math.Option Bytes
-  pub is : name_from t offset size ≡ math.some name
-
--- what number k maps to
-abbrev pub MapsTo : ModelLeaves → Bool → ℕ → Bytes → ℕ → ℕ → Mapping → Type 0
-MapsTo p named k t offset size r = (name : math.Option Bytes) → name_from t offset size ≡ math.some name → r ≡ mapping_of p named k name
-
--- whether the name begins with `= `
-abbrev pub TestsName : Bytes → ℕ → ℕ → Bool → Type 0
-TestsName t offset size r = (name : math.Option Bytes) → name_from t offset size ≡ math.some name → r ≡ is_mapped name
-
--- the words of pair i say a name
-pub record SaysAt (t : Bytes) (words : List ℕ) (i : ℕ) : Type 0 where
-  pub there : i < length words / 2
-  pub says : SaysName t (get_or words (2 * i) 0) (get_or words (2 * i + 1) 0)
-
-pub record TestsAt (t : Bytes) (words : List ℕ) (i : ℕ) (r : Bool) : Type 0 where
-  pub tests : TestsName t (get_or words (2 * i) 0) (get_or words (2 * i + 1) 0) r
-
--- the two words at a place say the name of number k
-pub record MappedAt (p : ModelLeaves) (t : Bytes) (work : List ℕ) (at k : ℕ) : Type 0 where
-  pub few : FewLeaves p k
-  pub there : at + 1 < length work
-  pub says : SaysName t (get_or work at 0) (get_or work (at + 1) 0)
-
-pub record MapsAt (p : ModelLeaves) (named : Bool) (k : ℕ) (t : Bytes) (work : List ℕ) (at : ℕ) (r : Mapping) : Type 0 where
-  pub maps : MapsTo p named k t (get_or work at 0) (get_or work (at + 1) 0) r
 
 -- pairs of words say these names
 abbrev pub SaysNames : Bytes → List ℕ → List (math.Option Bytes) → Type 0
@@ -63,22 +32,20 @@ pub record SayNames (t : Bytes) (words : List ℕ) : Type 0 where
 abbrev pub AnyMapped : Bytes → List ℕ → Bool → Type 0
 AnyMapped t words r = (names : List (math.Option Bytes)) → SaysNames t words names → r ≡ any is_mapped names
 
--- the words from one place on say names, and there is room for an origin of each from another place on
-pub record CanMap (p : ModelLeaves) (t : Bytes) (work : List ℕ) (from count w to : ℕ) : Type 0 where
-  pub few : FewLeaves p count
+-- pairs of words say names, and there are as many words for origins
+pub record CanMap (p : ModelLeaves) (t : Bytes) (words : List ℕ) (w : ℕ) (origins : List ℕ) : Type 0 where
+  pub few : FewLeaves p (length origins)
   pub witness : w < 64
-  pub names : SayNames t (part work from (from + 2 * count))
-  pub behind : from + 2 * count ≤ to
-  pub room : to + count ≤ length work
+  pub names : SayNames t words
+  pub count : length words ≡ 2 * length origins
 
--- nothing where a literal is wrong, else the origins stand there, and the place after them
-abbrev pub OriginsIf : Option ℕ → ModelLeaves → ℕ → Bool → List (math.Option Bytes) → List ℕ → ℕ → ℕ → List ℕ → Type 0
-OriginsIf (Some e) p w named names work count to work' = (leaves_right p named names ≡ true) × ((work' ≡ put work to (origins_from p w named 0 names)) × (e ≡ to + count))
-OriginsIf None p w named names work count to work' = leaves_right p named names ≡ false
+-- nothing where a literal is wrong, else the origins
+abbrev pub OriginsIf : Option (Unit {0}) → ModelLeaves → ℕ → Bool → List (math.Option Bytes) → List ℕ → Type 0
+OriginsIf (Some e) p w named names origins = (leaves_right p named names ≡ true) × (origins ≡ origins_from p w named 0 names)
+OriginsIf None p w named names origins = leaves_right p named names ≡ false
 
-abbrev pub StoresOrigins : ModelLeaves → Bytes → ℕ → ℕ → Bool → ℕ → ℕ → List ℕ → List ℕ → Option ℕ → Type 0
-StoresOrigins p t from count named w to work work' r =
-    (names : List (math.Option Bytes)) → SaysNames t (part work from (from + 2 * count)) names → OriginsIf r p w named names work count to work'
+abbrev pub StoresOrigins : ModelLeaves → Bytes → List ℕ → Bool → ℕ → List ℕ → Option (Unit {0}) → Type 0
+StoresOrigins p t words named w origins r = (names : List (math.Option Bytes)) → SaysNames t words names → OriginsIf r p w named names origins
 
 -- ---- one witness
 

@@ -9,8 +9,11 @@ loop-w-init c = search (rules, gathering-none)
 pub after_words-next-requires : goal.after_words-next-requires
 after_words-next-requires c = search gather-behind
 
-pub shift_list-at-requires : goal.shift_list-at-requires
-shift_list-at-requires c = record { small_before = search gather-before; can_shift_list = search gather-can }
+pub shift_of-by-requires : goal.shift_of-by-requires
+shift_of-by-requires c = search gather-before
+
+pub shift_range-at-requires : goal.shift_range-at-requires
+shift_range-at-requires c = search gather-can
 
 pub pass-b-requires : goal.pass-b-requires
 pass-b-requires c = search gather-before
