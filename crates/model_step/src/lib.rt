@@ -17,8 +17,8 @@ ghost use Rattle.model_step.specs.Inner.Stored.{held, Becomes, Inside, InsideGat
 use aiger::{Gate, Refusal};
 use model::{GateList, LentModel};
 
-// The state that a step leads to, and the outputs: those from the 65th on in the high half.
-#[derive(Clone, Copy)]
+// The state that a step leads to, and the outputs: those from the 65th on in the high half. The first field that differs orders two.
+#[derive(Clone, Copy, PartialEq, Eq, PartialOrd, Ord)]
 pub struct Outcome {
     pub target: u64,
     pub high: u64,
