@@ -88,17 +88,6 @@ fn add_outcome_keys(nexts: &[u64], literals: &[u64], keys: &mut [u64])
     observed_keys(literals, keys, nexts.len());
 }
 
-// Puts the first n keys in order.
-fn sort_first(keys: &mut [u64], n: usize)
-    requires { (n ≤ 136) × (n ≤ length keys.old) }
-    ensures { take n keys.new ≡ sorted (take n keys.old) }
-{
-    if n < 2 {
-        return;
-    }
-    word_sort::sort(&mut keys[..n]);
-}
-
 // Puts the keys of a state's literals in order, and says how many there are.
 pub fn state_keys(literals: &[u64], keys: &mut [u64]) -> usize
     requires { (length literals.now ≤ 64) × (length literals.now ≤ length keys.old) × LowLiterals literals.now }
@@ -106,7 +95,7 @@ pub fn state_keys(literals: &[u64], keys: &mut [u64]) -> usize
 {
     let n = literals.len();
     add_keys(literals, 0, keys, 0);
-    sort_first(keys, n);
+    word_sort::sort(&mut keys[..n]);
     n
 }
 
@@ -119,7 +108,7 @@ pub fn outcome_keys(nexts: &[u64], outputs: &[u64], observed: &[u64], keys: &mut
     let n = nexts.len() + observed.len();
     observed_literals(outputs, observed, &mut picked);
     add_outcome_keys(nexts, lists::first(&picked, observed.len()), keys);
-    sort_first(keys, n);
+    word_sort::sort(&mut keys[..n]);
     n
 }
 
