@@ -68,7 +68,6 @@ module _ (q : Asked) (a : Asks q) (sized : Sized q.model) where
           few = f;
           bounded = accepted-bounded (circuit q) passed.well few-variables q.relevant q.pairs q.words a.bounds;
           clauses = accepted-few (circuit q) q.relevant q.pairs q.words a.bounds;
-          enough = passed.words;
           most = omega (arith, counts.sum, counts.most);
           low_gates = gates-low (circuit q) passed.well few-variables;
         }

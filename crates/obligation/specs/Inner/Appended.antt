@@ -66,7 +66,6 @@ pub record FrontReady (p : Parts) : Type 0 where
   pub few : length p.currents ≤ 8
   pub bounded : BoundedBy p.inputs p.relevant p.pairs p.words
   pub clauses : length p.pairs / 2 ≤ 64
-  pub enough : 3 * p.ands ≤ length p.gates
   pub most : p.ands ≤ 1000000
   pub low_gates : Each LowGate (take p.ands (triples_of gate_from p.gates))
 
