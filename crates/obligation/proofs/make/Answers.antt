@@ -19,15 +19,12 @@ returns-in_err-check c =
     let p = err_from_is_err_and c.from_residual.result c.from_residual.ensures.1 in
     rw (p.1, p.2) (call_refused (question (goal.at.returns-in_err-check c).Start) (sized (goal.at.returns-in_err-check c).Start) c.args.claim c.args.pairs.now c.args.literals.now c.args.work.now _ _ c.check.ensures _ c.in_err-check.was)
 
-pub claim_holds-requires : goal.claim_holds-requires
-claim_holds-requires c = asks (question (goal.at.claim_holds-requires c).Start) (length c.args.work.now) _ _ c.check.ensures _ c.in_ok-check.was
+pub invariant_of-accepted : goal.invariant_of-accepted
+invariant_of-accepted c = record { asks = asks (question (goal.at.invariant_of-accepted c).Start) (length c.args.work.now) _ _ c.check.ensures _ c.in_ok-check.was }
 
 pub returns-then-not-claim_holds : goal.returns-then-not-claim_holds
 returns-then-not-claim_holds c =
     call_unclaimed (question (goal.at.returns-then-not-claim_holds c).Start) (sized (goal.at.returns-then-not-claim_holds c).Start) c.args.claim c.args.pairs.now c.args.literals.now c.args.work.now _ _ c.check.ensures _ c.in_ok-check.was _ c.claim_holds.ensures (search rules)
-
-pub make_accepted-requires : goal.make_accepted-requires
-make_accepted-requires c = (asks (question (goal.at.make_accepted-requires c).Start) (length c.args.work.now) _ _ c.check.ensures _ c.in_ok-check.was, search rules)
 
 pub returns : goal.returns
 returns c =

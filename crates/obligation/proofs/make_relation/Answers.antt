@@ -9,7 +9,7 @@ use Rattle.obligation.proofs.make_relation.Goals as goal
 use Rattle.obligation.proofs.make_relation.Goals.{Start}
 
 abbrev question : Start → Asked
-question c = asked_in c.args.question.now
+question c = asked_in c.args.accepted.now.question.now
 
 sized : (c : Start) → Sized (question c).model
 sized c = record { latches = search rules }
@@ -19,19 +19,19 @@ state_keys-count-requires c =
     let q = question (goal.at.state_keys-count-requires c).Start in
     let z = sized (goal.at.state_keys-count-requires c).Start in
     let e = nexts_list q _ _ c.nexts-next.ensures c.first.ensures in
-    let few = few_list q c.requires.0 z _ e in
-    (omega (arith, few), omega (arith, few), low_list q c.requires.0 z _ e)
+    let few = few_list q c.args.accepted.now.asks z _ e in
+    (omega (arith, few), omega (arith, few), low_list q c.args.accepted.now.asks z _ e)
 
 pub make-requires : goal.make-requires
 make-requires c =
     let q = question (goal.at.make-requires c).Start in
     let ne = nexts_list q _ _ c.nexts-next.ensures c.first.ensures in
     let ce = currents_list q _ _ c.currents-now.ensures c.first-2.ensures in
-    relation_ready q c.requires.0 (sized (goal.at.make-requires c).Start) c.args.source _ (circuit q).inputs _ _ ce refl ne (in_order_lem _ _ _ _ c.state_keys-count.ensures c.first-3.ensures) _ c.requires.1
+    relation_ready q c.args.accepted.now.asks (sized (goal.at.make-requires c).Start) c.args.source _ (circuit q).inputs _ _ ce refl ne (in_order_lem _ _ _ _ c.state_keys-count.ensures c.first-3.ensures) _ c.requires
 
 pub returns : goal.returns
 returns c =
     let q = question (goal.at.returns c).Start in
     let ne = nexts_list q _ _ c.nexts-next.ensures c.first.ensures in
     let ce = currents_list q _ _ c.currents-now.ensures c.first-2.ensures in
-    relation_made q c.requires.0 (sized (goal.at.returns c).Start) c.args.source _ (circuit q).inputs _ _ ce refl ne (in_order_lem _ _ _ _ c.state_keys-count.ensures c.first-3.ensures) c.args.targets.now _ _ _ _ _ c.make.ensures
+    relation_made q c.args.accepted.now.asks (sized (goal.at.returns c).Start) c.args.source _ (circuit q).inputs _ _ ce refl ne (in_order_lem _ _ _ _ c.state_keys-count.ensures c.first-3.ensures) c.args.targets.now _ _ _ _ _ c.make.ensures

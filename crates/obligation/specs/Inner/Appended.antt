@@ -7,7 +7,8 @@ use Rattle.lists.specs.Words.{triples_of, words_of}
 use Rattle.aiger.specs.declared.Refusal.{Refusal}
 use Rattle.aiger.specs.Gates.{gate_from}
 use Rattle.aiger.specs.Refusals.{answered}
-use Rattle.model.specs.Checked.{checked}
+use Rattle.model.specs.Checked.{counts_of}
+use Rattle.model.specs.Limits.{counted, well_defined}
 use Rattle.cnf.specs.declared.ClauseCounts.{ClauseCounts}
 use Rattle.cnf.specs.Clauses.{Clause, clauses_in}
 use Rattle.obligation_spec.specs.Lists.{source_lists, predicate_literal, gate_lists}
@@ -92,8 +93,11 @@ room_of pairs literals = record { work = 0; pairs = length pairs; literals = len
 -- ---- once the model and the boundary are accepted
 
 pub record Asks (q : Asked) : Type 0 where
-  pub work : ℕ
-  pub checks : checked q.model q.gates work ≡ got (circuit q)
+  pub counts : counted (counts_of q.model) ≡ true
+  pub inputs : q.model.input_count ≤ length q.model.inputs
+  pub outputs : q.model.output_count ≤ length q.model.outputs
+  pub words : 3 * q.model.and_count ≤ length q.gates
+  pub well : well_defined (circuit q) ≡ true
   pub bounds : bounded (circuit q) q.relevant q.pairs q.words ≡ true
 
 -- the test of the claims holds
