@@ -1,6 +1,7 @@
 // The calls of crate `nitrasovy` as a static library, for callers in C and Rust: each has the name, the arguments and the contract of
 // the call that it passes on, word for word. A library for crates is no static library, so it is a crate of its own.
 // Kept (twin): a crate is a library or a static library, and C calls these by the names that `nitrasovy` has.
+// Kept (travel): C hands over each slice and each word by itself.
 #![tactic(auto)]
 
 ghost use Rattle.std.specs.Prelude.{length};

@@ -19,7 +19,7 @@ use Rattle.cnf.specs.Inner.Appending.{Holding, Appends, Space}
 use Rattle.cnf.proofs.AppendLaws.{empty, appends_then, appends-start, space-empty, space-less, space-left}
 use Rattle.obligation_spec.specs.Lists.{source_lists, predicate_literal, gate_lists}
 use Rattle.obligation_gates.proofs.SourceLaws.{count}
-use Rattle.obligation_claims.specs.Inner.Claims.{claim_list, state_claims, LowKeys}
+use Rattle.obligation_claims.specs.Inner.Claims.{FewKeys, claim_list, state_claims}
 use Rattle.obligation_claims.specs.declared.Claims.{Claims}
 use Rattle.obligation_claims.specs.declared.Claims.TheVariants.{States, Outcomes}
 use Rattle.obligation_claims.specs.Inner.Kinds.{count_in, words_in, wide_in, lists_of}
@@ -118,11 +118,11 @@ lists_same keys (Outcomes words) = refl
 
 -- what appending the claims asks
 pub claims-asked : (keys : List ℕ) (claims : Claims) → ClaimsReady (claimed_of keys (words_in claims) (wide_in claims)) → (at : ClauseCounts) → Space at 1000000
-    → Space at (count_in claims) × (length keys ≤ 1024) × LowKeys keys
+    → Space at (count_in claims) × FewKeys 1024 keys
 claims-asked keys claims d at s =
     let many : count_in claims ≤ 1000000 =
     omega (arith, count_same claims, claims_many keys (words_in claims) (wide_in claims), claims-few keys (words_in claims) (wide_in claims) d) in
-    (space-less at (count_in claims) 1000000 many s, omega (arith, d.few_keys), d.low_keys)
+    (space-less at (count_in claims) 1000000 many s, record { few = omega (arith, d.few_keys.few); low = d.few_keys.low })
 
 -- the gates' words as the code cuts them
 thrice : (k : ℕ) → 3 * suc k ≡ suc (suc (suc (3 * k)))

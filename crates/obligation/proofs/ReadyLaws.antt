@@ -107,15 +107,13 @@ module _ (q : Asked) (a : Asks q) (sized : Sized q.model) where
 pub states_ready : (ls keys states : List ℕ) → keys ≡ sorted (keys_from 0 ls) → Low ls → length ls ≤ 8 → length states ≤ 1000000 → ClaimsReady (claimed_of keys states false)
 states_ready ls keys states e l n f =
     record {
-      low_keys = rw e (each-sorted (λ key. key < 2 ^ 39) (keys_from 0 ls) (keys-low 0 ls (omega arith) l));
-      few_keys = rw (e, sorted-length (keys_from 0 ls), keys_length 0 ls) (omega arith);
+      few_keys = record { few = rw (e, sorted-length (keys_from 0 ls), keys_length 0 ls) (omega arith); low = rw e (each-sorted (λ key. key < 2 ^ 39) (keys_from 0 ls) (keys-low 0 ls (omega arith) l)) };
       few_words = f;
     }
 
 pub outcomes_ready : (nexts observed keys words : List ℕ) → keys ≡ sorted (outcome_keys nexts observed) → Low nexts → Low observed → length nexts ≤ 8 → length observed ≤ 128 → length words ≤ 1000000 → ClaimsReady (claimed_of keys words true)
 outcomes_ready nexts observed keys words e l k n m f =
     record {
-      low_keys = rw e (each-sorted (λ key. key < 2 ^ 39) (outcome_keys nexts observed) (outcome-low nexts observed (omega arith) m l k));
-      few_keys = rw (e, sorted-length (outcome_keys nexts observed), outcome-length nexts observed) (omega arith);
+      few_keys = record { few = rw (e, sorted-length (outcome_keys nexts observed), outcome-length nexts observed) (omega arith); low = rw e (each-sorted (λ key. key < 2 ^ 39) (outcome_keys nexts observed) (outcome-low nexts observed (omega arith) m l k)) };
       few_words = f;
     }

@@ -201,6 +201,7 @@ pub fn make(
 }
 
 // The clauses of a row: every input that meets the predicate leads from the source to a claimed target.
+// Kept (travel): the arguments are those of the Rust's call.
 pub fn relation_row_completeness_cnf(
     model: &AigerTransition,
     gates: &[u64],

@@ -20,7 +20,7 @@ state_keys-count-requires c =
     let z = sized (goal.at.state_keys-count-requires c).Start in
     let e = nexts_list q _ _ c.nexts-next.ensures c.first.ensures in
     let few = few_list q c.args.accepted.now.asks z _ e in
-    (omega (arith, few), omega (arith, few), low_list q c.args.accepted.now.asks z _ e)
+    (record { few = omega (arith, few); low = low_list q c.args.accepted.now.asks z _ e }, omega (arith, few))
 
 pub make-requires : goal.make-requires
 make-requires c =

@@ -20,7 +20,7 @@ state_keys-count-requires c =
     let z = sized (goal.at.state_keys-count-requires c).Start in
     let e = currents_list q _ _ c.currents-now.ensures c.first.ensures in
     let few = few_list_now q c.args.accepted.now.asks z _ e in
-    (omega (arith, few), omega (arith, few), low_list_now q c.args.accepted.now.asks z _ e)
+    (record { few = omega (arith, few); low = low_list_now q c.args.accepted.now.asks z _ e }, omega (arith, few))
 
 pub opposite_of-requires : goal.opposite_of-requires
 opposite_of-requires c =

@@ -20,7 +20,7 @@ outcome_keys-count-requires c =
     let q = question (goal.at.outcome_keys-count-requires c).Start in
     let z = sized (goal.at.outcome_keys-count-requires c).Start in
     let e = nexts_list q _ _ c.nexts-next.ensures c.first-nexts.ensures in
-    (few_list q c.args.accepted.now.asks z _ e, few-observed q c.args.accepted.now.asks z _ c.args.outcomes.now c.requires, omega arith, low_list q c.args.accepted.now.asks z _ e, low_list_out q c.args.accepted.now.asks z _ c.first-outputs.ensures)
+    (record { few = few_list q c.args.accepted.now.asks z _ e; low = low_list q c.args.accepted.now.asks z _ e }, few-observed q c.args.accepted.now.asks z _ c.args.outcomes.now c.requires, omega arith, low_list_out q c.args.accepted.now.asks z _ c.first-outputs.ensures)
 
 pub make-requires : goal.make-requires
 make-requires c =

@@ -15,7 +15,7 @@ use Rattle.obligation_spec.specs.Lists.{source_lists, predicate_literal, gate_li
 use Rattle.obligation_spec.specs.Limits.{bounded}
 use Rattle.obligation_spec.specs.Calls.{Asked, circuit, Lent, within}
 use Rattle.obligation_gates.specs.Inner.Encoding.{Low, LowGate, BoundedBy}
-use Rattle.obligation_claims.specs.Inner.Claims.{LowKeys, state_claims, outcome_claims}
+use Rattle.obligation_claims.specs.Inner.Claims.{FewKeys, state_claims, outcome_claims}
 use Rattle.obligation.specs.Promise.{sizes, pairs_after, literals_after}
 
 -- what the clauses are made of: latches at a source's bits (none for a terminal list), inputs with a predicate, gates, and the claims
@@ -72,8 +72,7 @@ pub record FrontReady (p : Parts) : Type 0 where
 
 -- .. and of its claims
 pub record ClaimsReady (c : Claimed) : Type 0 where
-  pub low_keys : LowKeys c.keys
-  pub few_keys : length c.keys ≤ 136
+  pub few_keys : FewKeys 136 c.keys
   pub few_words : length c.words ≤ 1000000
 
 pub record Ready (p : Parts) (c : Claimed) (last : ℕ) : Type 0 where

@@ -24,9 +24,9 @@ slice_bounds-push_simplified-end c = within (goal.at.slice_bounds-push_simplifie
 pub push_simplified-requires : goal.push_simplified-requires
 push_simplified-requires c =
     let f = filled (goal.at.push_simplified-requires c).In-Some in (
-      omega (arith, length-take c.in-Some.n c.fill_claim.new.list, claim_words c.args.keys.now c.args.claim.now _ _ f, c.requires.1.short),
+      omega (arith, length-take c.in-Some.n c.fill_claim.new.list, claim_words c.args.keys.now c.args.claim.now _ _ f, c.requires.1.few_keys.few),
       c.requires.0,
-      words-narrow c.args.keys.now c.args.claim.now _ _ f c.requires.1.low,
+      words-narrow c.args.keys.now c.args.claim.now _ _ f c.requires.1.few_keys.low,
     )
 
 pub returns-in-Some : goal.returns-in-Some
