@@ -54,6 +54,7 @@ fn question<'a>(model: &'a [u64], gates: &'a [u64], predicate: Predicate<'a>) ->
 
 // A row with claimed targets.
 // Kept (travel): C hands over each slice by itself, here and in the other calls.
+// Kept (twin): they differ in what is claimed.
 #[unsafe(no_mangle)]
 pub extern "C" fn nit_relation_row(
     model: &[u64],

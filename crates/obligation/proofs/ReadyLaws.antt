@@ -20,12 +20,18 @@ use Rattle.obligation_spec.specs.Calls.{Asked, circuit}
 use Rattle.obligation_spec.proofs.AcceptedLaws.{states_facts, outcomes_facts}
 use Rattle.word_sort.specs.Inner.Sorted.{sorted}
 use Rattle.word_sort.proofs.SortedLaws.{each-sorted, sorted-length}
+use Rattle.obligation_check.specs.declared.Question.{Question}
+use Rattle.obligation_check.specs.Inner.Questions.{asked_in}
 use Rattle.obligation_check.proofs.OutcomeLaws.{outcomes_count}
 use Rattle.obligation_claims.specs.Inner.Claims.{keys_from, outcome_keys}
 use Rattle.obligation_claims.proofs.KeyLaws.{keys_length, keys-low, outcome-length, outcome-low}
 use Rattle.obligation_gates.specs.Inner.Encoding.{Low}
 use Rattle.obligation_gates.proofs.BoundedLaws.{currents-low, nexts-low, outputs-low, gates-low, accepted-bounded, accepted-few}
 use Rattle.obligation.specs.Inner.Appended.{parts_of, claimed_of, FrontReady, ClaimsReady, Asks}
+
+-- a lent record has its eight latches
+pub sized_in : (q : Question) → Sized (asked_in q).model
+sized_in q = record { latches = q.model.eight }
 
 module _ (q : Asked) (a : Asks q) (sized : Sized q.model) where
   counts : Counted (counts_of q.model)
