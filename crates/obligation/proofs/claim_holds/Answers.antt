@@ -1,11 +1,10 @@
 use mathlib.Core.Bool.{true}
-use mathlib.Core.Path.{refl, sym, ◌∙◌}
-use borrow.Author.Tests.{le-ltb}
+use mathlib.Core.Path.{refl}
 use Rattle.obligation_spec.specs.Lists.{outcomes_of}
 use Rattle.obligation_spec.specs.Limits.{states_claimed, outcomes_claimed}
 use Rattle.obligation_spec.specs.Calls.{circuit}
 use Rattle.obligation_check.specs.Inner.Questions.{asked_in}
-use Rattle.obligation.proofs.ClaimLaws.{both-second, both-first, state_test, states_test, outcomes_test, output_inside, output_outside}
+use Rattle.obligation.proofs.ClaimLaws.{both-second, both-first, state_test, states_test, outcomes_test, output_inside}
 use Rattle.obligation.proofs.ReadyLaws.{sized_in, few-latches, few-outputs}
 use Rattle.obligation.proofs.claim_holds.Goals as goal
 
@@ -58,10 +57,3 @@ returns-then-bad-counts c =
     let q = asked_in c.args.accepted.now.question.now in
     let z = sized_in c.args.accepted.now.question.now in
     rw c.in-Terminal.is (both-second _ _ true _ (output_inside q c.args.accepted.now.asks z c.in-Terminal.bad c.if-bad-counts.true) refl (states_test q c.args.accepted.now.asks z c.in-Terminal.states.now _ c.states_claimed-then-bad-counts.ensures))
-
-pub returns-else-bad-counts : goal.returns-else-bad-counts
-returns-else-bad-counts c =
-    let q = asked_in c.args.accepted.now.question.now in
-    let z = sized_in c.args.accepted.now.question.now in
-    let outside = le-ltb c.in-Terminal.bad c.args.accepted.now.question.now.model.counts.outputs c.if-bad-counts.false in
-    rw c.in-Terminal.is (both-first _ (states_claimed (circuit q) c.in-Terminal.states.now) _ (output_outside q c.args.accepted.now.asks z c.in-Terminal.bad c.if-bad-counts.false ∙ sym outside) outside)

@@ -2,7 +2,6 @@ use native.Mathlib.Omega.{arith}
 use lib.ListN.{length, length-take}
 use Prim.Native.Nat.{◌≤◌}
 use Rattle.cnf.specs.Inner.Appending.{Filled}
-use Rattle.cnf.proofs.SimplifyLaws.{filled-part}
 use Rattle.obligation_claims.specs.Inner.Claims.{claim_list}
 use Rattle.obligation_claims.proofs.PushLaws.{claim_dropped, claim_words, words-narrow}
 use Rattle.obligation_claims.proofs.push_claim.Goals as goal
@@ -28,8 +27,3 @@ push_simplified-requires c =
       c.requires.0,
       words-narrow c.args.keys.now c.args.claim.now _ _ f c.requires.1.few_keys.low,
     )
-
-pub returns-in-Some : goal.returns-in-Some
-returns-in-Some c =
-    let d = (goal.at.returns-in-Some c).In-Some in
-    c.push_simplified.ensures (claim_list c.args.keys.now c.args.claim.now) (filled-part _ _ _ (within d) (filled d))
