@@ -39,7 +39,7 @@ fn walk(table: &[u64], heads: usize, key: u64) -> usize
     let mixed = mix(key);
     let mut at = head(mixed, heads);
     let mut code = turn(mixed);
-    // Kept (loop): the search goes from node to node.
+    // Kept (loop): both ends of the search lie within a turn, at a word that is 0 and at the key's node; no condition at its head says either.
     loop {
         let Some(number) = (table[at] as usize).checked_sub(1) else {
             return at;
@@ -66,6 +66,7 @@ fn add(table: &mut [u64], node: usize, key: u64, at: usize, number: usize)
 }
 
 // The number of a key among those held; where it is not among them, it is added behind them and its number is `count`.
+// Kept (buffer): the words past the nodes are the caller's, and hold anything.
 pub fn find_or_add(table: &mut [u64], heads: usize, count: usize, key: u64) -> usize
     requires { Holding heads count key table.old }
     ensures { Finds heads count key table.old table.new result }

@@ -29,6 +29,7 @@ pub fn add(words: &mut [u64], k: usize) -> bool
 }
 
 // The first n words, or all where there are fewer.
+// Kept (buffer): this is what cuts a slice to its count.
 pub fn first(words: &[u64], n: usize) -> &[u64]
     ensures { result.now ≡ take n words.now }
 {

@@ -4,6 +4,7 @@ ghost use Rattle.std.specs.Prelude.{◌≡◌, length};
 use crate::{AigerLatch, Counts};
 
 // Its inputs and outputs are those of the caller, since they are long to copy, and can be fewer than are counted.
+// Kept (buffer): the counts are the record's own, and can be too large for its arrays until it is validated.
 #[derive(Clone, Copy)]
 pub struct LentModel<'a> {
     pub counts: Counts,

@@ -30,6 +30,7 @@ pub struct AigerLatch {
 }
 
 // The gates' words are lent beside it, three a gate.
+// Kept (buffer): C reads it, as arrays with counts.
 #[repr(C)]
 #[derive(Clone, Copy)]
 pub struct AigerTransition {
@@ -149,6 +150,7 @@ pub fn define_gate(marks: &mut [u64], most: usize, gate: Gate) -> bool
 }
 
 // The same for the first gates.
+// Kept (buffer): more gates may be lent than the model counts, and a list of them is no slice that could be cut.
 fn define_gates<G: GateList>(marks: &mut [u64], most: usize, gates: &G, count: usize) -> bool
     requires { count ≤ length (G.words gates.now) / 3 }
     ensures { AddsGates most marks.old true (take count (triples_of gate_from (G.words gates.now))) marks.new result }
@@ -175,6 +177,7 @@ fn within(literals: &[u64], most: usize) -> bool
 
 impl<'a> LentModel<'a> {
     // The literals of the latches.
+    // Kept (twin): each is one line; a closure to pick the word would stand at each call.
     pub fn currents(&self) -> [u64; 8]
         ensures { result ≡ map current_of self.now.latches }
     {

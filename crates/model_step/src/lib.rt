@@ -17,8 +17,8 @@ ghost use Rattle.model_step.specs.Inner.Stored.{held, Becomes, Inside, InsideGat
 use aiger::{Gate, Refusal};
 use model::{GateList, LentModel};
 
-// The state that a step leads to, and the outputs: those from the 65th on in the high half.
-#[derive(Clone, Copy)]
+// The state that a step leads to, and the outputs: those from the 65th on in the high half. The first field that differs orders two.
+#[derive(Clone, Copy, PartialEq, Eq, PartialOrd, Ord)]
 pub struct Outcome {
     pub target: u64,
     pub high: u64,
@@ -59,6 +59,7 @@ fn run_gate(values: &mut [u64], gate: Gate)
 }
 
 // The first gates are computed in their order.
+// Kept (buffer): as in `define_gates` of `model`.
 fn run_gates<G: GateList>(values: &mut [u64], gates: &G, count: usize)
     requires { (count ≤ length (G.words gates.now) / 3) × Each (InsideGate (length values.old)) (take count (triples_of gate_from (G.words gates.now))) }
     ensures { Becomes values.old values.new (λ v. computed v (take count (triples_of gate_from (G.words gates.now)))) }
@@ -93,6 +94,7 @@ fn read_out(values: &[u64], nexts: &[u64], outputs: &[u64]) -> Outcome
 }
 
 // One step of a valid model, in words that are all 0.
+// Kept (travel): a state and an input word, here and in `evaluate`: a struct of both would be made for one call and taken apart in it.
 fn run<G: GateList>(
     model: &LentModel,
     gates: &G,

@@ -32,6 +32,7 @@ impl<'a> GateList for GateRecords<'a> {
 }
 
 // One step of a model, which is lent as the words of its memory, with its gates as records. The work words are 0 again afterwards.
+// Kept (travel): a state and an input word, as in `evaluate` of `model_step`.
 pub fn evaluate_records(
     model: &[u64],
     gates: &[Gate],

@@ -11,6 +11,7 @@ use crate::models::NitStepped;
 use aiger::Gate;
 
 // One step of a model, which is lent as the words of its memory, with its gates as a list of records.
+// Kept (travel): C hands over a state and an input word.
 #[unsafe(no_mangle)]
 pub extern "C" fn nit_step_records(
     model: &[u64],

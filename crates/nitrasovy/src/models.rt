@@ -68,6 +68,7 @@ impl From<Result<Outcome, Refusal>> for NitStepped {
 }
 
 // One step of a model, which is lent as the words of its memory.
+// Kept (travel): C hands over a state and an input word.
 #[unsafe(no_mangle)]
 pub extern "C" fn nit_step(
     model: &[u64],

@@ -66,6 +66,7 @@ fn question<'a>(
 }
 
 // A row with claimed targets.
+// Kept (twin): they differ in what is claimed.
 #[unsafe(no_mangle)]
 pub extern "C" fn nit_relation_row(
     model: &[u64],

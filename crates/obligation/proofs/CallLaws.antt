@@ -13,7 +13,7 @@ use Rattle.aiger.specs.declared.Refusal.TheVariants as refusal
 use Rattle.aiger.specs.Refusals.{refusal_number}
 use Rattle.model.specs.Circuit.{Circuit}
 use Rattle.model.specs.Checked.{checked, judged}
-use Rattle.model.proofs.ValueLaws.{Sized}
+use Rattle.model.proofs.ValueLaws.{Sized, checked-got}
 use Rattle.cnf.specs.declared.ClauseCounts.{ClauseCounts}
 use Rattle.cnf.specs.Clauses.{Clause}
 use Rattle.obligation_spec.specs.Lists.{outcomes_of}
@@ -36,9 +36,13 @@ asks-from q lent e =
     let d : Circuit = found.0 in
     let test : Bool = bounded d q.relevant q.pairs q.words in
     let same : d ≡ circuit q = got_same d (circuit q) (unless-got 13 (got d) (circuit q) test found.2) in
+    let p = checked-got q.model q.gates lent.work (circuit q) (found.1 ∙ ap got same) in
     record {
-      work = lent.work;
-      checks = found.1 ∙ ap got same;
+      counts = p.counts;
+      inputs = p.inputs;
+      outputs = p.outputs;
+      words = p.words;
+      well = p.well;
       bounds = ap (λ (c : Circuit). bounded c q.relevant q.pairs q.words) (sym same) ∙ unless_test 13 (got d) (circuit q) test found.2;
     }
 

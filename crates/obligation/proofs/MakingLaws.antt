@@ -1,13 +1,15 @@
 -- Laws for the functions that append all clauses: what is appended, and that it can be counted.
-use Prim.Native.Nat.{ℕ, ◌+◌, ◌*◌, ◌/◌, ◌≤◌}
+use Prim.Native.Nat.{ℕ, zero, suc, ◌+◌, ◌*◌, ◌/◌, ◌≤◌}
 use mathlib.Core.Bool.{Bool, true, false}
 use mathlib.Core.List.{List, [], ◌∷◌, ◌++◌, map}
-use mathlib.Core.Path.{◌≡◌, refl, ◌∙◌}
+use mathlib.Core.Path.{◌≡◌, refl, ap, ◌∙◌}
 use native.Mathlib.Omega.{arith}
 use lib.ListN.{length, take, drop, length-append, length-map, length-take}
 use Rattle.lists.specs.Bits.{bits}
+use Rattle.lists.specs.Tests.{Each}
 use Rattle.lists.specs.Words.{triples_of, words_of}
 use Rattle.lists.proofs.WordLaws.{pairs-count, triples_count, words-length}
+use Rattle.aiger.specs.declared.Gate.{Gate}
 use Rattle.aiger.specs.Gates.{gate_from}
 use Rattle.cnf.specs.declared.ClauseCounts.{ClauseCounts}
 use Rattle.cnf.specs.declared.Clauses.{Clauses}
@@ -17,11 +19,11 @@ use Rattle.cnf.specs.Inner.Appending.{Holding, Appends, Space}
 use Rattle.cnf.proofs.AppendLaws.{empty, appends_then, appends-start, space-empty, space-less, space-left}
 use Rattle.obligation_spec.specs.Lists.{source_lists, predicate_literal, gate_lists}
 use Rattle.obligation_gates.proofs.SourceLaws.{count}
-use Rattle.obligation_claims.specs.Inner.Claims.{claim_list, state_claims, LowKeys}
+use Rattle.obligation_claims.specs.Inner.Claims.{FewKeys, claim_list, state_claims}
 use Rattle.obligation_claims.specs.declared.Claims.{Claims}
 use Rattle.obligation_claims.specs.declared.Claims.TheVariants.{States, Outcomes}
 use Rattle.obligation_claims.specs.Inner.Kinds.{count_in, words_in, wide_in, lists_of}
-use Rattle.obligation_gates.specs.Inner.Encoding.{BoundedBy}
+use Rattle.obligation_gates.specs.Inner.Encoding.{LowGate, BoundedBy}
 use Rattle.obligation.specs.Inner.Appended.{Parts, Claimed, claimed_of, front_lists, claim_lists, all_lists, claim_count, FrontReady, ClaimsReady}
 
 module _ (p : Parts) (f : FrontReady p) where
@@ -116,11 +118,29 @@ lists_same keys (Outcomes words) = refl
 
 -- what appending the claims asks
 pub claims-asked : (keys : List ℕ) (claims : Claims) → ClaimsReady (claimed_of keys (words_in claims) (wide_in claims)) → (at : ClauseCounts) → Space at 1000000
-    → Space at (count_in claims) × (length keys ≤ 1024) × LowKeys keys
+    → Space at (count_in claims) × FewKeys 1024 keys
 claims-asked keys claims d at s =
     let many : count_in claims ≤ 1000000 =
     omega (arith, count_same claims, claims_many keys (words_in claims) (wide_in claims), claims-few keys (words_in claims) (wide_in claims) d) in
-    (space-less at (count_in claims) 1000000 many s, omega (arith, d.few_keys), d.low_keys)
+    (space-less at (count_in claims) 1000000 many s, record { few = omega (arith, d.few_keys.few); low = d.few_keys.low })
+
+-- the gates' words as the code cuts them
+thrice : (k : ℕ) → 3 * suc k ≡ suc (suc (suc (3 * k)))
+thrice k = omega arith
+
+gates_cut : (k : ℕ) (ws : List ℕ) → triples_of gate_from (take (3 * k) ws) ≡ take k (triples_of gate_from ws)
+gates_cut zero ws = refl
+gates_cut (suc k) [] = rw (thrice k) refl
+gates_cut (suc k) (x ∷ []) = rw (thrice k) refl
+gates_cut (suc k) (x ∷ y ∷ []) = rw (thrice k) refl
+gates_cut (suc k) (x ∷ y ∷ z ∷ ws) = rw (thrice k) (ap (λ (gs : List Gate). gate_from x y z ∷ gs) (gates_cut k ws))
+
+module _ (p : Parts) (f : FrontReady p) (gs : List ℕ) (e : gs ≡ take (3 * p.ands) p.gates) where
+  pub cut_asked : (at : ClauseCounts) → Space at (3 * p.ands) → Each LowGate (triples_of gate_from gs) × Space at (length gs)
+  cut_asked at h = (rw (e, gates_cut p.ands p.gates) f.low_gates, space-less at (length gs) (3 * p.ands) (omega (arith, ap length e, length-take (3 * p.ands) p.gates)) h)
+
+  pub cut-appends : (s t : Clauses) → Appends (words_of gate_lists (triples_of gate_from gs)) s t → Appends (words_of gate_lists (take p.ands (triples_of gate_from p.gates))) s t
+  cut-appends s t g = rw (e, gates_cut p.ands p.gates) at g
 
 -- inputs as the code lends them
 pub bounded_inputs : (p : Parts) → FrontReady p → (is : List ℕ) → is ≡ p.inputs → BoundedBy is p.relevant p.pairs p.words

@@ -70,7 +70,7 @@ pub roomy-asks : (p : Parts) (c : Claimed) (last : ℕ) → Ready p c last → (
     → (length p.currents ≤ 8) × (length p.pairs / 2 ≤ 64) × (p.ands ≤ 1000000) × (length c.keys * n ≤ 136000000) × (n ≤ 1000000)
 roomy-asks p c last r n e =
     let few : n ≤ 1000000 = omega (arith, e, claims_many c.keys c.words c.wide, claims-few c.keys c.words c.wide r.claims) in
-    (r.front.few, r.front.clauses, r.front.most, omega (arith, mul-le-mul r.claims.few_keys few), few)
+    (r.front.few, r.front.clauses, r.front.most, omega (arith, mul-le-mul r.claims.few_keys.few few), few)
 
 module _ (p : Parts) (c : Claimed) (last : ℕ) (r : Ready p c last) where
   front_total : total (front_lists p) ≤ length p.currents + 1024 + 7 * p.ands

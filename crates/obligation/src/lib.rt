@@ -37,12 +37,18 @@ pub enum Claim<'a> {
     },
 }
 
+// A question whose model and boundary are accepted.
+#[derive(Clone, Copy)]
+struct Accepted<'a> {
+    question: &'a Question<'a>,
+    ghost asks: { Asks (asked_in question.now) },
+}
+
 // Whether the claim is right for an accepted model: R9.14.
-fn claim_holds(question: &Question, claim: Claim) -> bool
-    requires { Asks (asked_in question.now) }
-    ensures { result ≡ claim_test (circuit (asked_in question.now)) claim.entry }
+fn claim_holds(accepted: &Accepted, claim: Claim) -> bool
+    ensures { result ≡ claim_test (circuit (asked_in accepted.now.question.now)) claim.entry }
 {
-    let counts = question.model.counts;
+    let counts = accepted.question.model.counts;
     match claim {
         Claim::Relation { source, targets } => {
             obligation_check::is_state(counts.latches, source)
@@ -69,15 +75,16 @@ fn claim_holds(question: &Question, claim: Claim) -> bool
 
 // Makes the clauses of a row with claimed targets, once all arguments are accepted.
 fn make_relation(
-    question: &Question,
+    accepted: &Accepted,
     source: u64,
     targets: &[u64],
     pairs: &mut [u64],
     literals: &mut [u32],
 ) -> Result<ClauseCounts, Refusal>
-    requires { Asks (asked_in question.now) × ClaimsOf (states_claimed (circuit (asked_in question.now)) targets.now) }
-    ensures { let q = asked_in question.now in MakesAll (relation_clauses (circuit q) q.relevant (predicate q) source targets.now) pairs.old literals.old result pairs.new literals.new }
+    requires { ClaimsOf (states_claimed (circuit (asked_in accepted.now.question.now)) targets.now) }
+    ensures { let q = asked_in accepted.now.question.now in MakesAll (relation_clauses (circuit q) q.relevant (predicate q) source targets.now) pairs.old literals.old result pairs.new literals.new }
 {
+    let question = accepted.question;
     let latches = question.model.counts.latches;
     let now = question.model.currents();
     let next = question.model.nexts();
@@ -95,16 +102,17 @@ fn make_relation(
 
 // The same for a row with claimed outcomes.
 fn make_transducer(
-    question: &Question,
+    accepted: &Accepted,
     source: u64,
     observed: &[u64],
     outcomes: &[u64],
     pairs: &mut [u64],
     literals: &mut [u32],
 ) -> Result<ClauseCounts, Refusal>
-    requires { Asks (asked_in question.now) × ClaimsOf (outcomes_claimed (circuit (asked_in question.now)) observed.now (outcomes_of outcomes.now)) }
-    ensures { let q = asked_in question.now in MakesAll (transducer_clauses (circuit q) q.relevant (predicate q) source observed.now (outcomes_of outcomes.now)) pairs.old literals.old result pairs.new literals.new }
+    requires { ClaimsOf (outcomes_claimed (circuit (asked_in accepted.now.question.now)) observed.now (outcomes_of outcomes.now)) }
+    ensures { let q = asked_in accepted.now.question.now in MakesAll (transducer_clauses (circuit q) q.relevant (predicate q) source observed.now (outcomes_of outcomes.now)) pairs.old literals.old result pairs.new literals.new }
 {
+    let question = accepted.question;
     let counts = question.model.counts;
     let now = question.model.currents();
     let next = question.model.nexts();
@@ -124,15 +132,16 @@ fn make_transducer(
 
 // The same for a terminal list, which has no source, and ends with the bad output at 0.
 fn make_terminal(
-    question: &Question,
+    accepted: &Accepted,
     bad: usize,
     states: &[u64],
     pairs: &mut [u64],
     literals: &mut [u32],
 ) -> Result<ClauseCounts, Refusal>
-    requires { Asks (asked_in question.now) × ClaimsOf (states_claimed (circuit (asked_in question.now)) states.now) }
-    ensures { let q = asked_in question.now in MakesAll (terminal_clauses (circuit q) q.relevant (predicate q) bad states.now) pairs.old literals.old result pairs.new literals.new }
+    requires { ClaimsOf (states_claimed (circuit (asked_in accepted.now.question.now)) states.now) }
+    ensures { let q = asked_in accepted.now.question.now in MakesAll (terminal_clauses (circuit q) q.relevant (predicate q) bad states.now) pairs.old literals.old result pairs.new literals.new }
 {
+    let question = accepted.question;
     let counts = question.model.counts;
     let now = question.model.currents();
     let outputs = lists::first(question.model.outputs, counts.outputs);
@@ -150,25 +159,25 @@ fn make_terminal(
 
 // Makes the clauses of a claim, once all arguments are accepted.
 fn make_accepted(
-    question: &Question,
+    accepted: &Accepted,
     claim: Claim,
     pairs: &mut [u64],
     literals: &mut [u32],
 ) -> Result<ClauseCounts, Refusal>
-    requires { Asks (asked_in question.now) × ClaimsOf (claim_test (circuit (asked_in question.now)) claim) }
-    ensures { MakesAll (claim_clauses (asked_in question.now) claim.entry) pairs.old literals.old result pairs.new literals.new }
+    requires { ClaimsOf (claim_test (circuit (asked_in accepted.now.question.now)) claim) }
+    ensures { MakesAll (claim_clauses (asked_in accepted.now.question.now) claim.entry) pairs.old literals.old result pairs.new literals.new }
 {
     match claim {
         Claim::Relation { source, targets } => {
-            make_relation(question, source, targets, pairs, literals)
+            make_relation(accepted, source, targets, pairs, literals)
         }
         Claim::Transducer {
             source,
             observed,
             outcomes,
-        } => make_transducer(question, source, observed, outcomes, pairs, literals),
+        } => make_transducer(accepted, source, observed, outcomes, pairs, literals),
         Claim::Terminal { bad, states } => {
-            make_terminal(question, bad as usize, states, pairs, literals)
+            make_terminal(accepted, bad as usize, states, pairs, literals)
         }
     }
 }
@@ -184,13 +193,15 @@ pub fn make(
     ensures { Promised claim.entry (asked_in question.now) (buffers_of pairs.old literals.old work.old) result (buffers_of pairs.new literals.new work.new) }
 {
     question.check(work)?;
-    if !claim_holds(question, claim) {
+    let accepted = Accepted { question };
+    if !claim_holds(&accepted, claim) {
         return Err(Refusal::Claim);
     }
-    make_accepted(question, claim, pairs, literals)
+    make_accepted(&accepted, claim, pairs, literals)
 }
 
 // The clauses of a row: every input that meets the predicate leads from the source to a claimed target.
+// Kept (travel): the arguments are those of the Rust's call.
 pub fn relation_row_completeness_cnf(
     model: &AigerTransition,
     gates: &[u64],

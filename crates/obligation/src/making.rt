@@ -43,9 +43,10 @@ fn append_all(
     };
     let model = question.model;
     let inputs = lists::first(model.inputs, model.counts.inputs);
+    let gates = lists::first(question.gates, 3 * model.counts.ands);
     obligation_gates::append_sources(plan.currents, plan.source, &mut clauses);
     obligation_gates::append_predicate(inputs, &question.predicate, &mut clauses);
-    obligation_gates::append_ands(question.gates, model.counts.ands, &mut clauses);
+    obligation_gates::append_ands(gates, &mut clauses);
     obligation_claims::append_claims(plan.keys, plan.claims, &mut clauses);
     clauses.push_single(plan.last);
     clauses.counts

@@ -1,11 +1,11 @@
 -- Laws for the functions that check claimed outcomes (R9.14).
 use Prim.Native.Nat.{ℕ, ◌+◌, ◌-◌, ◌*◌, ◌/◌, ◌≤◌, ◌<◌, ◌^◌}
-use mathlib.Core.Bool.{Bool, true, false, ◌&&◌, ◌||◌, and-false, and-true, or-false}
+use mathlib.Core.Bool.{Bool, true, false, ◌&&◌, and-false, and-true}
 use mathlib.Core.List.{List, [], ◌∷◌}
 use mathlib.Core.Path.{◌≡◌, refl, sym, ap, ◌∙◌}
 use native.Mathlib.Omega.{arith}
-use borrow.Author.Tests.{le-leb, lt-leb, ltb-true, lt-ltb, le-ltb, eq-eqb, ne_eqb}
-use lib.Dec.{leb, ltb, eqb}
+use borrow.Author.Tests.{le-leb, lt-leb, ltb-true, lt-ltb, le-ltb}
+use lib.Dec.{leb, ltb}
 use lib.ListN.{length, get_or, drop}
 use Rattle.model_step.specs.declared.Outcome.{Outcome}
 use Rattle.lists.specs.Sets.{rising}
@@ -17,24 +17,6 @@ use Rattle.lists.proofs.WordLaws.{triples_count, triples_at}
 use Rattle.obligation_spec.specs.Lists.{outcomes_of}
 use Rattle.obligation_spec.specs.Limits.{before, rising_outcomes, outcomes_claimed}
 use Rattle.obligation_check.specs.Inner.Boundary.{no_outcome, outcome_fits, ClaimsOutcomes}
-
-not-less : (n : ℕ) → ltb n n ≡ false
-not-less n = le-ltb n n (omega arith)
-
--- the first word that differs decides
-module _ (a b : Outcome) where
-  pub before-target : (a.target ≡ b.target → ⊥) → ltb a.target b.target ≡ before a b
-  before-target h = rw (ne_eqb a.target b.target h) (sym (or-false (ltb a.target b.target)))
-
-  module _ (same : a.target ≡ b.target) where
-    highs : before a b ≡ (ltb a.high b.high || (eqb a.high b.high && ltb a.low b.low))
-    highs = rw (eq-eqb a.target b.target same, same, not-less b.target) refl
-
-    pub before_high : (a.high ≡ b.high → ⊥) → ltb a.high b.high ≡ before a b
-    before_high h = sym (highs ∙ rw (ne_eqb a.high b.high h) (or-false (ltb a.high b.high)))
-
-    pub before-low : a.high ≡ b.high → ltb a.low b.low ≡ before a b
-    before-low h = sym (highs ∙ rw (eq-eqb a.high b.high h, h, not-less b.high) refl)
 
 -- a high half of 0
 pub low_fits : (high low n : ℕ) (r : Bool) → r ≡ ltb low (2 ^ n) → high ≡ 0 → r ≡ ltb (low + 2 ^ 64 * high) (2 ^ n)

@@ -120,20 +120,8 @@ fn bits_hold(high: u64, low: u64, n: usize) -> bool
     high == 0 && lists::fits(low, n)
 }
 
-// Whether an outcome comes before another: target, high, low.
-fn comes_before(a: Outcome, b: Outcome) -> bool
-    ensures { result ≡ before a b }
-{
-    if a.target != b.target {
-        return a.target < b.target;
-    }
-    if a.high != b.high {
-        return a.high < b.high;
-    }
-    a.low < b.low
-}
-
 // The outcome of the three words at place i.
+// Kept (twin): `gate` of `model` reads three words alike, but the fields have their own names.
 fn outcome_at(words: &[u64], i: usize) -> Outcome
     requires { i < length words.now / 3 }
     ensures { result ≡ get_or (outcomes_of words.now) i no_outcome }
@@ -151,23 +139,24 @@ fn outcomes_rise(words: &[u64]) -> bool
 {
     let count = words.len() / 3;
     for i in 1..count {
-        if !comes_before(outcome_at(words, i - 1), outcome_at(words, i)) {
+        let rises = outcome_at(words, i - 1) < outcome_at(words, i);
+        if !rises {
             return false;
         }
     }
     true
 }
 
-// Whether each outcome's target is below 2^L, and its outputs have no bit at n or above.
-fn outcomes_fit(words: &[u64], latches: usize, n: usize) -> bool
-    requires { (latches ≤ 8) × (n ≤ 128) }
-    ensures { result ≡ all (outcome_fits latches n) (outcomes_of words.now) }
+// Whether each outcome's target is below 2^L, and its outputs have no bit at `width` or above.
+fn outcomes_fit(words: &[u64], latches: usize, width: usize) -> bool
+    requires { (latches ≤ 8) × (width ≤ 128) }
+    ensures { result ≡ all (outcome_fits latches width) (outcomes_of words.now) }
 {
     let count = words.len() / 3;
     let top = states(latches);
     for i in 0..count {
         let outcome = outcome_at(words, i);
-        if top <= outcome.target || !bits_hold(outcome.high, outcome.low, n) {
+        if top <= outcome.target || !bits_hold(outcome.high, outcome.low, width) {
             return false;
         }
     }

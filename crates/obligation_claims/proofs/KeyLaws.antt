@@ -172,12 +172,3 @@ module _ (outputs observed lits : List ℕ) where
         let q : w ≡ put o 0 (outcome_keys nexts (picked outputs observed)) = rw e at f in
         let z : n ≡ length (outcome_keys nexts (picked outputs observed)) = omega (arith, outcome-length nexts (picked outputs observed), picked_length outputs observed) in
         in_order_lem o (outcome_keys nexts (picked outputs observed)) w s n q z same (omega arith) p
-
--- fewer than two keys are in order
-pub sorted-few : (l : List ℕ) → length l < 2 → l ≡ sorted l
-sorted-few [] h = refl
-sorted-few (x ∷ []) h = refl
-sorted-few (x ∷ y ∷ l) h = absurd (omega arith)
-
-pub few_in_order : (o : List ℕ) (n : ℕ) → n < 2 → take n o ≡ sorted (take n o)
-few_in_order o n h = sorted-few (take n o) (rw (length-take n o) (omega arith))

@@ -27,7 +27,7 @@ use Rattle.obligation_claims.specs.Inner.Claims.{claim_list, LowKeys}
 use Rattle.obligation_claims.specs.declared.Claims.{Claims}
 use Rattle.obligation_claims.specs.declared.Claims.TheVariants.{States, Outcomes}
 use Rattle.obligation_claims.specs.Inner.Kinds.{count_in, claim_at, lists_of}
-use Rattle.obligation_claims.specs.Inner.Filling.{Fills, Fits}
+use Rattle.obligation_claims.specs.Inner.Filling.{Fills}
 use Rattle.obligation_claims.proofs.FillLaws.{claim_length, claim_narrow}
 
 -- ---- push_few: at most three literals, filled up with false constants
@@ -88,10 +88,6 @@ module _ (keys claim list : List ℕ) (n : ℕ) (f : Filled (claim_list keys cla
   words-narrow h = filled-narrow (claim_list keys claim) list n f (claim_narrow keys claim h)
 
 -- ---- all claims
-
--- few keys need no list
-pub fits-few : (keys : List ℕ) (n : ℕ) → length keys ≤ 3 → LowKeys keys → Fits keys n
-fits-few keys n h e = record { low = e; short = omega arith; list_fits = λ k. absurd (omega arith) }
 
 -- the words of one claim, as the code cuts them
 pub one_word : (states : List ℕ) (i : ℕ) → i < length states → take (i + 1 - i) (drop i states) ≡ get_or states i 0 ∷ []

@@ -11,7 +11,7 @@ ghost use Rattle.lists.specs.Sets.{holds};
 ghost use Rattle.word_sort.specs.Inner.Sorted.{sorted};
 ghost use Rattle.cnf.specs.Inner.Appending.{Appends, Space};
 ghost use Rattle.obligation_spec.specs.Lists.{valued};
-ghost use Rattle.obligation_claims.specs.Inner.Claims.{keys_from, observed_keys, outcome_keys, claim_list, LowKeys, LowLiterals};
+ghost use Rattle.obligation_claims.specs.Inner.Claims.{keys_from, observed_keys, outcome_keys, claim_list, FewKeys, LowLiterals, FewLiterals};
 ghost use Rattle.obligation_claims.specs.Inner.Kinds.{count_in, claim_at, lists_of};
 ghost use Rattle.obligation_claims.specs.Inner.Filling.{InOrder, Fills, Fits};
 
@@ -70,7 +70,7 @@ fn observed_literals(outputs: &[u64], observed: &[u64], out: &mut [u64])
 
 // Writes the keys of the observed outputs: the first 64 have the bits of the low half, the others those of the high half.
 fn observed_keys(literals: &[u64], keys: &mut [u64], at: usize)
-    requires { (at + length literals.now ≤ length keys.old) × (length literals.now ≤ 128) × LowLiterals literals.now }
+    requires { (at + length literals.now ≤ length keys.old) × FewLiterals 128 literals.now }
     ensures { keys.new ≡ put keys.old at (observed_keys literals.now) }
 {
     let low = lists::first(literals, 64);
@@ -81,45 +81,34 @@ fn observed_keys(literals: &[u64], keys: &mut [u64], at: usize)
 
 // Writes the keys of an outcome's literals.
 fn add_outcome_keys(nexts: &[u64], literals: &[u64], keys: &mut [u64])
-    requires { (length nexts.now ≤ 8) × (length literals.now ≤ 128) × (136 ≤ length keys.old) × LowLiterals nexts.now × LowLiterals literals.now }
+    requires { FewLiterals 8 nexts.now × FewLiterals 128 literals.now × (136 ≤ length keys.old) }
     ensures { keys.new ≡ put keys.old 0 (outcome_keys nexts.now literals.now) }
 {
     add_keys(nexts, 0, keys, 0);
     observed_keys(literals, keys, nexts.len());
 }
 
-// Puts the first n keys in order.
-fn sort_first(keys: &mut [u64], n: usize)
-    requires { (n ≤ 136) × (n ≤ length keys.old) }
-    ensures { take n keys.new ≡ sorted (take n keys.old) }
-{
-    if n < 2 {
-        return;
-    }
-    word_sort::sort(&mut keys[..n]);
-}
-
 // Puts the keys of a state's literals in order, and says how many there are.
 pub fn state_keys(literals: &[u64], keys: &mut [u64]) -> usize
-    requires { (length literals.now ≤ 64) × (length literals.now ≤ length keys.old) × LowLiterals literals.now }
+    requires { FewLiterals 64 literals.now × (length literals.now ≤ length keys.old) }
     ensures { InOrder (keys_from 0 literals.now) result keys.new }
 {
     let n = literals.len();
     add_keys(literals, 0, keys, 0);
-    sort_first(keys, n);
+    word_sort::sort(&mut keys[..n]);
     n
 }
 
 // Puts the keys of an outcome's literals in order, and says how many there are.
 pub fn outcome_keys(nexts: &[u64], outputs: &[u64], observed: &[u64], keys: &mut [u64]) -> usize
-    requires { (length nexts.now ≤ 8) × (length observed.now ≤ 128) × (136 ≤ length keys.old) × LowLiterals nexts.now × LowLiterals outputs.now }
+    requires { FewLiterals 8 nexts.now × (length observed.now ≤ 128) × (136 ≤ length keys.old) × LowLiterals outputs.now }
     ensures { InOrder (outcome_keys nexts.now (map (λ i. get_or outputs.now i 0) observed.now)) result keys.new }
 {
     let mut picked = [0; 128];
     let n = nexts.len() + observed.len();
     observed_literals(outputs, observed, &mut picked);
     add_outcome_keys(nexts, lists::first(&picked, observed.len()), keys);
-    sort_first(keys, n);
+    word_sort::sort(&mut keys[..n]);
     n
 }
 
@@ -142,7 +131,7 @@ fn claim_literal(key: u64, claim: &[u64]) -> u64
 
 // Fills the list with the words of a claim's clause, false constants left out, and says how many; none where a literal is the true one.
 fn fill_claim(keys: &[u64], claim: &[u64], list: &mut [u64]) -> Option<usize>
-    requires { (length keys.now ≤ length list.old) × LowKeys keys.now }
+    requires { FewKeys (length list.old) keys.now }
     ensures { Fills (claim_list keys.now claim.now) result list.new }
 {
     let mut n = 0;
@@ -161,7 +150,7 @@ fn fill_claim(keys: &[u64], claim: &[u64], list: &mut [u64]) -> Option<usize>
 
 // Appends the clause of a claim with at most three literals, filled up with false constants.
 fn push_few(keys: &[u64], claim: &[u64], clauses: &mut Clauses)
-    requires { Space clauses.old.counts 1 × (length keys.now ≤ 3) × LowKeys keys.now }
+    requires { Space clauses.old.counts 1 × FewKeys 3 keys.now }
     ensures { Appends (claim_list keys.now claim.now ∷ []) clauses.old clauses.new }
 {
     let mut clause = [0; 3];
@@ -197,7 +186,7 @@ fn push_claims(keys: &[u64], claims: Claims, list: &mut [u64], clauses: &mut Cla
 // Appends the clauses of claims, by the keys in order. A clause of four literals or more is made simple in a local list (R3.5), and then
 // written.
 pub fn append_claims(keys: &[u64], claims: Claims, clauses: &mut Clauses)
-    requires { Space clauses.old.counts (count_in claims) × (length keys.now ≤ 1024) × LowKeys keys.now }
+    requires { Space clauses.old.counts (count_in claims) × FewKeys 1024 keys.now }
     ensures { Appends (lists_of keys.now claims.entry) clauses.old clauses.new }
 {
     if keys.len() <= 3 {

@@ -1,10 +1,10 @@
 -- Laws for the functions that append a gate's clauses.
-use Prim.Native.Nat.{ℕ, ◌+◌, ◌*◌, ◌≤◌, ◌<◌}
+use Prim.Native.Nat.{ℕ, ◌+◌, ◌*◌, ◌/◌, ◌≤◌, ◌<◌}
 use mathlib.Core.List.{List, [], ◌∷◌}
 use mathlib.Core.Path.{◌≡◌, refl, sym, ap, ◌∙◌}
 use native.Mathlib.Omega.{arith}
 use lib.ListN.{length, get_or, take}
-use lib.Seq.{length-take-le, get_or-take}
+use lib.Seq.{take_all, length-take-le}
 use Rattle.lists.specs.Tests.{Each}
 use Rattle.lists.specs.Words.{triples_of, words_of}
 use Rattle.lists.proofs.TestLaws.{each_at}
@@ -62,25 +62,29 @@ gate_at ws i = gate_from (get_or ws (3 * i) 0) (get_or ws (3 * i + 1) 0) (get_or
 abbrev no_gate : Gate
 no_gate = gate_from 0 0 0
 
-module _ (ws : List ℕ) (count i : ℕ) (room : 3 * count ≤ length ws) (h : i < count) (a : Gate) (is : a ≡ gate_at ws i) where
-  gate_is : get_or (triples_of gate_from ws) i no_gate ≡ a
-  gate_is = triples_at gate_from ws i 0 no_gate (omega arith) ∙ sym is
+module _ (ws : List ℕ) (i : ℕ) where
+  abbrev pub gates : List Gate
+  gates = triples_of gate_from ws
 
-  inside : i < length (triples_of gate_from ws)
-  inside = rw (triples_count gate_from ws) (omega arith)
+  module _ (h : i < length ws / 3) (a : Gate) (is : a ≡ gate_at ws i) where
+    gate_is : get_or gates i no_gate ≡ a
+    gate_is = triples_at gate_from ws i 0 no_gate (omega arith) ∙ sym is
 
-  pub gate_low : Each LowGate (take count (triples_of gate_from ws)) → LowGate a
-  gate_low e =
-      let k : i < length (take count (triples_of gate_from ws)) =
-      rw (length-take-le count (triples_of gate_from ws) (rw (triples_count gate_from ws) (omega arith))) h in
-      rw (← gate_is, ← get_or-take count (triples_of gate_from ws) i no_gate h) (each_at LowGate (take count (triples_of gate_from ws)) i no_gate e k)
+    inside : i < length gates
+    inside = rw (triples_count gate_from ws) h
 
-  module _ (p q : Clauses) (g : Appends (words_of gate_lists (take i (triples_of gate_from ws))) p q) where
-    pub gate_space : Space p.counts (3 * count) → Space q.counts 3
-    gate_space s =
-        let n : length (words_of gate_lists (take i (triples_of gate_from ws))) ≡ 3 * i =
-        words-length gate_lists 3 (λ x. refl) (take i (triples_of gate_from ws)) ∙ ap (λ (k : ℕ). 3 * k) (length-take-le i (triples_of gate_from ws) (omega (arith, inside))) in
-        space-left (words_of gate_lists (take i (triples_of gate_from ws))) p q g 3 (3 * count) (omega arith) s
+    pub gate_low : Each LowGate gates → LowGate a
+    gate_low e = rw (← gate_is) (each_at LowGate gates i no_gate e inside)
 
-    pub gate_next : (r : Clauses) → Appends (gate_lists a) q r → Appends (words_of gate_lists (take (i + 1) (triples_of gate_from ws))) p r
-    gate_next r k = appends_item gate_lists (triples_of gate_from ws) i p q r no_gate inside g (rw gate_is k)
+    module _ (p q : Clauses) (g : Appends (words_of gate_lists (take i gates)) p q) where
+      pub gate_space : Space p.counts (length ws) → Space q.counts 3
+      gate_space s =
+          let n : length (words_of gate_lists (take i gates)) ≡ 3 * i =
+          words-length gate_lists 3 (λ x. refl) (take i gates) ∙ ap (λ (k : ℕ). 3 * k) (length-take-le i gates (omega (arith, inside))) in
+          space-left (words_of gate_lists (take i gates)) p q g 3 (length ws) (omega arith) s
+
+      pub gate_next : (r : Clauses) → Appends (gate_lists a) q r → Appends (words_of gate_lists (take (i + 1) gates)) p r
+      gate_next r k = appends_item gate_lists gates i p q r no_gate inside g (rw gate_is k)
+
+  pub gates_end : length ws / 3 ≤ i → (p q : Clauses) → Appends (words_of gate_lists (take i gates)) p q → Appends (words_of gate_lists gates) p q
+  gates_end h p q g = rw (take_all i gates (rw (triples_count gate_from ws) h)) at g

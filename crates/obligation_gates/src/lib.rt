@@ -134,12 +134,12 @@ fn push_gate(gate: Gate, clauses: &mut Clauses)
     clauses.push_short(both);
 }
 
-// Appends the clauses of the first gates, so many.
-pub fn append_ands(gates: &[u64], count: usize, clauses: &mut Clauses)
-    requires { (3 * count ≤ length gates.now) × Each LowGate (take count (triples_of gate_from gates.now)) × Space clauses.old.counts (3 * count) }
-    ensures { Appends (words_of gate_lists (take count (triples_of gate_from gates.now))) clauses.old clauses.new }
+// Appends the clauses of gates, three words each.
+pub fn append_ands(gates: &[u64], clauses: &mut Clauses)
+    requires { Each LowGate (triples_of gate_from gates.now) × Space clauses.old.counts (length gates.now) }
+    ensures { Appends (words_of gate_lists (triples_of gate_from gates.now)) clauses.old clauses.new }
 {
-    for i in 0..count {
+    for i in 0..gates.count() {
         push_gate(gates.gate(i), clauses);
     }
 }

@@ -1,76 +1,59 @@
 use mathlib.Core.Bool.{true}
-use mathlib.Core.Path.{refl, sym, ◌∙◌}
-use borrow.Author.Rules.{rules}
-use borrow.Author.Tests.{le-ltb}
-use Rattle.model.proofs.ValueLaws.{Sized}
+use mathlib.Core.Path.{refl}
 use Rattle.obligation_spec.specs.Lists.{outcomes_of}
 use Rattle.obligation_spec.specs.Limits.{states_claimed, outcomes_claimed}
-use Rattle.obligation_spec.specs.Calls.{Asked, circuit}
+use Rattle.obligation_spec.specs.Calls.{circuit}
 use Rattle.obligation_check.specs.Inner.Questions.{asked_in}
-use Rattle.obligation.proofs.ClaimLaws.{both-second, both-first, state_test, states_test, outcomes_test, output_inside, output_outside}
-use Rattle.obligation.proofs.ReadyLaws.{few-latches, few-outputs}
+use Rattle.obligation.proofs.ClaimLaws.{both-second, both-first, state_test, states_test, outcomes_test, output_inside}
+use Rattle.obligation.proofs.ReadyLaws.{sized_in, few-latches, few-outputs}
 use Rattle.obligation.proofs.claim_holds.Goals as goal
-use Rattle.obligation.proofs.claim_holds.Goals.{Start}
-
-abbrev question : Start → Asked
-question c = asked_in c.args.question.now
-
-sized : (c : Start) → Sized (question c).model
-sized c = record { latches = search rules }
 
 pub is_state-requires : goal.is_state-requires
-is_state-requires c = few-latches (question (goal.at.is_state-requires c).Start) c.requires (sized (goal.at.is_state-requires c).Start)
+is_state-requires c = few-latches (asked_in c.args.accepted.now.question.now) c.args.accepted.now.asks (sized_in c.args.accepted.now.question.now)
 
 pub states_claimed-requires : goal.states_claimed-requires
-states_claimed-requires c = few-latches (question (goal.at.states_claimed-requires c).Start) c.requires (sized (goal.at.states_claimed-requires c).Start)
+states_claimed-requires c = few-latches (asked_in c.args.accepted.now.question.now) c.args.accepted.now.asks (sized_in c.args.accepted.now.question.now)
 
 pub is_state-requires-in-Transducer : goal.is_state-requires-in-Transducer
-is_state-requires-in-Transducer c = few-latches (question (goal.at.is_state-requires-in-Transducer c).Start) c.requires (sized (goal.at.is_state-requires-in-Transducer c).Start)
+is_state-requires-in-Transducer c = few-latches (asked_in c.args.accepted.now.question.now) c.args.accepted.now.asks (sized_in c.args.accepted.now.question.now)
 
 pub outcomes_claimed-requires : goal.outcomes_claimed-requires
 outcomes_claimed-requires c =
-    let q = question (goal.at.outcomes_claimed-requires c).Start in
-    let s = sized (goal.at.outcomes_claimed-requires c).Start in
-    (few-latches q c.requires s, few-outputs q c.requires s)
+    let q = asked_in c.args.accepted.now.question.now in
+    let s = sized_in c.args.accepted.now.question.now in
+    (few-latches q c.args.accepted.now.asks s, few-outputs q c.args.accepted.now.asks s)
 
 pub states_claimed-requires-then-bad-counts : goal.states_claimed-requires-then-bad-counts
-states_claimed-requires-then-bad-counts c = few-latches (question (goal.at.states_claimed-requires-then-bad-counts c).Start) c.requires (sized (goal.at.states_claimed-requires-then-bad-counts c).Start)
+states_claimed-requires-then-bad-counts c = few-latches (asked_in c.args.accepted.now.question.now) c.args.accepted.now.asks (sized_in c.args.accepted.now.question.now)
 
 pub returns-then-is_state : goal.returns-then-is_state
 returns-then-is_state c =
-    let q = question (goal.at.returns-then-is_state c).Start in
-    let z = sized (goal.at.returns-then-is_state c).Start in
-    rw c.in-Relation.is (both-second _ _ _ _ (state_test q c.requires z c.in-Relation.source _ c.is_state.ensures) c.if-is_state.true (states_test q c.requires z c.in-Relation.targets.now _ c.states_claimed.ensures))
+    let q = asked_in c.args.accepted.now.question.now in
+    let z = sized_in c.args.accepted.now.question.now in
+    rw c.in-Relation.is (both-second _ _ _ _ (state_test q c.args.accepted.now.asks z c.in-Relation.source _ c.is_state.ensures) c.if-is_state.true (states_test q c.args.accepted.now.asks z c.in-Relation.targets.now _ c.states_claimed.ensures))
 
 pub returns-else-is_state : goal.returns-else-is_state
 returns-else-is_state c =
-    let q = question (goal.at.returns-else-is_state c).Start in
-    let z = sized (goal.at.returns-else-is_state c).Start in
-    rw c.in-Relation.is (both-first _ (states_claimed (circuit q) c.in-Relation.targets.now) _ (state_test q c.requires z c.in-Relation.source _ c.is_state.ensures) c.if-is_state.false)
+    let q = asked_in c.args.accepted.now.question.now in
+    let z = sized_in c.args.accepted.now.question.now in
+    rw c.in-Relation.is (both-first _ (states_claimed (circuit q) c.in-Relation.targets.now) _ (state_test q c.args.accepted.now.asks z c.in-Relation.source _ c.is_state.ensures) c.if-is_state.false)
 
 pub returns-then-is_state-2 : goal.returns-then-is_state-2
 returns-then-is_state-2 c =
-    let q = question (goal.at.returns-then-is_state-2 c).Start in
-    let z = sized (goal.at.returns-then-is_state-2 c).Start in
+    let q = asked_in c.args.accepted.now.question.now in
+    let z = sized_in c.args.accepted.now.question.now in
     let t = c.in-Transducer in
-    rw t.is (both-second _ _ _ _ (state_test q c.requires z t.source _ c.is_state-in-Transducer.ensures) c.if-is_state-2.true (outcomes_test q c.requires z t.observed.now t.outcomes.now _ c.outcomes_claimed.ensures))
+    rw t.is (both-second _ _ _ _ (state_test q c.args.accepted.now.asks z t.source _ c.is_state-in-Transducer.ensures) c.if-is_state-2.true (outcomes_test q c.args.accepted.now.asks z t.observed.now t.outcomes.now _ c.outcomes_claimed.ensures))
 
 pub returns-else-is_state-2 : goal.returns-else-is_state-2
 returns-else-is_state-2 c =
-    let q = question (goal.at.returns-else-is_state-2 c).Start in
-    let z = sized (goal.at.returns-else-is_state-2 c).Start in
+    let q = asked_in c.args.accepted.now.question.now in
+    let z = sized_in c.args.accepted.now.question.now in
     let t = c.in-Transducer in
-    rw t.is (both-first _ (outcomes_claimed (circuit q) t.observed.now (outcomes_of t.outcomes.now)) _ (state_test q c.requires z t.source _ c.is_state-in-Transducer.ensures) c.if-is_state-2.false)
+    rw t.is (both-first _ (outcomes_claimed (circuit q) t.observed.now (outcomes_of t.outcomes.now)) _ (state_test q c.args.accepted.now.asks z t.source _ c.is_state-in-Transducer.ensures) c.if-is_state-2.false)
 
 pub returns-then-bad-counts : goal.returns-then-bad-counts
 returns-then-bad-counts c =
-    let q = question (goal.at.returns-then-bad-counts c).Start in
-    let z = sized (goal.at.returns-then-bad-counts c).Start in
-    rw c.in-Terminal.is (both-second _ _ true _ (output_inside q c.requires z c.in-Terminal.bad c.if-bad-counts.true) refl (states_test q c.requires z c.in-Terminal.states.now _ c.states_claimed-then-bad-counts.ensures))
-
-pub returns-else-bad-counts : goal.returns-else-bad-counts
-returns-else-bad-counts c =
-    let q = question (goal.at.returns-else-bad-counts c).Start in
-    let z = sized (goal.at.returns-else-bad-counts c).Start in
-    let outside = le-ltb c.in-Terminal.bad c.args.question.now.model.counts.outputs c.if-bad-counts.false in
-    rw c.in-Terminal.is (both-first _ (states_claimed (circuit q) c.in-Terminal.states.now) _ (output_outside q c.requires z c.in-Terminal.bad c.if-bad-counts.false ∙ sym outside) outside)
+    let q = asked_in c.args.accepted.now.question.now in
+    let z = sized_in c.args.accepted.now.question.now in
+    rw c.in-Terminal.is (both-second _ _ true _ (output_inside q c.args.accepted.now.asks z c.in-Terminal.bad c.if-bad-counts.true) refl (states_test q c.args.accepted.now.asks z c.in-Terminal.states.now _ c.states_claimed-then-bad-counts.ensures))

@@ -7,14 +7,15 @@ use Rattle.lists.specs.Words.{triples_of, words_of}
 use Rattle.aiger.specs.declared.Refusal.{Refusal}
 use Rattle.aiger.specs.Gates.{gate_from}
 use Rattle.aiger.specs.Refusals.{answered}
-use Rattle.model.specs.Checked.{checked}
+use Rattle.model.specs.Checked.{counts_of}
+use Rattle.model.specs.Limits.{counted, well_defined}
 use Rattle.cnf.specs.declared.ClauseCounts.{ClauseCounts}
 use Rattle.cnf.specs.Clauses.{Clause, clauses_in}
 use Rattle.obligation_spec.specs.Lists.{source_lists, predicate_literal, gate_lists}
 use Rattle.obligation_spec.specs.Limits.{bounded}
 use Rattle.obligation_spec.specs.Calls.{Asked, circuit, Lent, within}
 use Rattle.obligation_gates.specs.Inner.Encoding.{Low, LowGate, BoundedBy}
-use Rattle.obligation_claims.specs.Inner.Claims.{LowKeys, state_claims, outcome_claims}
+use Rattle.obligation_claims.specs.Inner.Claims.{FewKeys, state_claims, outcome_claims}
 use Rattle.obligation.specs.Promise.{sizes, pairs_after, literals_after}
 
 -- what the clauses are made of: latches at a source's bits (none for a terminal list), inputs with a predicate, gates, and the claims
@@ -66,14 +67,12 @@ pub record FrontReady (p : Parts) : Type 0 where
   pub few : length p.currents ≤ 8
   pub bounded : BoundedBy p.inputs p.relevant p.pairs p.words
   pub clauses : length p.pairs / 2 ≤ 64
-  pub enough : 3 * p.ands ≤ length p.gates
   pub most : p.ands ≤ 1000000
   pub low_gates : Each LowGate (take p.ands (triples_of gate_from p.gates))
 
 -- .. and of its claims
 pub record ClaimsReady (c : Claimed) : Type 0 where
-  pub low_keys : LowKeys c.keys
-  pub few_keys : length c.keys ≤ 136
+  pub few_keys : FewKeys 136 c.keys
   pub few_words : length c.words ≤ 1000000
 
 pub record Ready (p : Parts) (c : Claimed) (last : ℕ) : Type 0 where
@@ -93,8 +92,11 @@ room_of pairs literals = record { work = 0; pairs = length pairs; literals = len
 -- ---- once the model and the boundary are accepted
 
 pub record Asks (q : Asked) : Type 0 where
-  pub work : ℕ
-  pub checks : checked q.model q.gates work ≡ got (circuit q)
+  pub counts : counted (counts_of q.model) ≡ true
+  pub inputs : q.model.input_count ≤ length q.model.inputs
+  pub outputs : q.model.output_count ≤ length q.model.outputs
+  pub words : 3 * q.model.and_count ≤ length q.gates
+  pub well : well_defined (circuit q) ≡ true
   pub bounds : bounded (circuit q) q.relevant q.pairs q.words ≡ true
 
 -- the test of the claims holds

@@ -9,6 +9,6 @@ returns-then-literal-eq1 c = claiming_true c.args.keys.now c.args.claim.now _ _ 
 pub loop-key-preserved : goal.loop-key-preserved
 loop-key-preserved c =
     elim c.if-literal-ge2.branch [
-      | then-literal-ge2 w ↦ rw (w.list-is, w.n-is) (claiming_word c.args.keys.now c.args.claim.now _ _ c.loop-key.key-index _ c.loop-key.invariant (omega arith) _ c.claim_literal-literal.ensures _ (omega arith) w.word.ensures c.requires.0)
+      | then-literal-ge2 w ↦ rw (w.list-is, w.n-is) (claiming_word c.args.keys.now c.args.claim.now _ _ c.loop-key.key-index _ c.loop-key.invariant (omega arith) _ c.claim_literal-literal.ensures _ (omega arith) w.word.ensures c.requires.few)
       | else-literal-ge2 w ↦ rw (w.list-is, w.n-is) (claiming_false c.args.keys.now c.args.claim.now _ _ c.loop-key.key-index _ c.loop-key.invariant (omega arith) _ c.claim_literal-literal.ensures (omega arith) c.if-literal-eq1.false)
     ]

@@ -2,7 +2,6 @@ use native.Mathlib.Omega.{arith}
 use lib.ListN.{length, length-take}
 use Prim.Native.Nat.{◌≤◌}
 use Rattle.cnf.specs.Inner.Appending.{Filled}
-use Rattle.cnf.proofs.SimplifyLaws.{filled-part}
 use Rattle.obligation_claims.specs.Inner.Claims.{claim_list}
 use Rattle.obligation_claims.proofs.PushLaws.{claim_dropped, claim_words, words-narrow}
 use Rattle.obligation_claims.proofs.push_claim.Goals as goal
@@ -24,12 +23,7 @@ slice_bounds-push_simplified-end c = within (goal.at.slice_bounds-push_simplifie
 pub push_simplified-requires : goal.push_simplified-requires
 push_simplified-requires c =
     let f = filled (goal.at.push_simplified-requires c).In-Some in (
-      omega (arith, length-take c.in-Some.n c.fill_claim.new.list, claim_words c.args.keys.now c.args.claim.now _ _ f, c.requires.1.short),
+      omega (arith, length-take c.in-Some.n c.fill_claim.new.list, claim_words c.args.keys.now c.args.claim.now _ _ f, c.requires.1.few_keys.few),
       c.requires.0,
-      words-narrow c.args.keys.now c.args.claim.now _ _ f c.requires.1.low,
+      words-narrow c.args.keys.now c.args.claim.now _ _ f c.requires.1.few_keys.low,
     )
-
-pub returns-in-Some : goal.returns-in-Some
-returns-in-Some c =
-    let d = (goal.at.returns-in-Some c).In-Some in
-    c.push_simplified.ensures (claim_list c.args.keys.now c.args.claim.now) (filled-part _ _ _ (within d) (filled d))

@@ -6,7 +6,7 @@ pub loop-i-preserved : goal.loop-i-preserved
 loop-i-preserved c = few-more c.args.keys.now c.args.claim.now _ c.loop-i.i c.loop-i.invariant (omega arith) _ c.claim_literal.ensures
 
 pub push_short-requires : goal.push_short-requires
-push_short-requires c = (c.requires.0, few-narrow c.args.keys.now c.args.claim.now _ (few-done c.args.keys.now c.args.claim.now _ c.loop-i.i c.loop-i.invariant (omega arith)) c.requires.2)
+push_short-requires c = (c.requires.0, few-narrow c.args.keys.now c.args.claim.now _ (few-done c.args.keys.now c.args.claim.now _ c.loop-i.i c.loop-i.invariant (omega arith)) c.requires.1.low)
 
 pub returns : goal.returns
 returns c = few-appends c.args.keys.now c.args.claim.now _ (few-done c.args.keys.now c.args.claim.now _ c.loop-i.i c.loop-i.invariant (omega arith)) _ _ c.push_short.ensures

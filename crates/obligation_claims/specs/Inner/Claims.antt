@@ -1,6 +1,6 @@
 -- For the contracts of the functions that append the clauses of claims (R7.4). A claim is one or three words; a key says which literal
 -- differs from which of its bits.
-use Rattle.std.specs.Prelude.{ℕ, ◌+◌, ◌*◌, ◌/◌, ◌%◌, ◌<◌, ◌^◌, not, List, [], ◌∷◌, ◌++◌, map, take, drop}
+use Rattle.std.specs.Prelude.{ℕ, ◌+◌, ◌*◌, ◌/◌, ◌%◌, ◌≤◌, ◌<◌, ◌^◌, not, List, [], ◌∷◌, ◌++◌, map, length, take, drop}
 use Rattle.lists.specs.Sets.{holds}
 use Rattle.lists.specs.Tests.{Each}
 use Rattle.lists.specs.Words.{triples_of}
@@ -30,10 +30,18 @@ observed_keys observed = keys_from 128 (take 64 observed) ++ keys_from 64 (drop 
 abbrev pub outcome_keys : List ℕ → List ℕ → List ℕ
 outcome_keys nexts observed = keys_from 0 nexts ++ observed_keys observed
 
--- keys of literals whose words have 32 bits
+-- keys of literals whose words have 32 bits, and such literals
 abbrev pub LowKeys : List ℕ → Type 0
 LowKeys keys = Each (λ key. key < 2 ^ 39) keys
 
--- the literals of such keys
 abbrev pub LowLiterals : List ℕ → Type 0
 LowLiterals ls = Each (λ l. l < 2 ^ 31) ls
+
+-- .. at most so many
+pub record FewKeys (most : ℕ) (keys : List ℕ) : Type 0 where
+  pub few : length keys ≤ most
+  pub low : LowKeys keys
+
+pub record FewLiterals (most : ℕ) (ls : List ℕ) : Type 0 where
+  pub few : length ls ≤ most
+  pub low : LowLiterals ls

@@ -3,7 +3,7 @@ use Rattle.std.specs.Prelude.{ℕ, ◌≤◌, ◌<◌, true, List, Option, Some,
 use Rattle.lists.specs.Sets.{member}
 use Rattle.word_sort.specs.Inner.Sorted.{sorted}
 use Rattle.cnf.specs.Inner.Appending.{Filled}
-use Rattle.obligation_claims.specs.Inner.Claims.{LowKeys}
+use Rattle.obligation_claims.specs.Inner.Claims.{FewKeys}
 
 -- the first n words are these keys, in order
 pub record InOrder (keys : List ℕ) (n : ℕ) (words : List ℕ) : Type 0 where
@@ -18,6 +18,5 @@ pub record Fills (ls : List ℕ) (r : Option ℕ) (list : List ℕ) : Type 0 whe
 
 -- keys whose clauses can be made in a list of this length. One of at most three literals needs none.
 pub record Fits (keys : List ℕ) (list : ℕ) : Type 0 where
-  pub low : LowKeys keys
-  pub short : length keys ≤ 1024
+  pub few_keys : FewKeys 1024 keys
   pub list_fits : 3 < length keys → length keys ≤ list

@@ -1,10 +1,7 @@
 use mathlib.Core.Path.{◌∙◌}
 use Rattle.obligation.proofs.MakingLaws.{count_same}
-use Rattle.obligation.proofs.RoomLaws.{roomy-asks, made_roomy}
+use Rattle.obligation.proofs.RoomLaws.{made_roomy}
 use Rattle.obligation.proofs.making.make.Goals as goal
-
-pub roomy-requires : goal.roomy-requires
-roomy-requires c = roomy-asks _ _ _ c.requires _ (c.count.ensures ∙ count_same _)
 
 pub returns-then-roomy : goal.returns-then-roomy
 returns-then-roomy c =
