@@ -9,6 +9,3 @@ print_clause-requires c = search listing-within
 
 pub loop-i-preserved : goal.loop-i-preserved
 loop-i-preserved c = search listing-more
-
-pub returns : goal.returns
-returns c = search listing-done

@@ -8,9 +8,6 @@ returns-then-input-gt16384 c = search too_long
 pub slice_bounds-read_numbers-end : goal.slice_bounds-read_numbers-end
 slice_bounds-read_numbers-end c = search line-length
 
-pub read_numbers-requires : goal.read_numbers-requires
-read_numbers-requires c = search (rules, line-short)
-
 pub returns-in_default : goal.returns-in_default
 returns-in_default c = search other_form
 

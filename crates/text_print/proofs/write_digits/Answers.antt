@@ -16,9 +16,6 @@ bounds-pairs-two c = omega (arith, pairs-length _ c.digit_pairs-pairs.ensures)
 pub bounds-pairs-two-in-loop-left : goal.bounds-pairs-two-in-loop-left
 bounds-pairs-two-in-loop-left c = omega (arith, pairs-length _ c.digit_pairs-pairs.ensures)
 
-pub bounds-out-at-in-loop-left : goal.bounds-out-at-in-loop-left
-bounds-out-at-in-loop-left c = simp length-set (omega arith)
-
 pub loop-left-preserved : goal.loop-left-preserved
 loop-left-preserved c =
     writing_two _ _ _ _ c.loop-left.left c.loop-left.rest c.loop-left.invariant _ _ _ (omega arith) refl
@@ -27,6 +24,3 @@ loop-left-preserved c =
 
 pub returns-then-left-eq1 : goal.returns-then-left-eq1
 returns-then-left-eq1 c = search writing-first
-
-pub returns-else-left-eq1 : goal.returns-else-left-eq1
-returns-else-left-eq1 c = writing-done _ _ _ _ c.loop-left.left c.loop-left.rest c.loop-left.invariant (omega arith)

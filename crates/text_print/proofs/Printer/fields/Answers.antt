@@ -7,6 +7,3 @@ loop-n-init g c = printing-none _ _
 
 pub loop-n-preserved : goal.loop-n-preserved
 loop-n-preserved g c = printing-more _ _ _ _ c.loop-n.invariant _ _ _ (fields-more _ _ _ _ _ c.loop-n-test.true c.n-item.is c.value.ensures) c.field.ensures
-
-pub returns : goal.returns
-returns g c = printing-done _ _ _ _ c.loop-n.invariant (fields-end _ _ _ c.loop-n-test.false)
