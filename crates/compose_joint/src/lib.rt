@@ -74,6 +74,7 @@ impl Leaves {
     }
 
     // What stands for a name where there is none.
+    // Kept (by hand): as in `kind`.
     pub fn unnamed(self) -> &'static [u8]
         ensures { result.now ≡ unnamed_of self }
     {

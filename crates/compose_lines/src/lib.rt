@@ -42,6 +42,7 @@ pub fn print_header(to: &mut Printer, counts: Counts)
 }
 
 // Prints the lines of the gates whose keys a table holds; the first gate has the variable `first`.
+// Kept (buffer): the table is longer than its gates, and its heads stand in front of them.
 pub fn print_gates(to: &mut Printer, first: u64, table: &[u64], heads: usize, count: usize)
     requires { CanPrintGates first table.now heads count }
     ensures { PrintsGates first table.now heads count to.old to.new }

@@ -9,6 +9,7 @@ ghost use Rattle.lists.specs.Words.{lengths, in_order};
 ghost use Rattle.lists.specs.Inner.Pairs.{part_end};
 
 // Every word becomes 0.
+// Kept (travel): that the work words are 0 is a promise of each call by itself, and no fact about one value.
 pub fn clear(work: &mut [u64])
     ensures { work.new ≡ zeros (length work.old) }
 {

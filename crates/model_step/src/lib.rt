@@ -119,6 +119,7 @@ fn run<G: GateList>(
 }
 
 // One step of a model, or the reason why there is none. The work words are 0 again afterwards.
+// Kept (travel): as in `run`.
 pub fn evaluate<G: GateList>(
     model: &LentModel,
     gates: &G,

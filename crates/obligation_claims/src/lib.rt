@@ -27,6 +27,7 @@ pub enum Claims<'a> {
 
 impl<'a> Claims<'a> {
     // How many claims there are.
+    // Kept (by hand): a number of claims, and not what they are, so no `From`.
     pub fn count(self) -> usize
         ensures { result ≡ count_in self.entry }
     {
@@ -149,6 +150,7 @@ fn fill_claim(keys: &[u64], claim: &[u64], list: &mut [u64]) -> Option<usize>
 }
 
 // Appends the clause of a claim with at most three literals, filled up with false constants.
+// Kept (travel): space is asked for as in `cnf`.
 fn push_few(keys: &[u64], claim: &[u64], clauses: &mut Clauses)
     requires { Space clauses.old.counts 1 × FewKeys 3 keys.now }
     ensures { Appends (claim_list keys.now claim.now ∷ []) clauses.old clauses.new }
