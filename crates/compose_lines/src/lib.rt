@@ -47,11 +47,9 @@ pub fn print_gates(to: &mut Printer, first: u64, table: &[u64], heads: usize, co
     requires { CanPrintGates first table.now heads count }
     ensures { PrintsGates first table.now heads count to.old to.new }
 {
-    let mut x = first;
     for k in 0..count {
         let key = table[heads + 3 * k] - 1;
-        to.three(2 * x, key % 4294967296, key / 4294967296);
-        x += 1;
+        to.three(2 * (first + k as u64), key % 4294967296, key / 4294967296);
     }
 }
 
