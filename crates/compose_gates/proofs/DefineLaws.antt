@@ -21,6 +21,7 @@ use Rattle.aiger.specs.Gates.{variable}
 use Rattle.witness_read.specs.Sections.{NamedLatch}
 use Rattle.compose_spec.specs.Sharing.{translate}
 use Rattle.compose_spec.specs.Composing.{Defined, definition_of, same_defined, agree}
+use Rattle.compose_gates.proofs.KeyLaws.{translatable-from}
 use Rattle.compose_gates.specs.Inner.Linked.{Translatable, literal_at}
 use Rattle.compose_gates.specs.Inner.Latches.{InTurn, met_in, Slot, SlotIs, same_pair, Storable, DefinesLatch, latch_from, defined_at, definitions_from, latch_variables, Definable, defined_answer, Defines}
 use Rattle.compose_gates.proofs.LatchLaws.{defined-length, defined-at, definition_new, same_self, definitions-length, definitions-next, next-at, reset-at}
@@ -135,15 +136,12 @@ module _ (words count vars own definitions first : ℕ) (work₀ : List ℕ) (pr
       right_kept : get_or work (words + 2 * j + 1) 0 ≡ r
       right_kept = kept (words + 2 * j + 1) (omega (arith, pre.before))
 
-      translatable : (x : ℕ) → variable x < pre.size → Translatable vars work x
+      translatable : (x : ℕ) → variable x < pre.size → Translatable (drop vars work) x
       translatable x h =
-          record {
-            within = omega (arith, same, h, pre.behind, pre.room);
-            small =
-                rw (kept (vars + variable x) (omega (arith, h, pre.behind)), ← part_at work₀ vars (vars + pre.size) (variable x) 0 (omega (arith, h)))
-                (each_at (λ y. y < 1073741824) (part work₀ vars (vars + pre.size)) (variable x) 0 pre.small
-                (omega (arith, h, part_length work₀ vars (vars + pre.size) (omega (arith, pre.behind, pre.room)))));
-          }
+          translatable-from vars work x (omega (arith, same, h, pre.behind, pre.room))
+          (rw (kept (vars + variable x) (omega (arith, h, pre.behind)), ← part_at work₀ vars (vars + pre.size) (variable x) 0 (omega (arith, h)))
+          (each_at (λ y. y < 1073741824) (part work₀ vars (vars + pre.size)) (variable x) 0 pre.small
+          (omega (arith, h, part_length work₀ vars (vars + pre.size) (omega (arith, pre.behind, pre.room))))))
 
       translate-is : (x : ℕ) → variable x < pre.size → translate (drop vars work) x ≡ translate (drop vars work₀) x
       translate-is x h =

@@ -26,7 +26,7 @@ use Rattle.compose_spec.specs.Inner.Keys.{key_of}
 use Rattle.compose_spec.specs.Composing.{gates_fit}
 use Rattle.compose_gates.specs.Inner.Linked.{Translatable, TwoLiterals, key_at, table_end, table_in, Findable, FindsIn, Sharable, shared_in, shared_answer, Shares}
 use Rattle.compose_gates.proofs.FirstLaws.{joined_length}
-use Rattle.compose_gates.proofs.KeyLaws.{Small, unordered-small, literal-small, place-keys, joined-keys, joined_small}
+use Rattle.compose_gates.proofs.KeyLaws.{translatable-from, Small, unordered-small, literal-small, place-keys, joined-keys, joined_small}
 use Rattle.compose_gates.proofs.KeptLaws.{set-take, set-drop}
 use Rattle.compose_gates.proofs.ShareLaws.{with_gate, gates_grow, fit_true, fit_false}
 
@@ -95,12 +95,10 @@ module _ (operands count vars known table leaves : ℕ) (work₀ : List ℕ) (pr
       count-is : length s.state.vars ≡ known + i
       count-is = omega (arith, ap length s.variables, part_length work vars (vars + known + i) (omega (arith, same, pre.second, pre.third)))
 
-      translatable : (x : ℕ) → variable x < known + i → Translatable vars work x
+      translatable : (x : ℕ) → variable x < known + i → Translatable (drop vars work) x
       translatable x h =
-          record {
-            within = omega (arith, same, pre.second, pre.third, h);
-            small = rw (← variable-is (variable x) h) (each_at (λ y. y < 1073741824) s.state.vars (variable x) 0 s.low (omega (arith, count-is, h)));
-          }
+          translatable-from vars work x (omega (arith, same, pre.second, pre.third, h))
+          (rw (← variable-is (variable x) h) (each_at (λ y. y < 1073741824) s.state.vars (variable x) 0 s.low (omega (arith, count-is, h))))
 
       translate-is : (x : ℕ) → variable x < known + i → translate (drop vars work) x ≡ translate s.state.vars x
       translate-is x h = ap (λ (y : ℕ). 2 * y + x % 2) (get_or-drop vars work (variable x) 0 ∙ sym (variable-is (variable x) h))
@@ -122,8 +120,8 @@ module _ (operands count vars known table leaves : ℕ) (work₀ : List ℕ) (pr
       operands-small : Small operands_now
       operands-small =
           unordered-small (translate s.state.vars l) (translate s.state.vars r)
-          (literal-small vars work l (translatable l (pre.earlier i more).0) (translate s.state.vars l) (sym (translate-is l (pre.earlier i more).0)))
-          (literal-small vars work r (translatable r (pre.earlier i more).1) (translate s.state.vars r) (sym (translate-is r (pre.earlier i more).1)))
+          (literal-small (drop vars work) l (translatable l (pre.earlier i more).0) (translate s.state.vars l) (sym (translate-is l (pre.earlier i more).0)))
+          (literal-small (drop vars work) r (translatable r (pre.earlier i more).1) (translate s.state.vars r) (sym (translate-is r (pre.earlier i more).1)))
 
       module _ (key : ℕ) (e : key ≡ key_at (operands + 2 * i) vars work) where
         keyed : key ≡ key_of operands_now

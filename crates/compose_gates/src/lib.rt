@@ -7,12 +7,12 @@ ghost use Rattle.compose_spec.specs.Inner.Keys.{key_of};
 ghost use Rattle.compose_gates.specs.Inner.Linked.{Translatable, TwoLiterals, key_at, Findable, FindsIn, Sharable, Shares};
 ghost use Rattle.compose_gates.specs.Inner.Latches.{Slot, SlotIs, same_pair, Storable, DefinesLatch, Definable, Defines};
 
-// The composed literal of a joint one. The composed variables of the joint ones stand from the place `vars` on.
-pub fn translate(work: &[u64], vars: usize, literal: u64) -> u64
-    requires { Translatable vars work.now literal }
-    ensures { result ≡ translate (drop vars work.now) literal }
+// The composed literal of a joint one, by the composed variables of the joint ones.
+pub fn translate(vars: &[u64], literal: u64) -> u64
+    requires { Translatable vars.now literal }
+    ensures { result ≡ translate vars.now literal }
 {
-    2 * work[vars + (literal / 2) as usize] + literal % 2
+    2 * vars[(literal / 2) as usize] + literal % 2
 }
 
 // The key of a gate with two operands, whichever is first.
@@ -32,8 +32,8 @@ fn gate_key(work: &[u64], at: usize, vars: usize) -> u64
     requires { TwoLiterals at vars work.now }
     ensures { result ≡ key_at at vars work.now }
 {
-    let left = translate(work, vars, work[at]);
-    let right = translate(work, vars, work[at + 1]);
+    let left = translate(&work[vars..], work[at]);
+    let right = translate(&work[vars..], work[at + 1]);
     key_of(left, right)
 }
 
@@ -97,8 +97,8 @@ fn define_latch(work: &mut [u64], at: usize, vars: usize, place: usize, known: b
     requires { Storable at vars place work.old }
     ensures { DefinesLatch at vars place work.old work.new known result }
 {
-    let next = translate(work, vars, work[at]);
-    let reset = translate(work, vars, work[at + 1]);
+    let next = translate(&work[vars..], work[at]);
+    let reset = translate(&work[vars..], work[at + 1]);
     if known {
         return same_pair(work, place, next, reset);
     }

@@ -1,6 +1,6 @@
 -- Laws of the fifth pass: the latches are defined, or 18 applies.
 use Rattle.std.specs.Prelude.{Option, Some, None}
-use Rattle.std.specs.Prelude.{Ok, Err}
+use Rattle.std.specs.Prelude.{Err}
 use Prim.Native.Nat.{ℕ, suc, ◌+◌, ◌-◌, ◌*◌, ◌≤◌, ◌<◌}
 use mathlib.Core.Bool.{Bool, true, false, cond}
 use mathlib.Core.List.{List, [], ◌∷◌, map}
@@ -40,7 +40,7 @@ use Rattle.compose_merge.specs.Inner.Stages.{Clean, Shared, GatesShared}
 use Rattle.compose_merge.proofs.WordLaws.{part-has, has-at, clean-behind}
 use Rattle.compose_merge.proofs.BaseLaws.{base_kept, Step}
 use Rattle.compose_merge.proofs.LeafLaws.{latches_long}
-use Rattle.compose_merge.proofs.JointLaws.{Joint, vars-low, vars-are, literals_in, literals-translated, shared_kept}
+use Rattle.compose_merge.proofs.JointLaws.{Joint, vars-low, vars-are, literals_in, literals_rest, shared_kept}
 
 -- latches by their words, where their composed variables are `own`
 pairs-defined : (vars : List ℕ) (x : ℕ) (own words : List ℕ) → length words ≡ 2 * length own → ((k : ℕ) → k < length own → get_or vars (x + k) 0 ≡ get_or own k 0)
@@ -182,7 +182,7 @@ module _ (t : Totals) (at : Layout) (first next g : ℕ) (work : List ℕ) where
         let s : at.vars + (x + j) ≡ own + j = omega (arith, e) in
         get_or-drop at.vars work (x + j) 0 ∙ ap (λ (i : ℕ). get_or work i 0) s ∙ has-at work own (latch_numbers m ws) own_has j h)
         ∙ ap (defined_pairs (latch_numbers m ws))
-        (literals-translated at work m ws k.base k.shared literals.Latches at.latches (2 * t.latches) k.base.stands.latches counted)
+        (literals_rest at work m ws k.base k.shared literals.Latches at.latches (2 * t.latches) k.base.stands.latches counted)
         ∙ sym (joint-defined m ws plan.range)
 
     -- what is stored are the words of the composed latches

@@ -1,12 +1,13 @@
 -- Laws of the work words once gates are shared: composed variables are small, joint literals name them, and their composed literals are those of the composition.
 use Prim.Native.Nat.{ℕ, suc, ◌+◌, ◌*◌, ◌≤◌, ◌<◌}
 use mathlib.Core.List.{List, map}
-use mathlib.Core.Path.{◌≡◌, sym, ap₂, subst, ◌∙◌}
+use mathlib.Core.Path.{◌≡◌, sym, ap, ap₂, subst, ◌∙◌}
 use native.Mathlib.Omega.{arith}
-use lib.ListN.{length, get_or, take}
+use lib.ListN.{length, get_or, take, drop}
 use Rattle.lists.specs.Parts.{part}
 use Rattle.lists.specs.Tests.{Each}
 use Rattle.lists.proofs.KeptLaws.{part-kept}
+use Rattle.lists.proofs.PartLaws.{tail-lent}
 use Rattle.lists.proofs.TestLaws.{each-so, each_at}
 use Rattle.aiger.specs.Gates.{variable}
 use Rattle.witness_read.specs.Sections.{Sections}
@@ -18,7 +19,7 @@ use Rattle.compose_joint.specs.Inner.Joint.{total_of, input_count, gate_count, j
 use Rattle.compose_joint.specs.Inner.Numbers.{joint_shared}
 use Rattle.compose_joint.proofs.AmountLaws.{leaf_count-most, joint-literals-most}
 use Rattle.compose_joint.proofs.GateLaws.{joint-vars-most, joint-vars-length, composed-gates-most}
-use Rattle.compose_numbers.specs.Inner.Marked.{literals_at}
+use Rattle.compose_numbers.specs.Inner.Marked.{composed_in}
 use Rattle.compose_numbers.proofs.CallLaws.{literals-part}
 use Rattle.compose_layout.specs.declared.Layout.{Layout}
 use Rattle.compose_layout.specs.Inner.Laid.{Has, variable_total, Regions}
@@ -62,12 +63,19 @@ module _ (at : Layout) (work : List ℕ) (m : Sections) (ws : List Sections) (b 
     pub literals_in : Each (Joint ws) (part work from (from + count))
     literals_in = subst (Each (Joint ws)) (sym (part-has work from (joint (list_of kind) ws) h count n)) (joint-literals-most kind ws b.plan.range)
 
-    -- their composed literals
-    pub literals-translated : literals_at from count at.vars work ≡ map (translate (joint_shared m ws).vars) (joint (list_of kind) ws)
-    literals-translated =
-        literals-part at.vars (suc (variable_total ws)) work from count
+    -- their composed literals, by the words up to a place behind the composed variables
+    pub literals-translated : (e : ℕ) → at.gates ≤ e → composed_in (part work from (from + count)) (part work at.vars e) ≡ map (translate (joint_shared m ws).vars) (joint (list_of kind) ws)
+    literals-translated e g =
+        literals-part at.vars (suc (variable_total ws)) work e (omega (arith, g, b.plan.regions.gates)) (part work from (from + count))
         (each-so (Joint ws) (λ l. variable l < suc (variable_total ws)) (λ l k. omega arith) (part work from (from + count)) literals_in)
         ∙ ap₂ (λ (vs ls : List ℕ). map (translate vs) ls) vars-are (part-has work from (joint (list_of kind) ws) h count n)
+
+    -- the same, by all words from the composed variables on
+    pub literals_rest : composed_in (part work from (from + count)) (drop at.vars work) ≡ map (translate (joint_shared m ws).vars) (joint (list_of kind) ws)
+    literals_rest =
+        let g = b.plan.regions in
+        ap (composed_in (part work from (from + count))) (sym (tail-lent work at.vars))
+        ∙ literals-translated (length work) (omega (arith, b.fits, g.definitions, g.bad_bits, g.constraint_bits, g.end))
 
 -- what is shared stays where nothing in front of the definitions is written
 pub shared_kept : (at : Layout) (work work' : List ℕ) (m : Sections) (ws : List Sections) → Regions m ws at → take at.definitions work' ≡ take at.definitions work → length work' ≡ length work

@@ -8,5 +8,6 @@ pub mod LatchLaws
 pub mod GateLaws
 pub mod JointLaws
 pub mod DefineLaws
+pub mod CollectLaws
 pub mod AddLaws
 pub mod CallLaws

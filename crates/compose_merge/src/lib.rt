@@ -3,7 +3,7 @@
 
 ghost use Rattle.compose_layout.specs.Inner.Laid.{OfSome};
 ghost use Rattle.compose_merge.specs.Inner.Merged.{Mergeable, Goes};
-ghost use Rattle.compose_merge.specs.Inner.Stages.{Clearable, Clears, GatesShared};
+ghost use Rattle.compose_merge.specs.Inner.Stages.{Clearable, Clears, CanCollect, Collects, GatesShared};
 
 use aiger::Refusal;
 use compose_gather::Totals;
@@ -20,6 +20,13 @@ pub struct Merged {
     pub constraints: usize,
 }
 
+// How many bads and constraints there are.
+#[derive(Clone, Copy)]
+struct Found {
+    bads: usize,
+    constraints: usize,
+}
+
 // Clears the words that are read before they are written: the numbers assigned to the model's leaves and the constant's variable behind
 // them, the heads of the table of gates, and both sets of bits.
 fn clear_regions(work: &mut [u64], at: Layout, gates: usize)
@@ -29,6 +36,24 @@ fn clear_regions(work: &mut [u64], at: Layout, gates: usize)
     compose_numbers::regions_clear(work, at.assigned, at.vars + 1);
     compose_numbers::regions_clear(work, at.gates, at.gates + (gates + 1));
     compose_numbers::regions_clear(work, at.bad_bits, at.end);
+}
+
+// Collects the bads and the constraints, each in its set of bits.
+fn collect(work: &mut [u64], at: Layout) -> Found
+    requires { CanCollect at work.old }
+    ensures { Collects at work.old work.new result.bads result.constraints }
+{
+    let (front, sets) = work.split_at_mut(at.bad_bits);
+    let vars = &front[at.vars..];
+    let (bads, rest) = sets.split_at_mut(at.bits);
+    Found {
+        bads: compose_numbers::add_literals(&front[at.safety..at.constraints], vars, bads),
+        constraints: compose_numbers::add_literals(
+            &front[at.constraints..at.input_origins],
+            vars,
+            &mut rest[..at.bits],
+        ),
+    }
 }
 
 // Defines the latches and collects the bads and the constraints, once the gates are shared. The inputs are numbered from 1 up to `first`, the latches from there up to `next`.
@@ -55,28 +80,13 @@ fn define_and_collect(
     ) else {
         return Err(Refusal::LatchConflict);
     };
-    let bads = compose_numbers::add_literals(
-        work,
-        at.safety,
-        at.constraints - at.safety,
-        at.vars,
-        at.bad_bits,
-        at.bits,
-    );
-    let constraints = compose_numbers::add_literals(
-        work,
-        at.constraints,
-        at.input_origins - at.constraints,
-        at.vars,
-        at.constraint_bits,
-        at.bits,
-    );
+    let found = collect(work, at);
     Ok(Merged {
         inputs: first - 1,
         latches: next - first,
         gates,
-        bads,
-        constraints,
+        bads: found.bads,
+        constraints: found.constraints,
     })
 }
 

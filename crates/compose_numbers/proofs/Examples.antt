@@ -2,7 +2,7 @@
 use mathlib.Core.List.{[], ◌∷◌}
 use mathlib.Core.Path.{◌≡◌, refl}
 use Rattle.lists.specs.Sets.{set_of}
-use Rattle.compose_numbers.specs.Inner.Marked.{turn, number_one, numbers_in, literals_at}
+use Rattle.compose_numbers.specs.Inner.Marked.{turn, number_one, numbers_in, composed_in}
 
 -- Origin words of four leaves: the model's variable 4, a private one, 4 again, 3. The model has two variables in front of those two, and the assigned numbers begin at place 4.
 pub numbers : (numbers_in 0 4 4 2 2 1 (8 ∷ 1 ∷ 8 ∷ 6 ∷ 0 ∷ 0 ∷ [])).numbers ≡ 1 ∷ 2 ∷ 1 ∷ 3 ∷ []
@@ -22,5 +22,5 @@ pub again : number_one 8 1 2 5 (8 ∷ 3 ∷ 0 ∷ []) ≡ turn (8 ∷ 3 ∷ 3 �
 again = refl
 
 -- joint variables 0 to 3 are the composed 0, 1, 1, 2; the literals 2, 4 and 7 become 2, 2 and 5
-pub literals : set_of (literals_at 0 3 3 (2 ∷ 7 ∷ 4 ∷ 0 ∷ 1 ∷ 1 ∷ 2 ∷ [])) ≡ 2 ∷ 5 ∷ []
+pub literals : set_of (composed_in (2 ∷ 7 ∷ 4 ∷ []) (0 ∷ 1 ∷ 1 ∷ 2 ∷ [])) ≡ 2 ∷ 5 ∷ []
 literals = refl

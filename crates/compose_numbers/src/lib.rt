@@ -3,7 +3,7 @@
 
 ghost use Rattle.std.specs.Prelude.{◌≡◌, ◌-◌, ◌≤◌, length};
 ghost use Rattle.lists.specs.Parts.{put, zeros};
-ghost use Rattle.compose_numbers.specs.Inner.Marked.{Listed, ListedAt, CanNumberOne, NumberedOne, CanNumber, Numbered, CanAddOne, AddedOne, CanAdd, Added};
+ghost use Rattle.compose_numbers.specs.Inner.Marked.{Listed, ListedAt, CanNumberOne, NumberedOne, CanNumber, Numbered, CanAdd, Added};
 
 // The place of the assigned number for an origin word.
 fn known_place(work: &[u64], assigned: usize, before: usize, x: u64) -> usize
@@ -63,39 +63,15 @@ pub fn number_leaves(
     after
 }
 
-// Adds the composed literal of the word at a place to a set of bits, and counts it where it is new.
-fn add_literal(
-    work: &mut [u64],
-    at: usize,
-    vars: usize,
-    bits: usize,
-    end: usize,
-    found: usize,
-) -> usize
-    requires { CanAddOne at vars bits end found work.old }
-    ensures { AddedOne at vars bits end found work.old work.new result }
+// Collects the composed literals of joint ones in a set of bits, which is empty at first, and counts them.
+pub fn add_literals(literals: &[u64], vars: &[u64], set: &mut [u64]) -> usize
+    requires { CanAdd literals.now vars.now set.old }
+    ensures { Added literals.now vars.now set.new result }
 {
-    let literal = compose_gates::translate(work, vars, work[at]);
-    found + usize::from(lists::add(&mut work[bits..end], literal as usize))
-}
-
-// Collects composed literals in the set of bits at place `bits`, which is empty at first, and counts them.
-// Kept (buffer): as in `number_leaves`.
-pub fn add_literals(
-    work: &mut [u64],
-    from: usize,
-    count: usize,
-    vars: usize,
-    bits: usize,
-    words: usize,
-) -> usize
-    requires { CanAdd from count vars bits words work.old }
-    ensures { Added from count vars bits words work.old work.new result }
-{
-    let end = bits + words;
     let mut found = 0;
-    for i in 0..count {
-        found = add_literal(work, from + i, vars, bits, end, found);
+    for i in 0..literals.len() {
+        let literal = compose_gates::translate(vars, literals[i]);
+        found += usize::from(lists::add(set, literal as usize));
     }
     found
 }

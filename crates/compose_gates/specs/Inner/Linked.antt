@@ -12,16 +12,16 @@ use Rattle.compose_spec.specs.Composing.{gates_fit}
 
 -- ---- one gate
 
--- the composed variable of a literal's variable stands in the words from place `vars` on, and is small
-pub record Translatable (vars : ℕ) (work : List ℕ) (l : ℕ) : Type 0 where
-  pub within : vars + variable l < length work
-  pub small : get_or work (vars + variable l) 0 < 1073741824
+-- the composed variable of a literal's variable stands among these, and is small
+pub record Translatable (vars : List ℕ) (l : ℕ) : Type 0 where
+  pub within : variable l < length vars
+  pub small : get_or vars (variable l) 0 < 1073741824
 
--- two words from place `at` on are literals that can be translated
+-- two words from place `at` on are literals that can be translated; composed variables stand from place `vars` on
 pub record TwoLiterals (at vars : ℕ) (work : List ℕ) : Type 0 where
   pub within : at + 1 < length work
-  pub left : Translatable vars work (get_or work at 0)
-  pub right : Translatable vars work (get_or work (at + 1) 0)
+  pub left : Translatable (drop vars work) (get_or work at 0)
+  pub right : Translatable (drop vars work) (get_or work (at + 1) 0)
 
 -- the composed literal of the word at a place
 abbrev pub literal_at : ℕ → ℕ → List ℕ → ℕ

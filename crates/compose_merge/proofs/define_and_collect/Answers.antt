@@ -1,7 +1,7 @@
 use native.Mathlib.Omega.{arith}
 use Rattle.compose_merge.proofs.BaseLaws.{step-some, step-goes}
 use Rattle.compose_merge.proofs.DefineLaws.{definitions-can, definitions_differ, definitions-step}
-use Rattle.compose_merge.proofs.AddLaws.{bads-can, constraints-can, literals-done}
+use Rattle.compose_merge.proofs.AddLaws.{collect-can, literals-done}
 use Rattle.compose_merge.proofs.define_and_collect.Goals as goal
 
 pub define_latches-requires : goal.define_latches-requires
@@ -11,16 +11,8 @@ define_latches-requires c = definitions-can _ _ _ _ _ _ c.requires
 pub returns-in_default : goal.returns-in_default
 returns-in_default c = definitions_differ _ _ _ _ _ _ c.define_latches.ensures c.in_default.is _
 
-pub add_literals-bads-requires : goal.add_literals-bads-requires
-add_literals-bads-requires c = bads-can _ _ _ _ _ (step-some (definitions-step _ _ _ _ _ _ c.define_latches.ensures c.define_latches.auto.work c.in-Some.is) c.requires)
-
-pub overflow_sub-at-2 : goal.overflow_sub-at-2
-overflow_sub-at-2 c = omega (arith, c.requires.holds.base.plan.regions.input_origins)
-
-pub add_literals-constraints-requires : goal.add_literals-constraints-requires
-add_literals-constraints-requires c =
-    let defined = step-some (definitions-step _ _ _ _ _ _ c.define_latches.ensures c.define_latches.auto.work c.in-Some.is) c.requires in
-    constraints-can _ _ _ _ _ c.add_literals-bads.auto.work c.add_literals-bads.ensures defined
+pub collect-found-requires : goal.collect-found-requires
+collect-found-requires c = collect-can _ _ _ _ _ (step-some (definitions-step _ _ _ _ _ _ c.define_latches.ensures c.define_latches.auto.work c.in-Some.is) c.requires)
 
 pub overflow_sub-result : goal.overflow_sub-result
 overflow_sub-result c = omega (arith, c.requires.holds.first)
@@ -31,4 +23,4 @@ overflow_sub-result-2 c = omega (arith, c.requires.holds.first, c.requires.holds
 pub returns : goal.returns
 returns c =
     step-goes (definitions-step _ _ _ _ _ _ c.define_latches.ensures c.define_latches.auto.work c.in-Some.is)
-    (literals-done _ _ _ _ _ c.add_literals-bads.auto.work c.add_literals-bads.ensures c.add_literals-constraints.auto.work c.add_literals-constraints.ensures)
+    (literals-done _ _ _ _ _ c.collect-found.auto.work c.collect-found.ensures)

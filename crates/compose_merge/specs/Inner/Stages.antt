@@ -11,6 +11,7 @@ use Rattle.key_table.specs.Inner.Table.{Held}
 use Rattle.compose_gather.specs.declared.Totals.{Totals}
 use Rattle.compose_layout.specs.declared.Layout.{Layout}
 use Rattle.compose_layout.specs.Inner.Laid.{Has, Summed}
+use Rattle.compose_numbers.specs.Inner.Marked.{CanAdd, Added}
 use Rattle.compose_merge.specs.Inner.Merged.{Base, input_numbers, latch_numbers}
 
 -- the words from one place up to another are 0
@@ -54,3 +55,21 @@ pub record GatesShared (t : Totals) (at : Layout) (n k g : ℕ) (work : List ℕ
   pub fits : gates_fit (leaf_count m ws) (composed_gates m ws) ≡ true
   pub shared : Shared at work m ws
   pub bits : Clean work at.bad_bits at.end
+
+-- the joint lists, the composed variables and both sets of bits, which are empty, stand one behind the other within the words
+pub record CanCollect (at : Layout) (work : List ℕ) : Type 0 where
+  pub safety : at.safety ≤ at.constraints
+  pub constraints : at.constraints ≤ at.input_origins
+  pub lists : at.input_origins ≤ at.bad_bits
+  pub vars : at.vars ≤ at.bad_bits
+  pub bits : at.constraint_bits ≡ at.bad_bits + at.bits
+  pub end : at.end ≡ at.constraint_bits + at.bits
+  pub fits : at.end ≤ length work
+  pub bads_can : CanAdd (part work at.safety at.constraints) (part work at.vars at.bad_bits) (part work at.bad_bits at.constraint_bits)
+  pub constraints_can : CanAdd (part work at.constraints at.input_origins) (part work at.vars at.bad_bits) (part work at.constraint_bits at.end)
+
+-- so many composed literals stand in each of the sets, and nothing in front of them is written
+pub record Collects (at : Layout) (work work' : List ℕ) (bads constraints : ℕ) : Type 0 where
+  pub bads_added : Added (part work at.safety at.constraints) (part work at.vars at.bad_bits) (part work' at.bad_bits at.constraint_bits) bads
+  pub constraints_added : Added (part work at.constraints at.input_origins) (part work at.vars at.bad_bits) (part work' at.constraint_bits at.end) constraints
+  pub before : take at.bad_bits work' ≡ take at.bad_bits work

@@ -1,13 +1,12 @@
 -- For the contracts of the composer's inner functions: leaves numbered at their first appearance, and sets of composed literals, in lent words.
-use Rattle.std.specs.Prelude.{ℕ, suc, ◌+◌, ◌*◌, ◌/◌, ◌≤◌, ◌<◌, false, not, cond, List, map, ◌≡◌, eqb, length, get_or, take, drop, set}
-use Rattle.lists.specs.Bits.{odd, bit}
+use Rattle.std.specs.Prelude.{ℕ, suc, ◌+◌, ◌*◌, ◌/◌, ◌≤◌, ◌<◌, false, cond, List, map, ◌≡◌, eqb, length, get_or, set}
+use Rattle.lists.specs.Bits.{odd}
 use Rattle.lists.specs.Parts.{part, put, zeros}
-use Rattle.lists.specs.Sets.{holds, with_bit, set_of}
-use Rattle.aiger.specs.Gates.{variable}
+use Rattle.lists.specs.Sets.{set_of}
 use Rattle.text_print.specs.Inner.Elements.{elements}
 use Rattle.compose_spec.specs.Sharing.{translate}
 use Rattle.compose_joint.specs.Inner.Numbers.{Numbers, slot, number_all}
-use Rattle.compose_gates.specs.Inner.Linked.{Translatable, literal_at}
+use Rattle.compose_gates.specs.Inner.Linked.{Translatable}
 
 -- ---- one leaf
 
@@ -74,40 +73,21 @@ pub record Numbered (origins count assigned size before vars next : ℕ) (work w
 
 -- ---- sets of composed literals
 
--- the composed literals of `count` joint ones that stand at a place
-abbrev pub literals_at : (from count vars : ℕ) → List ℕ → List ℕ
-literals_at from count vars work = map (translate (drop vars work)) (part work from (from + count))
+-- the composed literals of joint ones
+abbrev pub composed_in : (literals vars : List ℕ) → List ℕ
+composed_in literals vars = map (translate vars) literals
 
--- the word at a place is a literal that can be translated, and there is a set of bits from place `bits` up to place `end`
-pub record CanAddOne (at vars bits end found : ℕ) (work : List ℕ) : Type 0 where
-  pub within : at < length work
-  pub literal : Translatable vars work (get_or work at 0)
-  pub ordered : bits ≤ end
-  pub room : end ≤ length work
-  pub few : found < length work
+-- a literal that can be translated, whose composed literal has a bit among so many words
+pub record Addable (vars : List ℕ) (words l : ℕ) : Type 0 where
+  pub literal : Translatable vars l
+  pub below : translate vars l < 64 * words
 
--- its composed literal is in the set, and one more is found where it was not
-pub record AddedOne (at vars bits end found : ℕ) (work work' : List ℕ) (r : ℕ) : Type 0 where
-  pub returns : r ≡ found + bit (not (holds (part work bits end) (literal_at at vars work)))
-  pub words : work' ≡ put work bits (with_bit (part work bits end) (literal_at at vars work))
+-- joint literals, composed variables, and an empty set
+pub record CanAdd (literals vars set : List ℕ) : Type 0 where
+  pub empty : set ≡ zeros (length set)
+  pub each : (i : ℕ) → i < length literals → Addable vars (length set) (get_or literals i 0)
 
--- a literal whose composed variable stands in front of place `bits`, and is small, and whose composed literal has a bit among so many words
-pub record Addable (vars bits words : ℕ) (work : List ℕ) (l : ℕ) : Type 0 where
-  pub within : vars + variable l < bits
-  pub small : get_or work (vars + variable l) 0 < 1073741824
-  pub below : translate (drop vars work) l < 64 * words
-
--- The words before literals are added: `count` joint ones, composed variables, and an empty set.
-pub record CanAdd (from count vars bits words : ℕ) (work : List ℕ) : Type 0 where
-  pub first : from + count ≤ vars
-  pub second : vars ≤ bits
-  pub third : bits + words ≤ length work
-  pub empty : part work bits (bits + words) ≡ zeros words
-  pub literals : (i : ℕ) → i < count → Addable vars bits words work (get_or work (from + i) 0)
-
--- The promise: the set has the composed literals, r is how many they are, and the words around it are as they were.
-pub record Added (from count vars bits words : ℕ) (work work' : List ℕ) (r : ℕ) : Type 0 where
-  pub is : elements (part work' bits (bits + words)) ≡ set_of (literals_at from count vars work)
-  pub returns : r ≡ length (set_of (literals_at from count vars work))
-  pub before : take bits work' ≡ take bits work
-  pub behind : drop (bits + words) work' ≡ drop (bits + words) work
+-- The promise: the set has the composed literals, and r is how many they are.
+pub record Added (literals vars set : List ℕ) (r : ℕ) : Type 0 where
+  pub is : elements set ≡ set_of (composed_in literals vars)
+  pub returns : r ≡ length (set_of (composed_in literals vars))
