@@ -1,9 +1,7 @@
 use Prim.Native.Nat.{◌/◌}
-use mathlib.Core.Path.{◌≡◌}
 use native.Mathlib.Omega.{arith}
 use lib.ListN.{length}
 use borrow.Author.Rules.{rules}
-use Rattle.lists.specs.Parts.{zeros}
 use Rattle.model.specs.Inner.Lent.{lent_record}
 use Rattle.model.proofs.CheckedLaws.{checkable, check_room, check_limits, check_fails, check_holds}
 use Rattle.model.proofs.lent.LentModel.validate.Goals as goal
