@@ -1,8 +1,21 @@
 // The number that a field of bytes writes (R1).
-ghost use Rattle.std.specs.Prelude.{◌≡◌, drop};
+ghost use Rattle.std.specs.Prelude.{ℕ, Bool, ◌≡◌};
 ghost use Rattle.text.specs.Numbers.{digits_after, digits_of, unsigned, number_of};
+ghost use Rattle.text.specs.Inner.PlainDigits.{is_zero};
 
 use super::Reader;
+use scan::ByteTest;
+
+// The digit 0.
+struct Zero;
+
+impl ByteTest for Zero {
+    ghost passes = { is_zero };
+
+    fn passes(b: u8) -> bool {
+        b == b'0'
+    }
+}
 
 // A field without the zeros in front of its digits, where it is long.
 fn without_zeros(f: &[u8]) -> &[u8]
@@ -11,7 +24,7 @@ fn without_zeros(f: &[u8]) -> &[u8]
     if f.len() <= 32 {
         return f;
     }
-    &f[scan::run_end(f, 0, 48, 48)..]
+    &f[scan::passing::<Zero>(f)..]
 }
 
 // The number of a field of digits.

@@ -1,12 +1,8 @@
-use Rattle.text.proofs.PlainLaws.{taken_run}
-use Rattle.text.proofs.LiteralLaws.{taken_missing, taken-from}
+use mathlib.Core.Path.{refl}
+use Rattle.text.proofs.PlainLaws.{number_run}
 use Rattle.text.proofs.next_number.Goals as goal
 
-pub returns-then-l-start : goal.returns-then-l-start
-returns-then-l-start c = search taken_missing
-
-pub returns-then-long_zero : goal.returns-then-long_zero
-returns-then-long_zero c = search taken-from
-
 pub returns : goal.returns
-returns c = search taken_run
+returns c =
+    number_run c.args.reader c.args.l.now c.from_field-front.result.now c.from_field-front.ensures c.is_empty.result c.is_empty.ensures c.if-is_empty.false _ _
+    c.digits_run-size.ensures (c.if-long_zero.ensures refl) (c.if-not-ends_field.ensures refl)
