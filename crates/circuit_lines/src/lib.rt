@@ -1,13 +1,13 @@
 // The lines of a circuit text, for both readers: the header's numbers, literals and gates (R4, R5).
 #![tactic(auto)]
 
-ghost use Rattle.std.specs.Prelude.{◌≡◌, length};
+ghost use Rattle.std.specs.Prelude.{◌≡◌, ◌≤◌, length};
 ghost use Rattle.lists.specs.Answer.{Answer};
 ghost use Rattle.lists.specs.Parts.{Bytes};
 ghost use Rattle.text.specs.Fields.{fields_of};
 ghost use Rattle.text.specs.Literals.{numbers_of};
 ghost use Rattle.circuit_lines.specs.SectionLines.{header_numbers, literal_line, gate_line};
-ghost use Rattle.circuit_lines.specs.Inner.Takes.{TakesHeaderNumbers, Takes, TakesOne, TakesGate, TakesPlain};
+ghost use Rattle.circuit_lines.specs.Inner.Takes.{TakesHeaderNumbers, Takes, TakesFront, TakesOne, TakesGate, TakesPlain};
 ghost use Rattle.circuit_lines.specs.Inner.OneLine.{Stores, answer_or};
 
 use aiger::Gate;
@@ -198,4 +198,19 @@ pub fn take_lines<'a, K: TakeLine>(kind: K, s: &'a [u8], out: &mut [K::Item]) ->
         left = line.rest;
     }
     Some(left)
+}
+
+// The items of the first n lines, in front of `out`, and the text behind them; more than `out` is long are refused at once.
+pub fn take_front<'a, K: TakeLine>(
+    kind: K,
+    s: &'a [u8],
+    n: usize,
+    out: &mut [K::Item],
+) -> Option<&'a [u8]>
+    ensures { n ≤ length out.old → TakesFront (K.item kind) s.now n out.old result out.new }
+{
+    if out.len() < n {
+        return None;
+    }
+    take_lines(kind, s, &mut out[..n])
 }

@@ -35,6 +35,16 @@ module _ {A : Type 0} where
   Takes item s n (Some r) items = SectionTaken item s n items r.now
   Takes item s n None items = section item n (lines_of s) ≡ refused 8
 
+  -- such items stand in front of what was in o₀, and the text r is left
+  pub record FrontTaken (item : Bytes → Answer A) (s : Bytes) (n : ℕ) (o₀ o : List A) (r : Bytes) : Type 0 where
+    pub items : List A
+    pub stand : o ≡ front o₀ items
+    pub taken : SectionTaken item s n items r
+
+  abbrev pub TakesFront : (Bytes → Answer A) → Bytes → ℕ → List A → Option (Bor Bytes) → List A → Type 0
+  TakesFront item s n o₀ (Some r) o = FrontTaken item s n o₀ o r.now
+  TakesFront item s n o₀ None o = section item n (lines_of s) ≡ refused 8
+
   -- so it is for one line and its item
   abbrev pub TakesOne : (Bytes → Answer A) → Bytes → Option (Parsed A) → Type 0
   TakesOne item s (Some p) = SectionTaken item s 1 (p.value ∷ []) p.rest.now
