@@ -101,7 +101,7 @@ after-body n ls d p e =
 module _ (n : AagCounts) where
   -- the name in a plain line is plain
   symbol-plain : (l : Bytes) (x : Symbol) → symbol_of n l ≡ got x → Plain l → Plain x.name
-  symbol-plain l x e h = rw (← symbol-name l x e) (all_drop plain (suc (before_space l)) l h)
+  symbol-plain l x e h = rw (← symbol-name n l x e) (all_drop plain (suc (before_space l)) l h)
 
   -- so is the name of each symbol in plain lines
   tail-plain : (ls : List Bytes) (t : Tail) → tail_of n ls ≡ got t → Each Plain ls → Each (λ s. Plain s.name) t.symbols

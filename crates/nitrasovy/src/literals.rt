@@ -2,7 +2,7 @@
 ghost use Rattle.std.specs.Prelude.{◌≡◌};
 ghost use Rattle.nitrasovy.specs.FlatLiterals.{flat_value, literal_from, TakesFlat};
 
-use text::{Cursor, Reader};
+use text::Reader;
 
 // A place in a text.
 #[repr(C)]
@@ -37,7 +37,10 @@ fn flat_value(value: Option<u64>) -> NitTaken
 pub extern "C" fn nit_take_literal(text: &[u8], cursor: &mut NitCursor) -> NitTaken
     ensures { TakesFlat (literal_from text.now cursor.old.at) result cursor.new.at }
 {
-    let literal = text::take_literal(Reader::Witness, text, Cursor { at: cursor.at });
-    cursor.at = literal.next.at;
+    if text.len() <= cursor.at {
+        return flat_value(None);
+    }
+    let literal = text::take_literal(Reader::Witness, &text[cursor.at..]);
+    cursor.at = text.len() - literal.rest.len();
     flat_value(literal.value)
 }

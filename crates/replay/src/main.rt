@@ -64,7 +64,7 @@ fn replay_block(
 // Replays the case at a place.
 fn replay_case(input: &[u8], at: usize, out: &mut [u8], to: usize) -> Progress {
     let mut room = [0; 8192];
-    let end = scan::line_end(input, at);
+    let end = at.saturating_add(scan::line_length(input.get(at..).unwrap_or(&[])));
     let Some(n) = form::numbers(form::bytes(input, at, end), &mut room) else {
         return stop(input, out, to);
     };

@@ -2,7 +2,7 @@
 use nitrasovy::witnesses::NitWitness;
 use nitrasovy::{compositions, witnesses};
 use replay_text::{form, show};
-use text::{Cursor, Reader};
+use text::Reader;
 
 // Prints an answer of the witness reader.
 fn show_counts(read: NitWitness, out: &mut [u8], at: usize) -> usize {
@@ -97,14 +97,11 @@ pub fn literal_case(numbers: &[u64], text: &[u8], out: &mut [u8], at: usize) -> 
         Reader::Witness
     };
     let named = text_print::print_bytes(out, at, b"literal");
-    let literal = text::take_literal(
-        rule,
-        text,
-        Cursor {
-            at: form::size(numbers, 3),
-        },
-    );
+    let place = form::size(numbers, 3);
+    let left = text.get(place..).unwrap_or(&[]);
+    let literal = text::take_literal(rule, left);
+    let next = place.saturating_add(left.len().saturating_sub(literal.rest.len()));
     let reason = if literal.value.is_some() { 0 } else { 8 };
-    let answer = [reason, literal.value.unwrap_or(0), literal.next.at as u64];
+    let answer = [reason, literal.value.unwrap_or(0), next as u64];
     show::words(out, named, &answer)
 }

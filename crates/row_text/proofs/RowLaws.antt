@@ -92,7 +92,7 @@ after_none t end h =
     let past : length t ≤ end + 1 = omega arith in
     sym (drop_of_length-le t past)
 
-pub line-length : (t : Bytes) (end : ℕ) → end ≡ 0 + span in_line (drop 0 t) → end ≡ length (take end t)
+pub line-length : (t : Bytes) (end : ℕ) → end ≡ span in_line t → end ≡ length (take end t)
 line-length t end e = sym (length-take-le end t (omega (arith, span_le in_line t)))
 
 pub line-short : (t : Bytes) (end n : ℕ) → length t ≤ 16384 → 16384 < n → length (take end t) < n
@@ -103,9 +103,9 @@ module _ (o t o' : Bytes) (n : ℕ) where
   unfolding row_text row_answer
   too_long h w = rw (lt-leb (length t) 16384 h) w
 
-  module _ (h : length t ≤ 16384) (end : ℕ) (e : end ≡ 0 + span in_line (drop 0 t)) (r : Option ℕ) (s : List ℕ) (k : answer_in r s ≡ numbers_of (pieces (take end t))) where
+  module _ (h : length t ≤ 16384) (end : ℕ) (e : end ≡ span in_line t) (r : Option ℕ) (s : List ℕ) (k : answer_in r s ≡ numbers_of (pieces (take end t))) where
     line : numbers_of (pieces (first_line t)) ≡ answer_in r s
-    line = sym (k ∙ ap (λ (j : ℕ). numbers_of (pieces (take j t))) (e ∙ zero-add (span in_line t)))
+    line = sym (k ∙ ap (λ (j : ℕ). numbers_of (pieces (take j t))) e)
 
     pub other_form : r ≡ None → Wrote o 0 (printed (refused 14)) o' n → Wrote o 0 (row_text t) o' n
     unfolding row_text row_answer
@@ -115,7 +115,7 @@ module _ (o t o' : Bytes) (n : ℕ) where
         → PrintsFor ns rest o n o' → Wrote o 0 (row_text t) o' n
     unfolding row_text row_answer
     numbers_read count m ns rest p q w =
-        let f : rest ≡ after_line t = q ∙ ap (λ (j : ℕ). drop (j + 1) t) (e ∙ zero-add (span in_line t)) in
+        let f : rest ≡ after_line t = q ∙ ap (λ (j : ℕ). drop (j + 1) t) e in
         rw (le-leb (length t) 16384 h, line, m) (rw (p, f) at w.wrote)
 
 -- ---- the promise

@@ -16,7 +16,7 @@ ghost use Rattle.row_text.specs.Inner.Made.{made_answer, Printable, PrintsIn, Pr
 use aiger::Refusal;
 use cnf::ClauseCounts;
 use model::AigerTransition;
-use text::ByteTest;
+use scan::ByteTest;
 
 // A byte that is no space.
 struct InPiece {}
@@ -38,7 +38,7 @@ fn read_numbers(line: &[u8], numbers: &mut [u64]) -> Option<usize>
     let mut at = 0;
     // Kept (loop): a turn passes a whole piece, so that the place moves by its length.
     while at <= line.len() {
-        let end = text::passing_end::<InPiece>(line, at);
+        let end = at + scan::passing::<InPiece>(&line[at..]);
         numbers[count] = text::numbers::parse_usize(&line[at..end])?;
         count += 1;
         at = end + 1;
@@ -239,7 +239,7 @@ fn print_text(input: &[u8], out: &mut [u8]) -> usize
         return write_refused(out, 3);
     }
     let mut numbers = [0u64; 16385];
-    let end = scan::line_end(input, 0);
+    let end = scan::line_length(input);
     let Some(n) = read_numbers(&input[..end], &mut numbers) else {
         return write_refused(out, 14);
     };

@@ -7,13 +7,10 @@ use mathlib.Core.Logic.{◌⊎◌, inl, inr}
 use mathlib.Core.Bool.{Bool, true, false, cond, and-false}
 use native.Mathlib.Numerals.{add-one}
 use native.Mathlib.Omega.{arith}
-use borrow.Author.Tests.{lt-ltb, le-ltb, le-leb, lt-leb, leb-true, eqb-true}
+use borrow.Author.Tests.{lt-ltb, le-ltb, le-leb, lt-leb, eqb-true}
 use lib.ListN.{length, get_or, drop, drop_of_length-le}
 use Rattle.std.specs.Prelude.{◌==◌}
-use lib.Dec.{leb}
 use lib.Seq.{drop-cons}
-use Rattle.lists.proofs.BoolLaws.{and_left, and_right}
-use native.Mathlib.Nat.{zero-add}
 use Rattle.lists.specs.Parts.{part}
 use Rattle.lists.proofs.PartLaws.{part-drop}
 use Rattle.scan.specs.Spans.{span}

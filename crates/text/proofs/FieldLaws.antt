@@ -1,6 +1,5 @@
 -- Laws of `is_blank` and `fields_of`: the first field of a line and the line behind it, for the code that finds fields.
-use Rattle.std.specs.Prelude.{Option, Some, None}
-use Prim.Native.Nat.{ℕ, suc, ◌+◌, ◌-◌, ◌≤◌, ◌<◌}
+use Prim.Native.Nat.{ℕ, ◌-◌, ◌≤◌, ◌<◌}
 use mathlib.Core.Path.{◌≡◌, refl, ap, sym, ◌∙◌}
 use mathlib.Core.Bool.{and-false, or-false, or-true, ◌&&◌, Bool, true, false}
 use mathlib.Core.List.{List, [], ◌∷◌, ◌++◌}
@@ -11,14 +10,14 @@ use lib.ListN.{length, get_or, take, drop, length-drop}
 use lib.Seq.{get_or-drop}
 use lib.Dec.{leb}
 use Rattle.scan.specs.Spans.{span}
-use Rattle.scan.proofs.SpanLaws.{span_outside, span_le, span-passes}
+use Rattle.scan.proofs.SpanLaws.{span_outside}
 use Rattle.text.specs.Lines.{cons_head}
 use Rattle.lists.specs.Parts.{Bytes}
 use Rattle.lists.specs.Tests.{all}
 use Rattle.lists.proofs.BoolLaws.{and_left, and_right}
 use Rattle.lists.proofs.PartLaws.{tail-lent}
 use Rattle.text.specs.Fields.{is_blank, in_field, fields_of, head_of, first_field}
-use Rattle.text.specs.Inner.Fronts.{is_space, from_field, FieldAtFront, FieldTaken}
+use Rattle.text.specs.Inner.Fronts.{is_space, from_field, FieldTaken}
 
 -- a byte's test: the blanks are 9 to 13 and 32
 module _ (b : ℕ) where

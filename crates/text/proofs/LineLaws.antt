@@ -1,6 +1,5 @@
 -- Laws of `lines_of`: the first line of a text and the text behind it, for the code that takes lines.
-use Rattle.std.specs.Prelude.{Option, Some, None}
-use Prim.Native.Nat.{ℕ, suc, ◌+◌, ◌-◌, ◌≤◌, ◌<◌, min}
+use Prim.Native.Nat.{ℕ, suc, ◌+◌, ◌<◌}
 use mathlib.Core.Path.{◌≡◌, refl, ap, sym, ◌∙◌}
 use mathlib.Core.List.{List, [], ◌∷◌, ◌++◌, append-nil}
 use mathlib.Core.Bool.{Bool, true, false}
@@ -10,10 +9,8 @@ use lib.ListN.{length, take, drop, length-drop}
 use lib.Seq.{drop-drop}
 use lib.Dec.{eqb}
 use Rattle.scan.specs.Spans.{span, in_line}
-use Rattle.scan.proofs.SpanLaws.{span_le}
-use Rattle.text.specs.declared.Parsed.{Parsed}
 use Rattle.text.specs.Lines.{cons_head, lines_of, line_size}
-use Rattle.text.specs.Inner.Fronts.{Behind, LineTaken, TakesLine}
+use Rattle.text.specs.Inner.Fronts.{Behind, LineTaken}
 use Rattle.lists.specs.Parts.{Bytes}
 use Rattle.lists.specs.Tests.{all}
 use Rattle.lists.proofs.BoolLaws.{and_left, and_right}

@@ -2,7 +2,7 @@
 use Rattle.std.specs.Prelude.{Option, Some, None, is_some}
 use Rattle.std.specs.Borrow.{Bor}
 use Prim.Native.Nat.{ℕ, ◌<◌}
-use mathlib.Core.Bool.{Bool, true, false}
+use mathlib.Core.Bool.{true, false}
 use mathlib.Core.List.{List, [], ◌∷◌}
 use mathlib.Core.Path.{◌≡◌, refl, ap, sym, ◌∙◌}
 use native.Mathlib.Omega.{arith}
@@ -17,7 +17,7 @@ use Rattle.text.specs.Numbers.{number_of}
 use Rattle.text.specs.Lines.{lines_of, line_size}
 use Rattle.text.specs.Fields.{in_field, fields_of}
 use Rattle.text.specs.Literals.{with_number, numbers_of, one_of, literal_of, first_literal}
-use Rattle.text.specs.Inner.Fronts.{Behind, LineTaken, TakesLine, from_field, FieldAtFront, FieldTaken, TakesField, NumberAtFront, TakesNumber, TakesLiteral}
+use Rattle.text.specs.Inner.Fronts.{Behind, LineTaken, from_field, TakesField, TakesNumber, TakesLiteral}
 use Rattle.text.proofs.LineLaws.{lines-some, lines-behind}
 use Rattle.text.proofs.FieldLaws.{fields_none, fields_some}
 

@@ -1,23 +1,21 @@
 -- Laws of `IsRun`: the loop that reads plain digits, the tests behind it, and what they say of the number of a line and of a plain number.
 use Rattle.std.specs.Prelude.{Some, ◌==◌}
-use Prim.Native.Nat.{ℕ, zero, suc, ◌+◌, ◌*◌, ◌-◌, ◌^◌, ◌≤◌, ◌<◌, min}
+use Prim.Native.Nat.{ℕ, suc, ◌+◌, ◌*◌, ◌-◌, ◌^◌, ◌≤◌, ◌<◌, min}
 use mathlib.Core.Path.{◌≡◌, refl, ap, sym, ◌∙◌}
-use mathlib.Core.Bool.{Bool, true, false}
+use mathlib.Core.Bool.{Bool, false}
 use mathlib.Core.List.{[], ◌∷◌, ◌++◌}
 use native.Mathlib.Omega.{arith}
 use native.Mathlib.Nat.{pow-le-pow_right, pow-succ'}
-use borrow.Author.Tests.{le-leb, ne_eqb}
+use borrow.Author.Tests.{le-leb}
 use lib.ListN.{length, get_or, take, drop, take-append-drop}
 use lib.Seq.{length-take-le}
 use Rattle.lists.specs.Parts.{Bytes}
-use Rattle.lists.proofs.BoolLaws.{told}
 use Rattle.lists.proofs.RestLaws.{rest_more, take_next}
 use Rattle.lists.proofs.PartLaws.{tail-lent}
 use Rattle.lists.proofs.TestLaws.{all_snoc}
 use Rattle.scan.specs.Spans.{span}
 use Rattle.scan.proofs.SpanLaws.{span_in}
 use Rattle.text.specs.declared.Reader.{Reader}
-use Rattle.text.specs.declared.Taken.TheVariants as taken
 use Rattle.text.specs.Numbers.{is_digit, tenfold, long_zero, number_of}
 use Rattle.text.specs.Fields.{is_blank, in_field}
 use Rattle.text.specs.Inner.PlainDigits.{IsRun, IsPlain}
@@ -89,14 +87,6 @@ module _ (l : Bytes) (most : ℕ) where
             within = k.within;
           }
 
--- ---- zeros in front (R1.3)
-
-long_none : (n : ℕ) (t : Bytes) → n ≤ 1 → long_zero (take n t) ≡ false
-long_none zero t h = refl
-long_none (suc zero) [] h = refl
-long_none (suc zero) (b ∷ t) h = refl
-long_none (suc (suc n)) t h = absurd (omega arith)
-
 -- ---- digits that are all of a field
 
 module _ (l : Bytes) (n v : ℕ) (k : IsRun l n v) (zero : long_zero (take n l) ≡ false) where
@@ -105,16 +95,18 @@ module _ (l : Bytes) (n v : ℕ) (k : IsRun l n v) (zero : long_zero (take n l) 
       rw k.value
       (number-plain reader (take n l) zero (rw (length-take-le n l k.fits) h) k.digits (rw (← k.value) k.small))
 
-  -- plain_number
-  pub plain-got : n < length l → (n ≡ 0 → ⊥) → (stop : ℕ) → get_or l n 0 ≡ stop → IsPlain l stop v (take (length l - (n + 1)) (drop (n + 1) l))
-  plain-got h some_byte stop t =
-      record {
-        field = take n l;
-        some_byte = rw (length-take-le n l k.fits) (omega (arith, some_byte));
-        digits = k.digits;
-        stands = sym (take-append-drop n l) ∙ ap (λ (x : Bytes). take n l ++ x) (rw (← t, tail-lent l (n + 1)) (rest_more l n 0 h));
-        value = run_number (omega (arith, some_byte));
-      }
+  -- plain_number: t is what stands behind the digits
+  module _ (t : Bytes) (q : t ≡ drop n l) where
+    pub plain-got : 1 ≤ length t → (n ≡ 0 → ⊥) → (stop : ℕ) → get_or t 0 0 ≡ stop → IsPlain l stop v (take (length t - 1) (drop 1 t))
+    plain-got h some_byte stop e =
+        let behind : drop n l ≡ t = sym q in
+        record {
+          field = take n l;
+          some_byte = rw (length-take-le n l k.fits) (omega (arith, some_byte));
+          digits = k.digits;
+          stands = sym (take-append-drop n l) ∙ ap (λ (x : Bytes). take n l ++ x) (behind ∙ rw (← e, tail-lent t 1) (rest_more t 0 0 h));
+          value = run_number (omega (arith, some_byte));
+        }
 
 -- next_number
 module _ (reader : Reader) (l front : Bytes) (e : front ≡ from_field l) (empty : Bool) (b : empty ≡ (length front == 0)) (f : empty ≡ false) (n v : ℕ) (k : IsRun front n v) (zero : long_zero (take n front) ≡ false) where
@@ -131,12 +123,9 @@ module _ (reader : Reader) (l front : Bytes) (e : front ≡ from_field l) (empty
       let first : is_blank (get_or front 0 0) ≡ false = rw e (front-in_field l (omega (arith, ap length e, h))) in
       omega (arith, span_in in_field front 0 (omega (arith, h)) (rw first))
 
-  pub number_run : span in_field (take (length front - n) (drop n front)) ≡ 0
-      → (0 < length (from_field l)) × NumberStands reader (from_field l) v (take (length front - n) (drop n front))
-  number_run w =
-      let q : take (length front - n) (drop n front) ≡ drop n front = tail-lent front n in
-      let ends : span in_field front ≡ n = omega (arith, k.inside, w, ap (span in_field) q) in
-      (
+  pub number_run : (r : Bytes) → r ≡ drop n front → span in_field r ≡ 0 → (0 < length (from_field l)) × NumberStands reader (from_field l) v r
+  number_run r q w =
+      let ends : span in_field front ≡ n = omega (arith, k.inside, w, ap (span in_field) q) in (
         omega (arith, ap length e, h),
         rw (← e) (record { value = rw ends (run_number front n v k zero (omega (arith, some_byte)) reader); rest = rw ends q }),
       )

@@ -1,10 +1,9 @@
 // Lines and fields of a text of bytes (R2), and the checks of R9.3. The numbers (R1) are in `numbers`.
 #![tactic(auto)]
 
-ghost use Rattle.std.specs.Prelude.{ℕ, Bool, ◌≡◌, true, false, take};
+ghost use Rattle.std.specs.Prelude.{ℕ, Bool, ◌≡◌, true};
 ghost use Rattle.scan.specs.Spans.{span};
 ghost use Rattle.text.specs.Fields.{is_blank, in_field, first_field, is_header_word, has_header_word};
-ghost use Rattle.text.specs.Numbers.{long_zero};
 ghost use Rattle.text.specs.Literals.{literal_of};
 ghost use Rattle.text.specs.Inner.PlainDigits.{IsRun, ReadsPlain};
 ghost use Rattle.text.specs.Inner.Fronts.{TakesLine, is_space, from_field, TakesField, NumberAtFront, TakesNumber, TakesLiteral};
@@ -161,27 +160,20 @@ fn digits_run(l: &[u8]) -> Run
     Run { size: most, value }
 }
 
-// Whether so many bytes at a front begin with '0' and are more than one. Zeros in front may be many, and the readers differ on them,
-// so they are left to the longer way.
-fn long_zero(l: &[u8], size: usize) -> bool
-    ensures { result ≡ false → long_zero (take size l.now) ≡ false }
-{
-    1 < size && l.starts_with(b"0")
-}
-
 // The number that plain digits at the front of a text write, where the byte `stop` follows them, and the text behind that byte: one
 // pass over the bytes, for texts in the form in which circuits are printed. Anything else is left to the longer way.
 pub fn plain_number(s: &[u8], stop: u8) -> Option<Parsed<'_, u64>>
     ensures { ReadsPlain s.now stop result }
 {
     let Run { size, value } = digits_run(s);
-    if s.len() <= size || size == 0 || long_zero(s, size) || s[size] != stop {
+    let (digits, others) = s.split_at(size);
+    let [b, rest @ ..] = others else {
+        return None;
+    };
+    if size == 0 || numbers::long_zero(digits) || *b != stop {
         return None;
     }
-    Some(Parsed {
-        value,
-        rest: &s[size + 1..],
-    })
+    Some(Parsed { value, rest })
 }
 
 // Whether no field goes on at the front of a line.
@@ -203,8 +195,8 @@ pub fn next_number(reader: Reader, l: &[u8]) -> Taken<'_>
         return Taken::Missing;
     }
     let Run { size, value } = digits_run(front);
-    let rest = &front[size..];
-    if long_zero(front, size) || !ends_field(rest) {
+    let (digits, rest) = front.split_at(size);
+    if numbers::long_zero(digits) || !ends_field(rest) {
         return any_number(reader, front);
     }
     Taken::Got { value, rest }

@@ -1,6 +1,6 @@
 // The number that a field of bytes writes (R1).
 ghost use Rattle.std.specs.Prelude.{ℕ, Bool, ◌≡◌};
-ghost use Rattle.text.specs.Numbers.{digits_after, digits_of, unsigned, number_of};
+ghost use Rattle.text.specs.Numbers.{digits_after, digits_of, unsigned, long_zero, number_of};
 ghost use Rattle.text.specs.Inner.PlainDigits.{is_zero};
 
 use super::Reader;
@@ -55,6 +55,17 @@ fn unsigned(f: &[u8]) -> &[u8]
     }
 }
 
+// Whether a field begins with '0' and has more bytes (R1.3). Zeros in front may be many, and the readers differ on them, so the short
+// ways leave such a field to the longer one.
+pub fn long_zero(f: &[u8]) -> bool
+    ensures { result ≡ long_zero f.now }
+{
+    match f {
+        [b'0', _, ..] => true,
+        _ => false,
+    }
+}
+
 // The transition reader's number (R1.4).
 pub fn parse_usize(f: &[u8]) -> Option<u64>
     ensures { result ≡ number_of Reader.Transition f.now }
@@ -66,10 +77,7 @@ pub fn parse_usize(f: &[u8]) -> Option<u64>
 pub fn parse_number(f: &[u8]) -> Option<u64>
     ensures { result ≡ number_of Reader.Witness f.now }
 {
-    if f.len() < 2 {
-        return parse_usize(f);
-    }
-    if f[0] == b'0' {
+    if long_zero(f) {
         return None;
     }
     parse_usize(f)

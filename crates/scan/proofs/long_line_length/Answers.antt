@@ -1,5 +1,4 @@
 use native.Mathlib.Omega.{arith}
-use lib.ListN.{drop, length-drop}
 use Rattle.scan.specs.Spans.{in_line}
 use Rattle.scan.proofs.SpanLaws.{span_le}
 use Rattle.scan.proofs.long_line_length.Goals as goal
