@@ -1,35 +1,34 @@
 // The lines of a circuit text, for both readers: the header's numbers, literals and gates (R4, R5).
 #![tactic(auto)]
 
-ghost use Rattle.std.specs.Prelude.{◌≡◌, ◌≤◌, length, drop, replicate};
+ghost use Rattle.std.specs.Prelude.{◌≡◌, ◌≤◌, length};
 ghost use Rattle.lists.specs.Answer.{Answer};
 ghost use Rattle.lists.specs.Parts.{Bytes};
 ghost use Rattle.text.specs.Fields.{fields_of};
 ghost use Rattle.text.specs.Literals.{numbers_of};
 ghost use Rattle.circuit_lines.specs.SectionLines.{header_numbers, literal_line, gate_line};
-ghost use Rattle.circuit_lines.specs.Inner.Takes.{TakesHeaderNumbers, Takes, TakesArray, TakesOne, TakesGate, TakesPlain};
+ghost use Rattle.circuit_lines.specs.Inner.Takes.{TakesHeaderNumbers, Takes, TakesFront, TakesOne, TakesGate, TakesPlain};
 ghost use Rattle.circuit_lines.specs.Inner.OneLine.{Stores, answer_or};
 
 use aiger::Gate;
-use text::{Cursor, Parsed, Reader, Taken};
+use text::{Parsed, Reader, Taken};
 
-// The fields of a line from a place on, as numbers in front of `out`, and how many they are; none where a field is no number or where
-// there are too many.
-pub fn take_numbers(reader: Reader, l: &[u8], at: usize, out: &mut [u64]) -> Option<usize>
-    ensures { Stores out.old out.new (numbers_of reader (fields_of (drop at l.now))) result }
+// The fields of a line, as numbers in front of `out`, and how many they are; none where a field is no number or where there are too many.
+pub fn take_numbers(reader: Reader, l: &[u8], out: &mut [u64]) -> Option<usize>
+    ensures { Stores out.old out.new (numbers_of reader (fields_of l.now)) result }
 {
-    let mut p = at;
+    let mut left = l;
     for i in 0..out.len() {
-        match text::next_number(reader, l, p) {
-            Taken::Got { value, next } => {
+        match text::next_number(reader, left) {
+            Taken::Got { value, rest } => {
                 out[i] = value;
-                p = next;
+                left = rest;
             }
             Taken::Unreadable => return None,
             Taken::Missing => return Some(i),
         }
     }
-    if text::next_field(l, p).is_some() {
+    if text::next_field(left).is_some() {
         return None;
     }
     Some(out.len())
@@ -39,22 +38,26 @@ pub fn take_numbers(reader: Reader, l: &[u8], at: usize, out: &mut [u64]) -> Opt
 fn header_line(reader: Reader, l: &[u8], out: &mut [u64]) -> Option<usize>
     ensures { Stores out.old out.new (header_numbers reader l.now) result }
 {
-    let word = text::next_field(l, 0)?;
-    if !text::is_header_word(&l[word.start..word.end]) {
+    let word = text::next_field(l)?;
+    if !text::is_header_word(word.value) {
         return None;
     }
-    take_numbers(reader, l, word.end, out)
+    take_numbers(reader, word.rest, out)
 }
 
-// The numbers of a text's header, its first line, in front of `out`: how many they are, and the place of the lines after it.
-pub fn take_header_numbers(reader: Reader, s: &[u8], out: &mut [u64]) -> Option<Parsed<usize>>
+// The numbers of a text's header, its first line, in front of `out`: how many they are, and the text behind that line.
+pub fn take_header_numbers<'a>(
+    reader: Reader,
+    s: &'a [u8],
+    out: &mut [u64],
+) -> Option<Parsed<'a, usize>>
     ensures { TakesHeaderNumbers reader s.now out.old out.new result }
 {
-    let line = text::next_line(s, Cursor { at: 0 })?;
-    let value = header_line(reader, &s[line.start..line.end], out)?;
+    let line = text::next_line(s)?;
+    let value = header_line(reader, line.value, out)?;
     Some(Parsed {
         value,
-        next: line.next,
+        rest: line.rest,
     })
 }
 
@@ -63,7 +66,7 @@ fn gate_line(reader: Reader, l: &[u8]) -> Option<Gate>
     ensures { answer_or 8 result ≡ gate_line reader l.now }
 {
     let mut ns = [0; 3];
-    if take_numbers(reader, l, 0, &mut ns)? != 3 {
+    if take_numbers(reader, l, &mut ns)? != 3 {
         return None;
     }
     let [output, left, right] = ns;
@@ -75,28 +78,28 @@ fn gate_line(reader: Reader, l: &[u8]) -> Option<Gate>
 }
 
 // The gate of a line of three plain numbers, each with one byte behind it: the form in which circuits are printed.
-fn plain_gate(s: &[u8], cursor: Cursor) -> Option<Parsed<Gate>>
-    ensures { TakesPlain s.now cursor result }
+fn plain_gate(s: &[u8]) -> Option<Parsed<'_, Gate>>
+    ensures { TakesPlain s.now result }
 {
-    let output = text::plain_number(s, cursor, 32)?;
-    let left = text::plain_number(s, output.next, 32)?;
-    let right = text::plain_number(s, left.next, 10)?;
+    let output = text::plain_number(s, 32)?;
+    let left = text::plain_number(output.rest, 32)?;
+    let right = text::plain_number(left.rest, 10)?;
     Some(Parsed {
         value: Gate {
             output: output.value,
             left: left.value,
             right: right.value,
         },
-        next: right.next,
+        rest: right.rest,
     })
 }
 
-// The gate of the line at a cursor: nearly always three plain numbers.
-pub fn take_gate(reader: Reader, s: &[u8], cursor: Cursor) -> Option<Parsed<Gate>>
-    ensures { TakesGate reader s.now cursor result }
+// The gate of the first line: nearly always three plain numbers.
+pub fn take_gate(reader: Reader, s: &[u8]) -> Option<Parsed<'_, Gate>>
+    ensures { TakesGate reader s.now result }
 {
-    let Some(gate) = plain_gate(s, cursor) else {
-        return any_line(GateLine { reader }, s, cursor);
+    let Some(gate) = plain_gate(s) else {
+        return any_line(GateLine { reader }, s);
     };
     Some(gate)
 }
@@ -115,23 +118,23 @@ pub trait LineKind: Copy {
 
 // A kind of line that is taken from a text.
 pub trait TakeLine: LineKind {
-    // The item of the line at a cursor, and the place of the next line.
-    fn take(self, s: &[u8], cursor: Cursor) -> Option<Parsed<Self::Item>>
-        ensures { TakesOne (Self.item self) s.now cursor result }
+    // The item of the first line, and the text behind it.
+    fn take(self, s: &[u8]) -> Option<Parsed<'_, Self::Item>>
+        ensures { TakesOne (Self.item self) s.now result }
     {
-        any_line(self, s, cursor)
+        any_line(self, s)
     }
 }
 
-// The item of the line at a cursor, in whatever form: the line's end first, and then its fields.
-pub fn any_line<K: LineKind>(kind: K, s: &[u8], cursor: Cursor) -> Option<Parsed<K::Item>>
-    ensures { TakesOne (K.item kind) s.now cursor result }
+// The item of the first line, in whatever form: the line's end first, and then its fields.
+pub fn any_line<K: LineKind>(kind: K, s: &[u8]) -> Option<Parsed<'_, K::Item>>
+    ensures { TakesOne (K.item kind) s.now result }
 {
-    let line = text::next_line(s, cursor)?;
-    let value = kind.read(&s[line.start..line.end])?;
+    let line = text::next_line(s)?;
+    let value = kind.read(line.value)?;
     Some(Parsed {
         value,
-        next: line.next,
+        rest: line.rest,
     })
 }
 
@@ -152,12 +155,12 @@ impl LineKind for LiteralLine {
 }
 
 impl TakeLine for LiteralLine {
-    fn take(self, s: &[u8], cursor: Cursor) -> Option<Parsed<u64>> {
-        let literal = text::take_literal(self.reader, s, cursor);
+    fn take(self, s: &[u8]) -> Option<Parsed<'_, u64>> {
+        let literal = text::take_literal(self.reader, s);
         let value = literal.value?;
         Some(Parsed {
             value,
-            next: literal.next,
+            rest: literal.rest,
         })
     }
 }
@@ -179,43 +182,35 @@ impl LineKind for GateLine {
 }
 
 impl TakeLine for GateLine {
-    fn take(self, s: &[u8], cursor: Cursor) -> Option<Parsed<Gate>> {
-        take_gate(self.reader, s, cursor)
+    fn take(self, s: &[u8]) -> Option<Parsed<'_, Gate>> {
+        take_gate(self.reader, s)
     }
 }
 
-// The items of the lines from a cursor on, as many as `out` is long; the place after them, or none where a line is missing or bad.
-pub fn take_lines<K: TakeLine>(
-    kind: K,
-    s: &[u8],
-    cursor: Cursor,
-    out: &mut [K::Item],
-) -> Option<Cursor>
-    ensures { Takes (K.item kind) s.now cursor (length out.old) result out.new }
+// The items of the first lines, as many as `out` is long, and the text behind them; none where a line is missing or bad.
+pub fn take_lines<'a, K: TakeLine>(kind: K, s: &'a [u8], out: &mut [K::Item]) -> Option<&'a [u8]>
+    ensures { Takes (K.item kind) s.now (length out.old) result out.new }
 {
-    let mut next = cursor;
+    let mut left = s;
     for i in 0..out.len() {
-        let line = kind.take(s, next)?;
+        let line = kind.take(left)?;
         out[i] = line.value;
-        next = line.next;
+        left = line.rest;
     }
-    Some(next)
+    Some(left)
 }
 
-// The items of the n lines from a cursor on, and `blank` past them; more than N of them are refused at once.
-pub fn take_array<K: TakeLine, const N: usize>(
+// The items of the first n lines, in front of `out`, and the text behind them; more than `out` is long are refused at once.
+pub fn take_front<'a, K: TakeLine>(
     kind: K,
-    s: &[u8],
-    cursor: Cursor,
+    s: &'a [u8],
     n: usize,
-    blank: K::Item,
-) -> Option<Parsed<[K::Item; N]>>
-    ensures { n ≤ N → TakesArray (K.item kind) s.now cursor n (replicate N blank) result }
+    out: &mut [K::Item],
+) -> Option<&'a [u8]>
+    ensures { n ≤ length out.old → TakesFront (K.item kind) s.now n out.old result out.new }
 {
-    if N < n {
+    if out.len() < n {
         return None;
     }
-    let mut value = [blank; N];
-    let next = take_lines(kind, s, cursor, &mut value[..n])?;
-    Some(Parsed { value, next })
+    take_lines(kind, s, &mut out[..n])
 }

@@ -27,6 +27,7 @@ use Rattle.witness_text.specs.declared.Latch.{Latch}
 use Rattle.witness_text.specs.LatchLines.{latch_line}
 use Rattle.witness_text.specs.Symbols.{ends_symbols, Symbol, kind_of, count_of, readable_index, indexed, symbol_from, before_space, symbol_of}
 use Rattle.witness_text.proofs.CountLaws.{counted_facts}
+use Rattle.witness_text.proofs.SymbolLaws.{symbol-name}
 use Rattle.witness_read.specs.Sections.{Sections, variables, latch_names}
 use Rattle.witness_read.specs.Names.{Tail, with_symbol, tail_of, is_input, is_latch, name_of, names_of}
 use Rattle.witness_read.specs.Order.{Body}
@@ -98,25 +99,9 @@ after-body n ls d p e =
 -- ---- the names in symbols
 
 module _ (n : AagCounts) where
-  -- the name of a symbol is what stands behind its first byte 32
-  from-name : (f name : Bytes) (x : Symbol) → symbol_from n f name ≡ got x → name ≡ x.name
-  from-name [] name x e = got-refused e refl
-  from-name (b ∷ f) name x e =
-      let k = and_then-got (kind_of b) (λ z. and_then (readable_index (number_of Witness f)) (indexed n name z)) x e in
-      let i = and_then-got (readable_index (number_of Witness f)) (indexed n name k.0) x k.2 in
-      let y : Symbol = record { kind = k.0; index = i.0; name = name } in
-      ap (λ (z : Symbol). z.name) (got_same y x (unless-got 9 (got y) x (ltb i.0 (count_of n k.0)) i.2))
-
-  -- the name of a symbol line is what stands behind its first byte 32
-  symbol-name : (l : Bytes) (x : Symbol) → symbol_of n l ≡ got x → drop (suc (before_space l)) l ≡ x.name
-  unfolding symbol_of
-  symbol-name l x e =
-      let b : ℕ = before_space l in
-      from-name (take b l) (drop (suc b) l) x (unless-got 9 (symbol_from n (take b l) (drop (suc b) l)) x (ltb b (length l)) e)
-
   -- the name in a plain line is plain
   symbol-plain : (l : Bytes) (x : Symbol) → symbol_of n l ≡ got x → Plain l → Plain x.name
-  symbol-plain l x e h = rw (← symbol-name l x e) (all_drop plain (suc (before_space l)) l h)
+  symbol-plain l x e h = rw (← symbol-name n l x e) (all_drop plain (suc (before_space l)) l h)
 
   -- so is the name of each symbol in plain lines
   tail-plain : (ls : List Bytes) (t : Tail) → tail_of n ls ≡ got t → Each Plain ls → Each (λ s. Plain s.name) t.symbols

@@ -8,7 +8,6 @@ use lib.ListN.{length}
 use borrow.Author.Tests.{not-true, not-false}
 use Rattle.lists.specs.Answer.{Answer, got, refused}
 use Rattle.lists.specs.Parts.{Bytes, zeros}
-use Rattle.text.specs.declared.Cursor.{Cursor}
 use Rattle.aiger.specs.Defined.{defined}
 use Rattle.model.specs.declared.AigerTransition.{AigerTransition}
 use Rattle.model.specs.declared.lent.LentModel.{LentModel}
@@ -18,19 +17,19 @@ use Rattle.model.specs.Limits.{well_defined}
 use Rattle.model.specs.Inner.Marking.{Marking, AddsLeaves, leaves_of_record, literals_of_record}
 use Rattle.model.proofs.MarkingLaws.{marking-none}
 use Rattle.model.proofs.CheckedLaws.{defined_fails, literals-left}
-use Rattle.circuit_lines.specs.Inner.Takes.{lines_from}
+use Rattle.text.specs.Lines.{lines_of}
 use Rattle.model_read.specs.Inner.Passes.{verdict_of, Found, ChecksGates, with_gates, gates_of}
 
-module _ (s : Bytes) (p : Cursor) (m : AigerTransition) (l : LentModel) (same : lent_record l ≡ m) (w : List ℕ) (h : m.max_variable < length w) (z : w ≡ zeros (length w)) (w₁ : List ℕ) (fine : Bool)
-    (a : AddsLeaves (lent_record l).max_variable w (leaves_of_record (lent_record l)) w₁ fine) (t : Option Bool) (q : ChecksGates s p m.and_count m.max_variable fine w₁ t) where
+module _ (s : Bytes) (m : AigerTransition) (l : LentModel) (same : lent_record l ≡ m) (w : List ℕ) (h : m.max_variable < length w) (z : w ≡ zeros (length w)) (w₁ : List ℕ) (fine : Bool)
+    (a : AddsLeaves (lent_record l).max_variable w (leaves_of_record (lent_record l)) w₁ fine) (t : Option Bool) (q : ChecksGates s m.and_count m.max_variable fine w₁ t) where
   abbrev answer : Answer (Unit {0})
-  answer = verdict_of (gates_of (circuit_of m []) m.and_count (lines_from s p))
+  answer = verdict_of (gates_of (circuit_of m []) m.and_count (lines_of s))
 
   pub lines_bad : t ≡ None → refused 8 ≡ answer
-  lines_bad e = let f : ChecksGates s p m.and_count m.max_variable fine w₁ None = rw e at q in rw f refl
+  lines_bad e = let f : ChecksGates s m.and_count m.max_variable fine w₁ None = rw e at q in rw f refl
 
   module _ (good : Bool) (e : t ≡ Some good) where
-    found : Found s p m.and_count m.max_variable fine w₁ good
+    found : Found s m.and_count m.max_variable fine w₁ good
     found = rw e at q
 
     abbrev c : Circuit

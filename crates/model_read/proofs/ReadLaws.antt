@@ -14,7 +14,6 @@ use Rattle.lists.specs.Parts.{Bytes, front, zeros}
 use Rattle.lists.specs.Words.{words_of}
 use Rattle.lists.proofs.AnswerLaws.{got_same, unless-got, and_then-got, and_then_assoc, and_then-same}
 use Rattle.lists.proofs.ZeroLaws.{zeros-length}
-use Rattle.text.specs.declared.Cursor.{Cursor}
 use Rattle.text.specs.declared.Parsed.{Parsed}
 use Rattle.text.specs.Lines.{lines_of}
 use Rattle.text.specs.declared.Reader.TheVariants.{Transition}
@@ -32,7 +31,6 @@ use Rattle.model.specs.Circuit.{Circuit, circuit_of, no_latch}
 use Rattle.model.specs.Limits.{counted, well_defined}
 use Rattle.circuit_lines.specs.SectionLines.{literal_line, gate_line}
 use Rattle.model_text.specs.ModelLines.{latch_line}
-use Rattle.circuit_lines.specs.Inner.Takes.{lines_from}
 use Rattle.model_text.specs.Header.{header_of}
 use Rattle.model_text.specs.Inner.Takes.{Headed, TakesCounts}
 use Rattle.model_read.specs.Reading.{sections_of, model_of, body_of, read_transition, read_of, gates_after, Reads}
@@ -105,52 +103,52 @@ accepts answer c d gates e q g g' w' n z m k x = record { returns = rw (e, q, k)
 refuses : (answer : Answer Circuit) (k : Refusal) → answer ≡ refused (refusal_number k) → (g w : List ℕ) (n : ℕ) → w ≡ zeros n → Reads answer g n (Err k) g w
 refuses answer k e g w n z = record { returns = ap read_of (sym e); writes = ap (λ (x : Answer Circuit). gates_after x g) (sym e); clears = z }
 
-module _ (s : Bytes) (c : Cursor) (n : Counts) (g w : List ℕ) (k : Readable n g w) (h : Option (Parsed AigerTransition)) (t : TakesStart s c n h) where
+module _ (s : Bytes) (n : Counts) (g w : List ℕ) (k : Readable n g w) (h : Option (Parsed AigerTransition)) (t : TakesStart s n h) where
   abbrev answer : Answer Circuit
-  answer = model_of n (lines_from s c)
+  answer = model_of n (lines_of s)
 
   pub model_no_head : h ≡ None → Reads answer g (length w) (Err refusal.Line) g w
   model_no_head e =
-      let f : TakesStart s c n None = rw e at t in
-      refuses answer refusal.Line (model-split n (lines_from s c) ∙ rw f refl) g w (length w) k.clear
+      let f : TakesStart s n None = rw e at t in
+      refuses answer refusal.Line (model-split n (lines_of s) ∙ rw f refl) g w (length w) k.clear
 
   module _ (x : Parsed AigerTransition) (is : h ≡ Some x) where
     abbrev m : AigerTransition
     m = x.value
 
-    abbrev e : Cursor
-    e = x.next
+    abbrev e : Bytes
+    e = x.rest.now
 
-    starts : Starts s c n m e
+    starts : Starts s n m e
     starts = rw is at t
 
-    answer-is : answer ≡ gates_of starts.circuit n.ands (lines_from s e)
-    answer-is = model-split n (lines_from s c) ∙ rw starts.takes refl
+    answer-is : answer ≡ gates_of starts.circuit n.ands (lines_of e)
+    answer-is = model-split n (lines_of s) ∙ rw starts.takes refl
 
     -- what the check of the gates is told
     pub model-room : m.max_variable < length w
     model-room = rw (starts.model, starts.variables) k.room
 
-    module _ (v : Result (Unit {0}) Refusal) (q : answered v ≡ verdict_of (gates_of (circuit_of m []) m.and_count (lines_from s e))) where
+    module _ (v : Result (Unit {0}) Refusal) (q : answered v ≡ verdict_of (gates_of (circuit_of m []) m.and_count (lines_of e))) where
       verdict_is : answered v ≡ verdict_of answer
-      verdict_is = q ∙ rw (starts.model, circuit-back starts.circuit n.ands (lines_from s e), answer-is) refl
+      verdict_is = q ∙ rw (starts.model, circuit-back starts.circuit n.ands (lines_of e), answer-is) refl
 
       pub model-refused : (j : Refusal) → v ≡ Err j → (w' : List ℕ) → w' ≡ zeros (length w) → Reads answer g (length w) (Err j) g w'
       model-refused j u w' z = refuses answer j (verdict_refused answer (refusal_number j) (rw u at verdict_is)) g w' (length w) z
 
-      pub model-accepted : (u : Unit {0}) → v ≡ Ok u → (w' : List ℕ) → w' ≡ zeros (length w) → (g' : List ℕ) → Writes s e n.ands g g' → Reads answer g (length w) (Ok m) g' w'
+      pub model-accepted : (u : Unit {0}) → v ≡ Ok u → (w' : List ℕ) → w' ≡ zeros (length w) → (g' : List ℕ) → Writes e n.ands g g' → Reads answer g (length w) (Ok m) g' w'
       model-accepted u o w' z g' x =
           let d = verdict_got answer (rw o at verdict_is) in
-          let a = gates-got starts.circuit n.ands (lines_from s e) d.0 (sym answer-is ∙ d.1) in
-          let b : length a.gates ≡ n.ands = section-length (gate_line Transition) n.ands (lines_from s e) a.gates a.rest a.takes in
+          let a = gates-got starts.circuit n.ands (lines_of e) d.0 (sym answer-is ∙ d.1) in
+          let b : length a.gates ≡ n.ands = section-length (gate_line Transition) n.ands (lines_of e) a.gates a.rest a.takes in
           let y : m ≡ record_with starts.circuit (length a.gates) = starts.model ∙ ap (record_with starts.circuit) (sym b) in
           accepts answer starts.circuit d.0 a.gates d.1 a.is g g' w' (length w) z m y (x a.gates a.rest a.takes)
 
 -- ---- the reasons before the sections
 
-module _ (s : Bytes) (c : Cursor) (n : Counts) (g w : List ℕ) (z : w ≡ zeros (length w)) (b : Bool) (q : b ≡ counted n) where
+module _ (s : Bytes) (n : Counts) (g w : List ℕ) (z : w ≡ zeros (length w)) (b : Bool) (q : b ≡ counted n) where
   abbrev body : Answer Circuit
-  body = body_of (length g) (length w) (lines_from s c) n
+  body = body_of (length g) (length w) (lines_of s) n
 
   pub body-counts : not b ≡ true → Reads body g (length w) (Err refusal.Counts) g w
   body-counts t = refuses body refusal.Counts (rw (← q, not-true b t) refl) g w (length w) z
@@ -168,9 +166,9 @@ module _ (s : Bytes) (c : Cursor) (n : Counts) (g w : List ℕ) (z : w ≡ zeros
         pub body-readable : Readable n g w
         body-readable = record { counts = sym q ∙ not-false b t; words = omega arith; room = u; clear = z }
 
-        pub body-model : (r : Result AigerTransition Refusal) (g' w' : List ℕ) → Reads (model_of n (lines_from s c)) g (length w) r g' w' → Reads body g (length w) r g' w'
+        pub body-model : (r : Result AigerTransition Refusal) (g' w' : List ℕ) → Reads (model_of n (lines_of s)) g (length w) r g' w' → Reads body g (length w) r g' w'
         body-model r g' w' k =
-            let e : body ≡ model_of n (lines_from s c) =
+            let e : body ≡ model_of n (lines_of s) =
             rw (← q, not-false b t, le-leb (3 * n.ands) (length g) (omega arith), lt-ltb n.max_variable (length w) u) refl in
             rw e k
 
@@ -188,10 +186,10 @@ module _ (s : Bytes) (g : List ℕ) (w : ℕ) (b : Bool) (q : b ≡ good_text li
     header_bad e w' z = let f : header_of (lines_of s) ≡ refused 4 = rw e at k in refuses text refusal.Header (rw (← q, not-false b t, f) refl) g w' w z
 
     pub header_read : (p : Parsed Counts) → h ≡ Some p → (w₁ : List ℕ) → w₁ ≡ zeros w → (r : Result AigerTransition Refusal) (g' w' : List ℕ)
-        → Reads (body_of (length g) (length w₁) (lines_from s p.next) p.value) g (length w₁) r g' w' → Reads text g w r g' w'
+        → Reads (body_of (length g) (length w₁) (lines_of p.rest.now) p.value) g (length w₁) r g' w' → Reads text g w r g' w'
     unfolding read_transition
     header_read p e w₁ z r g' w' x =
-        let f : Headed s p.value p.next = rw e at k in
+        let f : Headed s p.value p.rest.now = rw e at k in
         let y : length w₁ ≡ w = ap length z ∙ zeros-length w in
-        let a : read_transition s (length g) w ≡ body_of (length g) w (lines_from s p.next) p.value = rw (← q, not-false b t, f.counts, f.rest) refl in
+        let a : read_transition s (length g) w ≡ body_of (length g) w (lines_of p.rest.now) p.value = rw (← q, not-false b t, f.counts, f.rest) refl in
         rw (a, ← y) x

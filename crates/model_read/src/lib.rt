@@ -7,7 +7,7 @@ ghost use Rattle.lists.specs.Parts.{zeros};
 ghost use Rattle.aiger.specs.Refusals.{answered};
 ghost use Rattle.model.specs.Circuit.{circuit_of, record_of, no_circuit};
 ghost use Rattle.model.specs.Limits.{counted};
-ghost use Rattle.circuit_lines.specs.Inner.Takes.{lines_from};
+ghost use Rattle.text.specs.Lines.{lines_of};
 ghost use Rattle.model_read.specs.Reading.{model_of, body_of, read_transition, Reads};
 ghost use Rattle.model_read.specs.Inner.Passes.{TakesStart, AddsNext, ChecksGates, Writes, gates_of, verdict_of, Readable};
 
@@ -15,7 +15,7 @@ use aiger::{Gate, Refusal};
 use circuit_lines::LiteralLine;
 use model::{AigerLatch, AigerTransition, Counts, LentModel};
 use model_text::LatchLine;
-use text::{Cursor, Parsed, Reader};
+use text::{Parsed, Reader};
 
 // One more gate is checked and marked, where those before hold.
 fn define_next(work: &mut [u64], most: usize, fine: bool, gate: Gate) -> bool
@@ -27,42 +27,41 @@ fn define_next(work: &mut [u64], most: usize, fine: bool, gate: Gate) -> bool
     false
 }
 
-// Checks the gates of the n lines from a cursor on, and answers whether the definitions hold; none where a line is missing or bad. All
+// Checks the gates of the first n lines, and answers whether the definitions hold; none where a line is missing or bad. All
 // lines are looked at, since a bad one counts more than a definition that fails.
 fn check_gates(
     s: &[u8],
-    cursor: Cursor,
     n: usize,
     most: usize,
     fine: bool,
     work: &mut [u64],
 ) -> Option<bool>
-    ensures { ChecksGates s.now cursor n most fine work.old result }
+    ensures { ChecksGates s.now n most fine work.old result }
 {
     let mut good = fine;
-    let mut next = cursor;
+    let mut left = s;
     for i in 0..n {
-        let gate = circuit_lines::take_gate(Reader::Transition, s, next)?;
+        let gate = circuit_lines::take_gate(Reader::Transition, left)?;
         good = define_next(work, most, good, gate.value);
-        next = gate.next;
+        left = gate.rest;
     }
     Some(good)
 }
 
-// Writes the gates of the n lines from a cursor on, three words each.
-fn write_gates(s: &[u8], cursor: Cursor, n: usize, gates: &mut [u64])
+// Writes the gates of the first n lines, three words each.
+fn write_gates(s: &[u8], n: usize, gates: &mut [u64])
     requires { 3 * n ≤ length gates.old }
-    ensures { Writes s.now cursor n gates.old gates.new }
+    ensures { Writes s.now n gates.old gates.new }
 {
-    let mut next = cursor;
+    let mut left = s;
     for i in 0..n {
-        let Some(gate) = circuit_lines::take_gate(Reader::Transition, s, next) else {
+        let Some(gate) = circuit_lines::take_gate(Reader::Transition, left) else {
             return;
         };
         gates[3 * i] = gate.value.output;
         gates[3 * i + 1] = gate.value.left;
         gates[3 * i + 2] = gate.value.right;
-        next = gate.next;
+        left = gate.rest;
     }
 }
 
@@ -85,25 +84,23 @@ pub fn no_model() -> AigerTransition
     }
 }
 
-// The inputs, latches and outputs from a cursor on: a model without its gates, and the place of the gates' lines.
-fn take_head(s: &[u8], cursor: Cursor, counts: Counts) -> Option<Parsed<AigerTransition>>
+// The inputs, latches and outputs of the first lines: a model without its gates, and the text with the gates' lines.
+fn take_head(s: &[u8], counts: Counts) -> Option<Parsed<'_, AigerTransition>>
     requires { counted counts ≡ true }
-    ensures { TakesStart s.now cursor counts result }
+    ensures { TakesStart s.now counts result }
 {
     let literal = LiteralLine {
         reader: Reader::Transition,
     };
-    let blank = AigerLatch {
+    let mut inputs = [0; 64];
+    let mut latches = [AigerLatch {
         current: 0,
         next: 0,
-    };
-    let inputs = circuit_lines::take_array(literal, s, cursor, counts.inputs, 0)?;
-    let latches = circuit_lines::take_array(LatchLine {}, s, inputs.next, counts.latches, blank)?;
-    let outputs = circuit_lines::take_array(literal, s, latches.next, counts.outputs, 0)?;
-    let next = outputs.next;
-    let inputs = inputs.value;
-    let latches = latches.value;
-    let outputs = outputs.value;
+    }; 8];
+    let mut outputs = [0; 128];
+    let left = circuit_lines::take_front(literal, s, counts.inputs, &mut inputs)?;
+    let left = circuit_lines::take_front(LatchLine {}, left, counts.latches, &mut latches)?;
+    let rest = circuit_lines::take_front(literal, left, counts.outputs, &mut outputs)?;
     Some(Parsed {
         value: AigerTransition {
             max_variable: counts.max_variable,
@@ -115,23 +112,22 @@ fn take_head(s: &[u8], cursor: Cursor, counts: Counts) -> Option<Parsed<AigerTra
             outputs,
             and_count: counts.ands,
         },
-        next,
+        rest,
     })
 }
 
-// Whether a model is well defined with the gates of the lines from a cursor on. The work words are all 0 at first.
+// Whether a model is well defined with the gates of the first lines. The work words are all 0 at first.
 fn check_model(
     s: &[u8],
-    cursor: Cursor,
     model: AigerTransition,
     work: &mut [u64],
 ) -> Result<(), Refusal>
     requires { (model.max_variable < length work.old) × (work.old ≡ zeros (length work.old)) }
-    ensures { answered result ≡ verdict_of (gates_of (circuit_of model []) model.and_count (lines_from s.now cursor)) }
+    ensures { answered result ≡ verdict_of (gates_of (circuit_of model []) model.and_count (lines_of s.now)) }
 {
     let lent = LentModel::from(&model);
     let fine = lent.define_leaves(work);
-    let Some(good) = check_gates(s, cursor, model.and_count, model.max_variable, fine, work) else {
+    let Some(good) = check_gates(s, model.and_count, model.max_variable, fine, work) else {
         return Err(Refusal::Line);
     };
     if !good || !lent.literals_hold() {
@@ -140,38 +136,36 @@ fn check_model(
     Ok(())
 }
 
-// The model of the lines from a cursor on. The work words are all 0 at first, and there is room for what the counts ask for.
+// The model of the lines of a text. The work words are all 0 at first, and there is room for what the counts ask for.
 fn read_model(
     s: &[u8],
-    cursor: Cursor,
     counts: Counts,
     gates: &mut [u64],
     work: &mut [u64],
 ) -> Result<AigerTransition, Refusal>
     requires { Readable counts gates.old work.old }
-    ensures { Reads (model_of counts (lines_from s.now cursor)) gates.old (length work.old) result gates.new work.new }
+    ensures { Reads (model_of counts (lines_of s.now)) gates.old (length work.old) result gates.new work.new }
 {
-    let Some(head) = take_head(s, cursor, counts) else {
+    let Some(head) = take_head(s, counts) else {
         return Err(Refusal::Line);
     };
     let model = head.value;
-    let checked = check_model(s, head.next, model, work);
+    let checked = check_model(head.rest, model, work);
     work.fill(0);
     checked?;
-    write_gates(s, head.next, counts.ands, gates);
+    write_gates(head.rest, counts.ands, gates);
     Ok(model)
 }
 
-// The model of the lines after a header, from a cursor on. The work words are all 0 at first.
+// The model of the lines behind a header. The work words are all 0 at first.
 fn read_body(
     s: &[u8],
-    cursor: Cursor,
     counts: Counts,
     gates: &mut [u64],
     work: &mut [u64],
 ) -> Result<AigerTransition, Refusal>
     requires { work.old ≡ zeros (length work.old) }
-    ensures { Reads (body_of (length gates.old) (length work.old) (lines_from s.now cursor) counts) gates.old (length work.old) result gates.new work.new }
+    ensures { Reads (body_of (length gates.old) (length work.old) (lines_of s.now) counts) gates.old (length work.old) result gates.new work.new }
 {
     if !counts.hold() {
         return Err(Refusal::Counts);
@@ -182,7 +176,7 @@ fn read_body(
     if work.len() <= counts.max_variable {
         return Err(Refusal::Room);
     }
-    read_model(s, cursor, counts, gates, work)
+    read_model(s, counts, gates, work)
 }
 
 // Reads a transition text: the record, and the gates' words in front of the lent ones.
@@ -200,5 +194,5 @@ pub fn parse_ascii_aiger_transition(
     let Some(header) = model_text::take_model_header(s) else {
         return Err(Refusal::Header);
     };
-    read_body(s, header.next, header.value, gates, work)
+    read_body(header.rest, header.value, gates, work)
 }

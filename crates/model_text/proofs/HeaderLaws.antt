@@ -11,13 +11,12 @@ use Rattle.lists.specs.Parts.{Bytes}
 use Rattle.text.specs.declared.Reader.TheVariants.{Transition}
 use Rattle.text.specs.Lines.{lines_of}
 use Rattle.model.specs.declared.Counts.{Counts}
-use Rattle.text.specs.declared.Parsed.{Parsed}
 use Rattle.circuit_lines.specs.SectionLines.{first_numbers}
 use Rattle.circuit_lines.specs.Inner.OneLine.{at_most}
-use Rattle.circuit_lines.specs.Inner.Takes.{Headed, TakesHeaderNumbers}
+use Rattle.circuit_lines.specs.Inner.Takes.{Headed}
 use Rattle.circuit_lines.proofs.NumbersLaws.{stored-all, stored-length}
-use Rattle.model_text.specs.Header.{counts_from, five_counts}
-use Rattle.model_text.specs.Inner.Takes.{TakesCounts}
+use Rattle.model_text.specs.Header.{counts_from, five_counts, header_of}
+use Rattle.model_text.specs.Inner.Takes as takes
 
 -- ---- counts_of_lem
 
@@ -43,19 +42,16 @@ over_five (Some ns) h = not_five ns (λ e. five ns e h)
 abbrev zeros5 : List ℕ
 zeros5 = 0 ∷ 0 ∷ 0 ∷ 0 ∷ 0 ∷ []
 
-module _ (s : Bytes) (ns : List ℕ) (r : Option (Parsed ℕ)) (q : TakesHeaderNumbers Transition s zeros5 ns r) where
-  pub header_bad : r ≡ None → TakesCounts s None
-  header_bad k = sym (over_five (first_numbers Transition (lines_of s)) (rw k at q))
+module _ (s : Bytes) (ns : List ℕ) where
+  pub header_bad : at_most 5 (first_numbers Transition (lines_of s)) ≡ None → header_of (lines_of s) ≡ refused 4
+  header_bad k = sym (over_five (first_numbers Transition (lines_of s)) k)
 
-  module _ (x : Parsed ℕ) (k : r ≡ Some x) where
-    headed : Headed Transition s zeros5 ns x.value x.next
-    headed = rw k at q
-
-    pub header_got : x.value ≡ 5 → (n : Counts) → n ≡ counts_from ns → TakesCounts s (Some (record { value = n; next = x.next }))
+  module _ (x : ℕ) (r : Bytes) (headed : Headed Transition s zeros5 ns x r) where
+    pub header_got : x ≡ 5 → (n : Counts) → n ≡ counts_from ns → takes.Headed s n r
     header_got e n p =
-        let are : first_numbers Transition (lines_of s) ≡ Some ns = stored-all zeros5 ns (first_numbers Transition (lines_of s)) x.value headed.stored e in
-        let five : length ns ≡ 5 = stored-length zeros5 ns (first_numbers Transition (lines_of s)) x.value headed.stored in
+        let are : first_numbers Transition (lines_of s) ≡ Some ns = stored-all zeros5 ns (first_numbers Transition (lines_of s)) x headed.stored e in
+        let five : length ns ≡ 5 = stored-length zeros5 ns (first_numbers Transition (lines_of s)) x headed.stored in
         record { counts = ap five_counts are ∙ sym (counts_of_five ns five) ∙ ap got (sym p); rest = headed.rest }
 
-    pub header_other : (x.value ≡ 5 → ⊥) → TakesCounts s None
+    pub header_other : (x ≡ 5 → ⊥) → header_of (lines_of s) ≡ refused 4
     header_other h = ap five_counts headed.stored.are ∙ sym (not_five headed.stored.numbers (λ e. h (headed.stored.count ∙ e)))

@@ -1,24 +1,24 @@
 -- Laws of `initializer` and `latch_line`, for the code that takes a latch.
 use Rattle.std.specs.Prelude.{Option, Some, None, is_some}
+use Rattle.std.specs.Borrow.{Bor}
 use Prim.Native.Nat.{ℕ}
 use mathlib.Core.Bool.{Bool, true, false}
 use mathlib.Core.List.{List, [], ◌∷◌}
 use mathlib.Core.Path.{◌≡◌, refl, ap, sym, ◌∙◌}
 use native.Mathlib.Omega.{arith}
 use lib.Dec.{eqb}
-use lib.ListN.{drop}
 use Rattle.lists.specs.Quoted.{bytes}
 use Rattle.lists.specs.Answer.{got, refused, unless}
-use Rattle.lists.specs.Parts.{Bytes, part}
+use Rattle.lists.specs.Parts.{Bytes}
 use Rattle.scan.specs.Same.{same_bytes}
-use Rattle.text.specs.declared.Field.{Field}
+use Rattle.text.specs.declared.Parsed.{Parsed}
 use Rattle.text.specs.declared.Reader.TheVariants.{Transition}
 use Rattle.text.specs.declared.Taken.{Taken}
 use Rattle.text.specs.Numbers.{number_of}
-use Rattle.text.specs.Fields.{fields_of, field_at}
-use Rattle.text.specs.Literals.{taken_at}
+use Rattle.text.specs.Fields.{fields_of}
+use Rattle.text.specs.Inner.Fronts.{from_field, FieldTaken, TakesField, TakesNumber}
 use Rattle.text.proofs.FieldLaws.{fields_none, fields_some}
-use Rattle.text.proofs.LiteralLaws.{Writes, WritesNone, fields_missing, fields_unreadable, fields_got}
+use Rattle.text.proofs.LiteralLaws.{Writes, WritesNone, fields_unreadable, fields_got}
 use Rattle.model_text.specs.ModelLines.{is_number, initializer, latch_fields, latch_line}
 use Rattle.model_text.specs.Inner.OneLine.{initializers}
 use Rattle.circuit_lines.specs.Inner.OneLine.{answer_or}
@@ -46,27 +46,22 @@ module _ (f : Bytes) (current : ℕ) (zero? : Bool) (q : zero? ≡ same_bytes f 
 
 -- ---- latch_end
 
-module _ (l : Bytes) (at current : ℕ) (f : Option Field) (q : f ≡ field_at l at) where
-  pub end_none : f ≡ None → true ≡ initializers current (fields_of (drop at l))
-  end_none k = ap (initializers current) (sym (fields_none l at f q k))
+module _ (l : Bytes) (current : ℕ) where
+  pub end_none : from_field l ≡ [] → true ≡ initializers current (fields_of l)
+  end_none e = ap (initializers current) (sym (fields_none l e))
 
-  module _ (x : Field) (k : f ≡ Some x) (g : Option Field) (q₁ : g ≡ field_at l x.end) (b : Bool) (t : b ≡ is_some g) where
-    rest : (fs : List Bytes) → fields_of (drop x.end l) ≡ fs → initializers current (part l x.start x.end ∷ fs) ≡ initializers current (fields_of (drop at l))
-    rest fs u = ap (initializers current) (sym (fields_some l at f q x k ∙ ap (λ (y : List Bytes). part l x.start x.end ∷ y) u))
+  module _ (f r : Bytes) (k : FieldTaken l f r) where
+    rest : (fs : List Bytes) → fields_of r ≡ fs → initializers current (f ∷ fs) ≡ initializers current (fields_of l)
+    rest fs u = ap (initializers current) (sym (fields_some l f r k ∙ ap (λ (y : List Bytes). f ∷ y) u))
 
-    more : (z : Option Field) → g ≡ z → is_some z ≡ true → false ≡ initializers current (fields_of (drop at l))
-    more (Some y) u h = rest (part l y.start y.end ∷ fields_of (drop y.end l)) (fields_some l x.end g q₁ y u)
-    more None u h = let z : ◌≡◌ {A = ℕ} 0 1 = cc in absurd (omega arith)
+    pub end_more : (g : Option (Parsed (Bor Bytes))) → TakesField r g → is_some g ≡ true → false ≡ initializers current (fields_of l)
+    end_more (Some y) q h = rest (y.value.now ∷ fields_of y.rest.now) (fields_some r y.value.now y.rest.now q)
+    end_more None q h = let z : ◌≡◌ {A = ℕ} 0 1 = cc in absurd (omega arith)
 
-    one : (z : Option Field) → g ≡ z → is_some z ≡ false → fields_of (drop x.end l) ≡ []
-    one None u h = fields_none l x.end g q₁ u
-    one (Some y) u h = let z : ◌≡◌ {A = ℕ} 0 1 = cc in absurd (omega arith)
-
-    pub end_more : b ≡ true → false ≡ initializers current (fields_of (drop at l))
-    end_more u = more g refl (sym t ∙ u)
-
-    pub end_one : b ≡ false → (r : Bool) → r ≡ initializer current (part l x.start x.end) → r ≡ initializers current (fields_of (drop at l))
-    end_one u r p = p ∙ rest [] (one g refl (sym t ∙ u))
+    pub end_one : (g : Option (Parsed (Bor Bytes))) → TakesField r g → is_some g ≡ false → (b : Bool) → b ≡ initializer current f
+        → b ≡ initializers current (fields_of l)
+    end_one None q h b p = p ∙ rest [] (fields_none r q)
+    end_one (Some y) q h b p = let z : ◌≡◌ {A = ℕ} 0 1 = cc in absurd (omega arith)
 
 -- ---- the line of a latch
 
@@ -89,42 +84,36 @@ unreadable_second c n v p q [] = rw (p, q)
 unreadable_second c n v p q (i ∷ []) = rw (p, q)
 unreadable_second c n v p q (i ∷ f ∷ fs) = refl
 
-module _ (l : Bytes) (t : Taken) (q : t ≡ taken_at Transition l 0) where
-  without_first : (x : Taken) → t ≡ x → ((v m : ℕ) → x ≡ taken.Got v m → ⊥) → answer_or 8 None ≡ latch_line l
-  without_first (taken.Got v m) k h = absurd (h v m refl)
-  without_first taken.Missing k h = ap latch_fields (sym (fields_missing Transition l 0 t q k))
-  without_first taken.Unreadable k h =
-      let w : WritesNone Transition l 0 = fields_unreadable Transition l 0 t q k in
+module _ (l : Bytes) where
+  pub no_first : (t : Taken) → TakesNumber Transition l t → ((v : ℕ) (r : Bor Bytes) → t ≡ taken.Got v r → ⊥) → answer_or 8 None ≡ latch_line l
+  no_first (taken.Got v r) q h = absurd (h v r refl)
+  no_first taken.Missing q h = ap latch_fields (sym (fields_none l q))
+  no_first taken.Unreadable q h =
+      let w : WritesNone Transition l = fields_unreadable Transition l q in
       sym (ap latch_fields w.fields ∙ unreadable_first w.field w.value w.rest)
 
-  pub no_first : ((v m : ℕ) → t ≡ taken.Got v m → ⊥) → answer_or 8 None ≡ latch_line l
-  no_first h = without_first t refl h
+  module _ (v : ℕ) (r : Bor Bytes) (k : TakesNumber Transition l (taken.Got v r)) where
+    first : Writes Transition l v r.now
+    first = fields_got Transition l v r k
 
-  module _ (v m : ℕ) (k : t ≡ taken.Got v m) (u : Taken) (q₁ : u ≡ taken_at Transition l m) where
-    first : Writes Transition l 0 v m
-    first = fields_got Transition l 0 t q v m k
-
-    both : (fs : List Bytes) → fields_of (drop m l) ≡ fs → latch_line l ≡ latch_fields (first.field ∷ fs)
+    both : (fs : List Bytes) → fields_of r.now ≡ fs → latch_line l ≡ latch_fields (first.field ∷ fs)
     both fs e = ap latch_fields (first.fields ∙ ap (λ (x : List Bytes). first.field ∷ x) e)
 
-    without_second : (x : Taken) → u ≡ x → ((w d : ℕ) → x ≡ taken.Got w d → ⊥) → answer_or 8 None ≡ latch_line l
-    without_second (taken.Got w d) k₁ h = absurd (h w d refl)
-    without_second taken.Missing k₁ h = sym (both [] (fields_missing Transition l m u q₁ k₁))
-    without_second taken.Unreadable k₁ h =
-        let w : WritesNone Transition l m = fields_unreadable Transition l m u q₁ k₁ in
+    pub no_second : (u : Taken) → TakesNumber Transition r.now u → ((w : ℕ) (d : Bor Bytes) → u ≡ taken.Got w d → ⊥) → answer_or 8 None ≡ latch_line l
+    no_second (taken.Got w d) q h = absurd (h w d refl)
+    no_second taken.Missing q h = sym (both [] (fields_none r.now q))
+    no_second taken.Unreadable q h =
+        let w : WritesNone Transition r.now = fields_unreadable Transition r.now q in
         sym (both (w.field ∷ w.rest) w.fields ∙ unreadable_second first.field w.field v first.value w.value w.rest)
 
-    pub no_second : ((w d : ℕ) → u ≡ taken.Got w d → ⊥) → answer_or 8 None ≡ latch_line l
-    no_second h = without_second u refl h
-
-    module _ (w d : ℕ) (k₁ : u ≡ taken.Got w d) (r : Bool) (p : r ≡ initializers v (fields_of (drop d l))) where
-      read_both : latch_line l ≡ unless 8 r (got (record { current = v; next = w }))
+    module _ (w : ℕ) (d : Bor Bytes) (k₁ : TakesNumber Transition r.now (taken.Got w d)) (b : Bool) (p : b ≡ initializers v (fields_of d.now)) where
+      read_both : latch_line l ≡ unless 8 b (got (record { current = v; next = w }))
       read_both =
-          let n : Writes Transition l m w d = fields_got Transition l m u q₁ w d k₁ in
-          rw p (both (n.field ∷ fields_of (drop d l)) n.fields ∙ latch_read first.field n.field v w first.value n.value (fields_of (drop d l)))
+          let n : Writes Transition r.now w d.now = fields_got Transition r.now w d k₁ in
+          rw p (both (n.field ∷ fields_of d.now) n.fields ∙ latch_read first.field n.field v w first.value n.value (fields_of d.now))
 
-      pub latch_some : r ≡ true → answer_or 8 (Some (record { current = v; next = w })) ≡ latch_line l
+      pub latch_some : b ≡ true → answer_or 8 (Some (record { current = v; next = w })) ≡ latch_line l
       latch_some e = sym (rw e at read_both)
 
-      pub latch_none : r ≡ false → answer_or 8 None ≡ latch_line l
+      pub latch_none : b ≡ false → answer_or 8 None ≡ latch_line l
       latch_none e = sym (rw e at read_both)

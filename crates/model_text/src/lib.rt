@@ -1,7 +1,7 @@
 // The header and the latch lines of a transition text (R5). Its other lines are those of `circuit_lines`.
 #![tactic(auto)]
 
-ghost use Rattle.std.specs.Prelude.{◌≡◌, drop};
+ghost use Rattle.std.specs.Prelude.{◌≡◌};
 ghost use Rattle.text.specs.Fields.{fields_of};
 ghost use Rattle.model_text.specs.Header.{counts_from};
 ghost use Rattle.model_text.specs.ModelLines.{initializer, latch_line};
@@ -26,8 +26,8 @@ fn counts_of(ns: [u64; 5]) -> Counts
     }
 }
 
-// The counts of a text's header, its first line, and the place of the lines after it.
-pub fn take_model_header(s: &[u8]) -> Option<Parsed<Counts>>
+// The counts of a text's header, its first line, and the text behind it.
+pub fn take_model_header(s: &[u8]) -> Option<Parsed<'_, Counts>>
     ensures { TakesCounts s.now result }
 {
     let mut ns = [0; 5];
@@ -37,7 +37,7 @@ pub fn take_model_header(s: &[u8]) -> Option<Parsed<Counts>>
     }
     Some(Parsed {
         value: counts_of(ns),
-        next: numbers.next,
+        rest: numbers.rest,
     })
 }
 
@@ -55,16 +55,16 @@ fn initializer_holds(f: &[u8], current: u64) -> bool
 }
 
 // Whether the fields of a latch line after its two literals are none, or one initializer.
-fn latch_end(l: &[u8], at: usize, current: u64) -> bool
-    ensures { result ≡ initializers current (fields_of (drop at l.now)) }
+fn latch_end(l: &[u8], current: u64) -> bool
+    ensures { result ≡ initializers current (fields_of l.now) }
 {
-    let Some(field) = text::next_field(l, at) else {
+    let Some(field) = text::next_field(l) else {
         return true;
     };
-    if text::next_field(l, field.end).is_some() {
+    if text::next_field(field.rest).is_some() {
         return false;
     }
-    initializer_holds(&l[field.start..field.end], current)
+    initializer_holds(field.value, current)
 }
 
 // Lines with a latch: its literal, its next literal and perhaps an initializer.
@@ -79,19 +79,19 @@ impl LineKind for LatchLine {
     fn read(self, line: &[u8]) -> Option<AigerLatch> {
         let Taken::Got {
             value: current,
-            next: at,
-        } = text::next_number(Reader::Transition, line, 0)
+            rest,
+        } = text::next_number(Reader::Transition, line)
         else {
             return None;
         };
         let Taken::Got {
             value: next,
-            next: end,
-        } = text::next_number(Reader::Transition, line, at)
+            rest: end,
+        } = text::next_number(Reader::Transition, rest)
         else {
             return None;
         };
-        if !latch_end(line, end, current) {
+        if !latch_end(end, current) {
             return None;
         }
         Some(AigerLatch { current, next })

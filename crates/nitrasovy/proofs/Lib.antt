@@ -1,4 +1,5 @@
 -- Laws of the exported calls: which numbers they answer, and their promises of flat answers.
+pub mod LiteralLaws
 pub mod ReasonLaws
 pub mod CallReasons
 pub mod ModelLaws

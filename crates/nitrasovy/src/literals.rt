@@ -3,7 +3,7 @@ ghost use Rattle.std.specs.Prelude.{◌≡◌};
 ghost use Rattle.nitrasovy.specs.FlatLiterals.{flat_value, literal_from, TakesFlat};
 
 use aiger::Refusal;
-use text::{Cursor, Reader};
+use text::Reader;
 
 // A place in a text.
 #[repr(C)]
@@ -40,7 +40,10 @@ impl From<Option<u64>> for NitTaken {
 pub extern "C" fn nit_take_literal(text: &[u8], cursor: &mut NitCursor) -> NitTaken
     ensures { TakesFlat (literal_from text.now cursor.old.at) result cursor.new.at }
 {
-    let literal = text::take_literal(Reader::Witness, text, Cursor { at: cursor.at });
-    cursor.at = literal.next.at;
+    if text.len() <= cursor.at {
+        return NitTaken::from(None);
+    }
+    let literal = text::take_literal(Reader::Witness, &text[cursor.at..]);
+    cursor.at = text.len() - literal.rest.len();
     NitTaken::from(literal.value)
 }

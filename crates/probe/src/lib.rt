@@ -5,19 +5,18 @@
 
 ghost use Rattle.std.specs.Prelude.{◌≡◌, length};
 ghost use Rattle.text.specs.Numbers.{number_of};
-ghost use Rattle.text.specs.Lines.{line_at};
-ghost use Rattle.text.specs.Fields.{field_at, first_field, has_header_word};
+ghost use Rattle.text.specs.Fields.{first_field, has_header_word};
 ghost use Rattle.text.specs.Literals.{literal_at};
 ghost use Rattle.scan.specs.Same.{same_bytes, begins_with};
 ghost use Rattle.text.specs.Texts.{limited, good_text};
 ghost use Rattle.text_decimal.specs.Decimal.{decimal};
 ghost use Rattle.text_decimal.specs.Inner.Writing.{written, written_at};
-ghost use Rattle.probe.specs.Inner.Flat.{reader_of, flat_number, flat_literal, no_part, flat_line, flat_field, flat_written, cursor_at};
+ghost use Rattle.probe.specs.Inner.Flat.{reader_of, flat_number, flat_literal, no_part, line_at, field_at, flat_written};
 
 pub mod models;
 pub mod witnesses;
 
-use text::{Cursor, Field, Line, Literal, Reader};
+use text::Reader;
 
 // Kept (enum): C reads a flag beside the values.
 #[repr(C)]
@@ -79,21 +78,23 @@ pub extern "C" fn probe_parse(witness: bool, f: &[u8]) -> ProbeNumber
     flat_number(text::numbers::parse_for(reader_of(witness), f))
 }
 
-fn flat_literal(literal: Literal) -> ProbeLiteral
-    ensures { result ≡ flat_literal literal }
+#[unsafe(no_mangle)]
+pub extern "C" fn probe_take_literal(witness: bool, bytes: &[u8], at: usize) -> ProbeLiteral
+    ensures { result ≡ flat_literal (literal_at (reader_of witness) bytes.now at) }
 {
+    if bytes.len() <= at {
+        return ProbeLiteral {
+            readable: false,
+            value: 0,
+            at,
+        };
+    }
+    let literal = text::take_literal(reader_of(witness), &bytes[at..]);
     ProbeLiteral {
         readable: literal.value.is_some(),
         value: literal.value.unwrap_or(0),
-        at: literal.next.at,
+        at: bytes.len() - literal.rest.len(),
     }
-}
-
-#[unsafe(no_mangle)]
-pub extern "C" fn probe_take_literal(witness: bool, bytes: &[u8], at: usize) -> ProbeLiteral
-    ensures { result ≡ flat_literal (literal_at (reader_of witness) bytes.now (cursor_at at)) }
-{
-    flat_literal(text::take_literal(reader_of(witness), bytes, Cursor { at }))
 }
 
 // What stands for a line or a field that is not there.
@@ -108,46 +109,41 @@ fn no_part() -> ProbePart
     }
 }
 
-fn flat_line(line: Option<Line>) -> ProbePart
-    ensures { result ≡ flat_line line }
-{
-    let Some(line) = line else {
-        return no_part();
-    };
-    ProbePart {
-        found: true,
-        start: line.start,
-        end: line.end,
-        next: line.next.at,
-    }
-}
-
 #[unsafe(no_mangle)]
 pub extern "C" fn probe_line(bytes: &[u8], at: usize) -> ProbePart
-    ensures { result ≡ flat_line (line_at bytes.now at) }
+    ensures { result ≡ line_at bytes.now at }
 {
-    flat_line(text::next_line(bytes, Cursor { at }))
-}
-
-fn flat_field(field: Option<Field>) -> ProbePart
-    ensures { result ≡ flat_field field }
-{
-    let Some(field) = field else {
+    if bytes.len() <= at {
+        return no_part();
+    }
+    let Some(line) = text::next_line(&bytes[at..]) else {
         return no_part();
     };
     ProbePart {
         found: true,
-        start: field.start,
-        end: field.end,
-        next: field.end,
+        start: at,
+        end: at + line.value.len(),
+        next: bytes.len() - line.rest.len(),
     }
 }
 
 #[unsafe(no_mangle)]
 pub extern "C" fn probe_field(line: &[u8], at: usize) -> ProbePart
-    ensures { result ≡ flat_field (field_at line.now at) }
+    ensures { result ≡ field_at line.now at }
 {
-    flat_field(text::next_field(line, at))
+    if line.len() <= at {
+        return no_part();
+    }
+    let Some(field) = text::next_field(&line[at..]) else {
+        return no_part();
+    };
+    let end = line.len() - field.rest.len();
+    ProbePart {
+        found: true,
+        start: end - field.value.len(),
+        end,
+        next: end,
+    }
 }
 
 fn flat_written(next: Option<usize>) -> ProbeWritten

@@ -8,8 +8,7 @@
 ghost use Rattle.std.specs.Prelude.{◌≡◌, length};
 ghost use Rattle.lists.specs.Parts.{zeros};
 ghost use Rattle.text.specs.Numbers.{number_of};
-ghost use Rattle.text.specs.Lines.{line_at};
-ghost use Rattle.text.specs.Fields.{field_at, first_field, has_header_word};
+ghost use Rattle.text.specs.Fields.{first_field, has_header_word};
 ghost use Rattle.text.specs.Literals.{literal_at};
 ghost use Rattle.scan.specs.Same.{same_bytes, begins_with};
 ghost use Rattle.text.specs.Texts.{limited, good_text};
@@ -18,7 +17,7 @@ ghost use Rattle.text_decimal.specs.Inner.Writing.{written, written_at};
 ghost use Rattle.model.specs.Checked.{checked};
 ghost use Rattle.model.specs.RecordWords.{record_in};
 ghost use Rattle.witness_read.specs.Reading.{read_aag};
-ghost use Rattle.probe.specs.Inner.Flat.{reader_of, reason_of, flat_number, flat_literal, flat_line, flat_field, flat_written, cursor_at};
+ghost use Rattle.probe.specs.Inner.Flat.{reader_of, reason_of, flat_number, flat_literal, line_at, field_at, flat_written};
 ghost use Rattle.probe.specs.Inner.FlatLoads.{LoadsFlat};
 
 use probe::{ProbeLiteral, ProbeNumber, ProbePart, ProbeWritten, models, witnesses};
@@ -32,21 +31,21 @@ pub extern "C" fn probe_parse(witness: bool, f: &[u8]) -> ProbeNumber
 
 #[unsafe(no_mangle)]
 pub extern "C" fn probe_take_literal(witness: bool, bytes: &[u8], at: usize) -> ProbeLiteral
-    ensures { result ≡ flat_literal (literal_at (reader_of witness) bytes.now (cursor_at at)) }
+    ensures { result ≡ flat_literal (literal_at (reader_of witness) bytes.now at) }
 {
     probe::probe_take_literal(witness, bytes, at)
 }
 
 #[unsafe(no_mangle)]
 pub extern "C" fn probe_line(bytes: &[u8], at: usize) -> ProbePart
-    ensures { result ≡ flat_line (line_at bytes.now at) }
+    ensures { result ≡ line_at bytes.now at }
 {
     probe::probe_line(bytes, at)
 }
 
 #[unsafe(no_mangle)]
 pub extern "C" fn probe_field(line: &[u8], at: usize) -> ProbePart
-    ensures { result ≡ flat_field (field_at line.now at) }
+    ensures { result ≡ field_at line.now at }
 {
     probe::probe_field(line, at)
 }

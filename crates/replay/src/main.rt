@@ -50,7 +50,7 @@ fn replay_case(input: &[u8], at: usize, to: &mut Printer) -> Option<usize>
     ensures { IfSome result (λ next. at < next) }
 {
     let mut room = [0; 8192];
-    let end = scan::line_end(input, at);
+    let end = at.saturating_add(scan::line_length(input.get(at..).unwrap_or(&[])));
     let n = form::numbers(form::bytes(input, at, end), &mut room)?;
     replay_block(input, lists::first(&room, n), end.saturating_add(1), to)
 }

@@ -3,7 +3,7 @@ use aiger::Refusal;
 use nitrasovy::witnesses::NitWitness;
 use nitrasovy::{compositions, witnesses};
 use replay_text::{form, show};
-use text::{Cursor, Reader};
+use text::Reader;
 use text_print::Printer;
 
 // Prints an answer of the witness reader.
@@ -87,15 +87,12 @@ pub fn literal_case(numbers: &[u64], text: &[u8], to: &mut Printer) -> Option<()
     } else {
         Reader::Witness
     };
-    let literal = text::take_literal(
-        rule,
-        text,
-        Cursor {
-            at: form::size(numbers, 3),
-        },
-    );
+    let place = form::size(numbers, 3);
+    let left = text.get(place..).unwrap_or(&[]);
+    let literal = text::take_literal(rule, left);
+    let next = place.saturating_add(left.len().saturating_sub(literal.rest.len()));
     let reason = literal.value.map_or(u64::from(Refusal::Line), |_| 0);
     to.bytes(b"literal");
-    to.fields(&[reason, literal.value.unwrap_or(0), literal.next.at as u64]);
+    to.fields(&[reason, literal.value.unwrap_or(0), next as u64]);
     Some(())
 }

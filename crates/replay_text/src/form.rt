@@ -36,12 +36,12 @@ impl TryFrom<u64> for Call {
 
 // Puts the numbers of a line in front, and says how many there are; none where it has something else or too many of them.
 pub fn numbers(line: &[u8], to: &mut [u64]) -> Option<usize> {
-    let mut at = 0;
+    let mut left = line;
     for count in 0..to.len() {
-        match text::next_number(Reader::Transition, line, at) {
-            Taken::Got { value, next } => {
+        match text::next_number(Reader::Transition, left) {
+            Taken::Got { value, rest } => {
                 to[count] = value;
-                at = next;
+                left = rest;
             }
             Taken::Missing => return Some(count),
             Taken::Unreadable => return None,

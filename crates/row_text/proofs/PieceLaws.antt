@@ -9,6 +9,7 @@ use borrow.Author.Tests.{le-leb, lt-leb, ltb-true, ltb-false}
 use lib.Dec.{leb, ltb, eqb}
 use lib.ListN.{length, take, drop, set, length-set, drop_of_length-le}
 use lib.Seq.{drop-drop, take-set-le, get_or-set_same}
+use Rattle.lists.proofs.PartLaws.{tail-lent}
 use Rattle.lists.proofs.RestLaws.{rest_more, take_next}
 use Rattle.lists.specs.Answer.{Answer, got, refused, and_then}
 use Rattle.lists.specs.Parts.{Bytes, part}
@@ -81,9 +82,16 @@ store s count v h (got ns) = ap got (ap (λ (x : List ℕ). x ++ ns) (take-store
 store s count v h (refused n) = refl
 
 module _ (l : Bytes) (s₀ s : List ℕ) (count at : ℕ) (k : Taking l s₀ s count at) where
-  module _ (h : at ≤ length l) (e : ℕ) (q : e ≡ at + span in_piece (drop at l)) where
+  -- the piece at the front of the part that is left is n bytes long
+  module _ (h : at ≤ length l) (n : ℕ) (lent : n ≡ span in_piece (take (length l - at) (drop at l))) where
+    abbrev e : ℕ
+    e = at + n
+
+    q : e ≡ at + span in_piece (drop at l)
+    q = ap (λ (m : ℕ). at + m) (lent ∙ ap (span in_piece) (tail-lent l at))
+
     pub piece_within : e ≤ length l
-    piece_within = omega (arith, span-within in_piece l at h)
+    piece_within = omega (arith, q, span-within in_piece l at h)
 
     module _ (r : Option ℕ) (p : r ≡ number_of Transition (part l at e)) where
       numbers : numbers_of (pieces_from l at) ≡ and_then (piece_number r) (λ n. and_then (numbers_of (pieces_from l (e + 1))) (λ ns. got (n ∷ ns)))
@@ -98,7 +106,7 @@ module _ (l : Bytes) (s₀ s : List ℕ) (count at : ℕ) (k : Taking l s₀ s c
                 ∙ ap (λ (a : Answer (List ℕ)). and_then a (λ ns. got (take count s ++ ns))) (sym known)
                 ∙ k.is;
             few = omega (arith, k.few);
-            passed = omega (arith, span-within in_piece l at h);
+            passed = omega (arith, piece_within);
             room = k.room;
             same = length-set s count v ∙ k.same;
           }

@@ -35,7 +35,7 @@ module _ (p : Printer) (ns : List ℕ) (t : Bytes) (gates : List ℕ) (work pair
 
 -- ---- the first line
 
-pub line-length : (t : Bytes) (end : ℕ) → end ≡ 0 + span in_line (drop 0 t) → end ≡ length (take end t)
+pub line-length : (t : Bytes) (end : ℕ) → end ≡ span in_line t → end ≡ length (take end t)
 line-length t end e = sym (length-take-le end t (omega (arith, span_le in_line t)))
 
 pub line-short : (t : Bytes) (end n : ℕ) → length t ≤ 16384 → 16384 < n → length (take end t) < n
@@ -46,9 +46,9 @@ module _ (p : Printer) (t : Bytes) (p' : Printer) where
   unfolding row_answer
   too_long h w = rw (lt-leb (length t) 16384 h) (more_room p (refused 3) 29 p' 700000 (omega arith) w)
 
-  module _ (h : length t ≤ 16384) (end : ℕ) (e : end ≡ 0 + span in_line (drop 0 t)) (r : Option ℕ) (s : List ℕ) (k : answer_in r s ≡ numbers_of (pieces (take end t))) where
+  module _ (h : length t ≤ 16384) (end : ℕ) (e : end ≡ span in_line t) (r : Option ℕ) (s : List ℕ) (k : answer_in r s ≡ numbers_of (pieces (take end t))) where
     line : numbers_of (pieces (first_line t)) ≡ answer_in r s
-    line = sym (k ∙ ap (λ (j : ℕ). numbers_of (pieces (take j t))) (e ∙ zero-add (span in_line t)))
+    line = sym (k ∙ ap (λ (j : ℕ). numbers_of (pieces (take j t))) e)
 
     pub other_form : r ≡ None → PrintsAnswer p (refused 14) 29 p' → PrintsAnswer p (row_answer t) 700000 p'
     unfolding row_answer
@@ -58,7 +58,7 @@ module _ (p : Printer) (t : Bytes) (p' : Printer) where
         → PrintsAnswer p (row_for ns rest) 700000 p' → PrintsAnswer p (row_answer t) 700000 p'
     unfolding row_answer
     numbers_read count m ns rest q f w =
-        let g : rest ≡ after_line t = f ∙ ap (λ (j : ℕ). drop (j + 1) t) (e ∙ zero-add (span in_line t)) in
+        let g : rest ≡ after_line t = f ∙ ap (λ (j : ℕ). drop (j + 1) t) e in
         rw (le-leb (length t) 16384 h, line, m) (rw (q, g) at w)
 
 -- ---- the promise

@@ -16,7 +16,7 @@ ghost use Rattle.row_text.specs.Inner.Made.{made_answer, Standing, room_for, Pri
 use aiger::Refusal;
 use cnf::ClauseCounts;
 use model::AigerTransition;
-use text::ByteTest;
+use scan::ByteTest;
 use text_print::Printer;
 
 // A byte that is no space.
@@ -39,7 +39,7 @@ fn read_numbers(line: &[u8], numbers: &mut [u64]) -> Option<usize>
     let mut at = 0;
     // Kept (loop): a turn passes a whole piece, so that the place moves by its length.
     while at <= line.len() {
-        let end = text::passing_end::<InPiece>(line, at);
+        let end = at + scan::passing::<InPiece>(&line[at..]);
         numbers[count] = text::numbers::parse_usize(&line[at..end])?;
         count += 1;
         at = end + 1;
@@ -199,7 +199,7 @@ fn print_text(to: &mut Printer, input: &[u8])
         return print_refused(to, Refusal::Text);
     }
     let mut numbers = [0u64; 16385];
-    let end = scan::line_end(input, 0);
+    let end = scan::line_length(input);
     let Some(n) = read_numbers(&input[..end], &mut numbers) else {
         return print_refused(to, Refusal::Claim);
     };

@@ -7,11 +7,10 @@ use native.Mathlib.Omega.{arith}
 use borrow.Author.Tests.{le-leb, lt-leb, leb-true, leb-false}
 use lib.Dec.{leb}
 use lib.Seq.{drop-drop, drop-append_seam}
-use lib.ListN.{length, get_or, take, drop, drop_of_length-le}
-use Rattle.lists.specs.Parts.{Bytes, part}
+use lib.ListN.{length, get_or, take, drop, take-append-drop, drop_of_length-le}
+use Rattle.lists.specs.Parts.{Bytes}
 use Rattle.lists.specs.Tests.{all}
 use Rattle.lists.proofs.BoolLaws.{and_left, and_right}
-use Rattle.lists.proofs.PartLaws.{drop-take, part_length, part-rest}
 use Rattle.lists.proofs.RestLaws.{rest_more}
 use Rattle.scan.specs.Spans.{span}
 use Rattle.scan.proofs.SpanLaws.{span_le}
@@ -81,36 +80,15 @@ pub passed-block : (s rest block after : Bytes) (passed : ℕ) → drop passed s
 passed-block s rest block after passed d cut =
     sym (drop-drop (length block) passed s) ∙ ap (drop (length block)) (d ∙ cut) ∙ drop-append_seam block after
 
-module _ (p : ℕ → Bool) (s : Bytes) (at e : ℕ) where
-  -- a block of it whose bytes all pass
-  pub span-block : at ≤ e → e ≤ length s → (q : Bool) → q ≡ all p (part s at e) → q ≡ true → (n : ℕ) → at + span p (drop at s) ≡ n → e + span p (drop e s) ≡ n
-  span-block h g q block t n k =
-      let m : span p (drop at s) ≡ length (part s at e) + span p (drop e s) = ap (span p) (part-rest s at e h) ∙ passes p (part s at e) (drop e s) (whole p (part s at e) (sym block ∙ t)) in
-      omega (arith, m, part_length s at e g)
+-- n bytes at the front, and what follows them
+module _ (p : ℕ → Bool) (s front others : Bytes) (n : ℕ) (f : front ≡ take n s) (o : others ≡ drop n s) (i : ℕ) (k : i ≡ span p front) where
+  both : s ≡ front ++ others
+  both = rw (f, o) (sym (take-append-drop n s))
 
-  -- the span of what stands in front of e
-  module _ (i : ℕ) (k : i ≡ at + span p (drop at (take e s))) (g : e ≤ length s) where
-    inside : at ≤ e → i ≡ at + span p (part s at e)
-    inside h = k ∙ ap (λ (x : Bytes). at + span p x) (drop-take at e s)
+  pub span_near : i < length front → i ≡ span p s
+  span_near l = k ∙ sym (stops p front others (omega (arith, k))) ∙ ap (span p) (sym both)
 
-    pub span_near : at ≤ e → i < e → i ≡ at + span p (drop at s)
-    span_near h l =
-        let m : span p (part s at e ++ drop e s) ≡ span p (part s at e) = stops p (part s at e) (drop e s) (omega (arith, inside h, part_length s at e g)) in
-        inside h ∙ ap (λ (x : ℕ). at + x) (sym (ap (span p) (part-rest s at e h) ∙ m))
-
-    pub span_far : at ≤ e → e ≤ i → i + span p (drop i s) ≡ at + span p (drop at s)
-    span_far h l =
-        let n : span p (part s at e) ≡ length (part s at e) = omega (arith, inside h, part_length s at e g, span_le p (part s at e)) in
-        let m : span p (drop at s) ≡ length (part s at e) + span p (drop e s) = ap (span p) (part-rest s at e h) ∙ passes p (part s at e) (drop e s) n in
-        let z : i ≡ e = omega (arith, inside h, n, part_length s at e g) in
-        rw z (omega (arith, m, part_length s at e g))
-
--- a line that goes on past a near place e: blocks from e on, and what follows them
-pub span_past : (p : ℕ → Bool) (s : Bytes) (at e i r n : ℕ) → i ≡ at + span p (drop at (take e s)) → e ≤ length s → at ≤ e → e ≤ i
-    → r + span p (drop r (drop e s)) ≡ span p (drop e s) → n ≡ e + r + span p (drop (e + r) s) → n ≡ at + span p (drop at s)
-span_past p s at e i r n k g h l b f =
-    let d : drop r (drop e s) ≡ drop (e + r) s = drop-drop r e s in
-    let z : i ≡ e = omega (arith, k, ap (λ (x : Bytes). span p x) (drop-take at e s), span_le p (part s at e), part_length s at e g) in
-    let m : r + span p (drop (e + r) s) ≡ span p (drop e s) = ap (λ (x : Bytes). r + span p x) (sym d) ∙ b in
-    let w : e + span p (drop e s) ≡ at + span p (drop at s) = rw (← z) (span_far p s at e i k g h l) in
-    omega (arith, f, m, w)
+  pub span_past : length front ≤ i → (j : ℕ) → j ≡ span p others → i + j ≡ span p s
+  span_past l j e =
+      let all_pass : span p front ≡ length front = omega (arith, k, span_le p front) in
+      omega (arith, ap (span p) both, passes p front others all_pass, k, all_pass, e)

@@ -1,7 +1,7 @@
 -- `span` at a position of a list: one step of a loop that runs while a byte satisfies p.
 use Prim.Native.Nat.{ℕ, suc, ◌+◌, ◌≤◌, ◌<◌}
-use mathlib.Core.Path.{◌≡◌, refl, sym, ◌∙◌}
-use mathlib.Core.List.{List, [], ◌∷◌}
+use mathlib.Core.Path.{◌≡◌, refl, ap, sym, ◌∙◌}
+use mathlib.Core.List.{List, [], ◌∷◌, ◌++◌}
 use mathlib.Core.Bool.{Bool, true, false, cond}
 use native.Mathlib.Numerals.{add-one}
 use native.Mathlib.Omega.{arith}
@@ -9,6 +9,7 @@ use borrow.Author.Tests.{eq-eqb, ne_eqb}
 use lib.ListN.{take, length, get_or, drop, drop_of_length-le, length-drop}
 use lib.Seq.{drop-cons, get_or-drop}
 use Rattle.lists.specs.Tests.{all}
+use Rattle.lists.proofs.BoolLaws.{and_left, and_right}
 use Rattle.scan.specs.Spans.{span, in_line}
 
 le_at : (q : Bool) (m n : ℕ) → m ≤ n → cond q (suc m) 0 ≤ suc n
@@ -53,16 +54,16 @@ stop-at : (p : ℕ → Bool) (b : ℕ) (bs : List ℕ) → (span p bs < length b
 stop-at p b bs ih true e = simp e (λ h. ih (omega arith))
 stop-at p b bs ih false e = simp e (λ h. refl)
 
-stop : (p : ℕ → Bool) (t : List ℕ) → span p t < length t → p (get_or t (span p t) 0) ≡ false
-stop p [] h = absurd (omega arith)
-stop p (b ∷ bs) h = stop-at p b bs (stop p bs) (p b) refl h
+pub span_outside : (p : ℕ → Bool) (t : List ℕ) → span p t < length t → p (get_or t (span p t) 0) ≡ false
+span_outside p [] h = absurd (omega arith)
+span_outside p (b ∷ bs) h = stop-at p b bs (span_outside p bs) (p b) refl h
 
 module _ (p : ℕ → Bool) (s : List ℕ) (at : ℕ) where
   pub span-within : at ≤ length s → at + span p (drop at s) ≤ length s
   span-within h = omega (arith, span_le p (drop at s), length-drop at s)
 
   pub span-ends : at + span p (drop at s) < length s → p (get_or s (at + span p (drop at s)) 0) ≡ false
-  span-ends h = rw get_or-drop at (stop p (drop at s) (omega (arith, length-drop at s)))
+  span-ends h = rw get_or-drop at (span_outside p (drop at s) (omega (arith, length-drop at s)))
 
 -- all bytes of a span pass
 all-at : (p : ℕ → Bool) (b : ℕ) (bs : List ℕ) → all p (take (span p bs) bs) ≡ true → (q : Bool) → p b ≡ q → all p (take (cond q (suc (span p bs)) 0) (b ∷ bs)) ≡ true
@@ -72,3 +73,8 @@ all-at p b bs ih false e = refl
 pub span-passes : (p : ℕ → Bool) (t : List ℕ) → all p (take (span p t) t) ≡ true
 span-passes p [] = refl
 span-passes p (b ∷ bs) = all-at p b bs (span-passes p bs) (p b) refl
+
+-- bytes that all pass, in front of one that does not
+pub span-front : (p : ℕ → Bool) (f : List ℕ) (b : ℕ) (rest : List ℕ) → all p f ≡ true → p b ≡ false → span p (f ++ b ∷ rest) ≡ length f
+span-front p [] b rest h e = rw e
+span-front p (x ∷ f) b rest h e = rw (and_left (p x) (all p f) h) (ap suc (span-front p f b rest (and_right (p x) (all p f) h) e))

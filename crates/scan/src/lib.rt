@@ -1,9 +1,9 @@
 // Looking through bytes: the end of a line, bytes that a text may have, comparing with a constant.
 #![tactic(auto)]
 
-ghost use Rattle.std.specs.Prelude.{ℕ, Bool, ◌≡◌, ◌+◌, min, leb, drop};
+ghost use Rattle.std.specs.Prelude.{ℕ, Bool, ◌≡◌, ◌≤◌, ◌+◌, min, leb, length, drop};
 ghost use Rattle.lists.specs.Tests.{all};
-ghost use Rattle.scan.specs.Spans.{span, in_line, between};
+ghost use Rattle.scan.specs.Spans.{span, in_line};
 ghost use Rattle.scan.specs.Allowed.{is_ascii, is_witness_byte, ends_in10};
 ghost use Rattle.scan.specs.Same.{same_bytes, begins_with};
 
@@ -12,6 +12,14 @@ pub fn block_end(size: usize, at: usize, n: usize) -> usize
     ensures { result ≡ min (at + n) size }
 {
     at.saturating_add(n).min(size)
+}
+
+// A test of bytes.
+pub trait ByteTest {
+    ghost passes: { ℕ → Bool };
+
+    fn passes(b: u8) -> bool
+        ensures { result ≡ passes b };
 }
 
 // A test of bytes by their ranks: a byte passes where its rank is at most 127.
@@ -30,6 +38,14 @@ impl Ranked for InLine {
 
     fn rank(b: u8) -> u8 {
         if b == 10 { 255 } else { 0 }
+    }
+}
+
+impl ByteTest for InLine {
+    ghost passes = { in_line };
+
+    fn passes(b: u8) -> bool {
+        b != 10
     }
 }
 
@@ -92,43 +108,39 @@ fn blocks_in_line(s: &[u8]) -> usize
     passed
 }
 
-// The first byte 10 of s from a place on, or s's end; a place past the end stays.
-fn first_line_feed(s: &[u8], at: usize) -> usize
-    ensures { result ≡ at + span in_line (drop at s.now) }
+// How many bytes at the front pass a test.
+pub fn passing<T: ByteTest>(s: &[u8]) -> usize
+    ensures value { result ≡ span T.passes s.now }
+    ensures within { result ≤ length s.now }
 {
-    for i in at..s.len() {
-        if s[i] == 10 {
+    for i in 0..s.len() {
+        if !T::passes(s[i]) {
             return i;
         }
     }
-    at.max(s.len())
+    s.len()
 }
 
-// Where the line that holds a position ends: a short line is looked through byte by byte, a long one by blocks.
-pub fn line_end(s: &[u8], at: usize) -> usize
-    ensures { result ≡ at + span in_line (drop at s.now) }
+// How long the first line is, by blocks.
+fn long_line_length(s: &[u8]) -> usize
+    ensures value { result ≡ span in_line s.now }
+    ensures within { result ≤ length s.now }
 {
-    if s.len() <= at {
-        return at;
-    }
-    let near = block_end(s.len(), at, 32);
-    let i = first_line_feed(&s[..near], at);
-    if i < near {
-        return i;
-    }
-    first_line_feed(s, near + blocks_in_line(&s[near..]))
+    let passed = blocks_in_line(s);
+    passed + passing::<InLine>(&s[passed..])
 }
 
-// Where a run of bytes from low to high ends; a place past the end stays.
-pub fn run_end(s: &[u8], at: usize, low: u8, high: u8) -> usize
-    ensures { result ≡ at + span (between low high) (drop at s.now) }
+// How long the first line is: a short one is looked through byte by byte, a long one by blocks.
+pub fn line_length(s: &[u8]) -> usize
+    ensures value { result ≡ span in_line s.now }
+    ensures within { result ≤ length s.now }
 {
-    for i in at..s.len() {
-        if s[i] < low || high < s[i] {
-            return i;
-        }
+    let (front, others) = s.split_at(s.len().min(32));
+    let length = passing::<InLine>(front);
+    if length < front.len() {
+        return length;
     }
-    at.max(s.len())
+    length + long_line_length(others)
 }
 
 // Whether every byte is at most 127.

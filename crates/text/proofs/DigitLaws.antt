@@ -7,16 +7,14 @@ use mathlib.Core.Logic.{◌⊎◌, inl, inr}
 use mathlib.Core.Bool.{Bool, true, false, cond, and-false}
 use native.Mathlib.Numerals.{add-one}
 use native.Mathlib.Omega.{arith}
-use borrow.Author.Tests.{lt-ltb, le-ltb, le-leb, lt-leb, leb-true}
+use borrow.Author.Tests.{lt-ltb, le-ltb, le-leb, lt-leb, eqb-true}
 use lib.ListN.{length, get_or, drop, drop_of_length-le}
 use Rattle.std.specs.Prelude.{◌==◌}
-use lib.Dec.{leb}
 use lib.Seq.{drop-cons}
-use Rattle.lists.proofs.BoolLaws.{and_left, and_right}
-use native.Mathlib.Nat.{zero-add}
 use Rattle.lists.specs.Parts.{part}
 use Rattle.lists.proofs.PartLaws.{part-drop}
-use Rattle.scan.specs.Spans.{span, between}
+use Rattle.scan.specs.Spans.{span}
+use Rattle.text.specs.Inner.PlainDigits.{is_zero}
 use Rattle.scan.proofs.SpanLaws.{span_le}
 use Rattle.text.specs.Numbers.{tenfold, digits_after, digits_of}
 
@@ -38,25 +36,24 @@ module _ (v b : ℕ) (bs : List ℕ) where
   over-step h = simp (le-ltb (tenfold v (b ∷ bs)) (2 ^ 64) (omega (arith, tenfold_grows (v * 10 + (b - 48)) bs)), and-false)
 
 -- zeros in front change nothing
-zeros-at : (b : ℕ) (bs : List ℕ) → digits_after 0 (drop (span (between 48 48) bs) bs) ≡ digits_after 0 bs → (q : Bool) → between 48 48 b ≡ q
-    → digits_after 0 (drop (cond q (suc (span (between 48 48) bs)) 0) (b ∷ bs)) ≡ digits_after 0 (b ∷ bs)
+zeros-at : (b : ℕ) (bs : List ℕ) → digits_after 0 (drop (span is_zero bs) bs) ≡ digits_after 0 bs → (q : Bool) → is_zero b ≡ q
+    → digits_after 0 (drop (cond q (suc (span is_zero bs)) 0) (b ∷ bs)) ≡ digits_after 0 (b ∷ bs)
 zeros-at b bs ih true e =
-    let low : 48 ≤ b = leb-true 48 b (and_left (leb 48 b) (leb b 48) e) in
-    let high : b ≤ 48 = leb-true b 48 (and_right (leb 48 b) (leb b 48) e) in
+    let is : b ≡ 48 = eqb-true b 48 e in
     let zero_more : 0 * 10 + (b - 48) ≡ 0 = omega arith in
-    ih ∙ sym (in_step 0 b bs low (omega arith) ∙ ap (λ (v : ℕ). digits_after v bs) zero_more)
+    ih ∙ sym (in_step 0 b bs (omega arith) (omega arith) ∙ ap (λ (v : ℕ). digits_after v bs) zero_more)
 zeros-at b bs ih false e = refl
 
-zeros : (t : List ℕ) → digits_after 0 (drop (span (between 48 48) t) t) ≡ digits_after 0 t
+zeros : (t : List ℕ) → digits_after 0 (drop (span is_zero t) t) ≡ digits_after 0 t
 zeros [] = refl
-zeros (b ∷ bs) = zeros-at b bs (zeros bs) (between 48 48 b) refl
+zeros (b ∷ bs) = zeros-at b bs (zeros bs) (is_zero b) refl
 
-module _ (f : List ℕ) (r : ℕ) (k : r ≡ 0 + span (between 48 48) (drop 0 f)) where
+module _ (f : List ℕ) (r : ℕ) (k : r ≡ span is_zero f) where
   pub zeros_within : r ≤ length f
-  zeros_within = omega (arith, span_le (between 48 48) f)
+  zeros_within = omega (arith, span_le is_zero f)
 
   pub zeros-behind : digits_after 0 (part f r (length f)) ≡ digits_after 0 f
-  zeros-behind = rw (part-drop f r, k, zero-add) (zeros f)
+  zeros-behind = rw (part-drop f r, k) (zeros f)
 
 module _ (v : ℕ) (f : List ℕ) (i : ℕ) where
   pub digits_in_lem : i < length f → 48 ≤ get_or f i 0 → get_or f i 0 ≤ 57 → digits_after v (drop i f) ≡ digits_after (v * 10 + (get_or f i 0 - 48)) (drop (i + 1) f)

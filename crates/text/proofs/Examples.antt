@@ -8,11 +8,10 @@ use Rattle.lists.specs.Quoted.{bytes}
 use Rattle.lists.specs.Parts.{Bytes}
 use Rattle.lists.specs.Tests.{every}
 use Rattle.text.specs.declared.Reader.TheVariants.{Transition, Witness}
-use Rattle.text.specs.declared.Literal.{Literal}
 use Rattle.text.specs.Numbers.{is_digit, number_of}
 use Rattle.text.specs.Lines.{lines_of}
 use Rattle.text.specs.Fields.{is_blank, fields_of, first_field, has_header_word}
-use Rattle.text.specs.Literals.{literal_at}
+use Rattle.text.specs.Literals.{LineLiteral, literal_at}
 use Rattle.text.specs.Texts.{limited, free, good_text}
 
 -- ---- numbers
@@ -111,17 +110,17 @@ abbrev pub four_lines : Bytes
 four_lines = bytes "x\n\n4\ny"
 
 -- no literal, and the place n after it
-abbrev pub refused_to : ℕ → Literal
-refused_to n = record { value = None; next = record { at = n } }
+abbrev pub refused_to : ℕ → LineLiteral
+refused_to n = record { value = None; next = n }
 
 -- the place moves past a line that is refused, also past an empty one and a last one without byte 10, and stays at and past the end
-pub literals : map (λ n. literal_at Witness four_lines (record { at = n })) (0 ∷ 2 ∷ 3 ∷ 5 ∷ 6 ∷ 9 ∷ [])
-    ≡ refused_to 2 ∷ refused_to 3 ∷ record { value = Some 4; next = record { at = 5 } } ∷ refused_to 6 ∷ refused_to 6 ∷ refused_to 9 ∷ []
+pub literals : map (literal_at Witness four_lines) (0 ∷ 2 ∷ 3 ∷ 5 ∷ 6 ∷ 9 ∷ [])
+    ≡ refused_to 2 ∷ refused_to 3 ∷ record { value = Some 4; next = 5 } ∷ refused_to 6 ∷ refused_to 6 ∷ refused_to 9 ∷ []
 unfolding number_of
 literals = refl
 
 -- two numbers are one too many
-pub two_numbers : literal_at Transition (bytes "4 4") (record { at = 0 }) ≡ refused_to 3
+pub two_numbers : literal_at Transition (bytes "4 4") 0 ≡ refused_to 3
 unfolding number_of
 two_numbers = refl
 

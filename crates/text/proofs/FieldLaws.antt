@@ -1,23 +1,23 @@
--- Laws of `is_blank` and `field_at`: their cases for the code that finds fields, and what `field_at` says of `fields_of`.
-use Rattle.std.specs.Prelude.{Option, Some, None}
-use Prim.Native.Nat.{ℕ, ◌+◌, ◌≤◌, ◌<◌}
+-- Laws of `is_blank` and `fields_of`: the first field of a line and the line behind it, for the code that finds fields.
+use Prim.Native.Nat.{ℕ, ◌-◌, ◌≤◌, ◌<◌}
 use mathlib.Core.Path.{◌≡◌, refl, ap, sym, ◌∙◌}
-use mathlib.Core.Bool.{and-false, or-false, Bool, true, false}
+use mathlib.Core.Bool.{and-false, or-false, or-true, ◌&&◌, Bool, true, false}
 use mathlib.Core.List.{List, [], ◌∷◌, ◌++◌}
 use native.Mathlib.Omega.{arith}
-use native.Mathlib.Nat.{add-sub_cancel_left, add-zero}
-use borrow.Author.Tests.{lt-ltb, le-ltb, le-leb, lt-leb, ne_eqb, ltb-true, ltb-false, not-true}
-use lib.ListN.{length, get_or, take, drop, length-drop, drop_of_length-le}
-use lib.Seq.{drop-drop, get_or-drop}
-use lib.Dec.{leb, ltb}
-use Rattle.scan.proofs.SpanLaws.{span_in, span-ends, span-within, span-passes}
-use Rattle.text.specs.declared.Field.{Field}
+use native.Mathlib.Nat.{add-zero}
+use borrow.Author.Tests.{le-leb, lt-leb, ne_eqb, not-true}
+use lib.ListN.{length, get_or, take, drop, length-drop}
+use lib.Seq.{get_or-drop}
+use lib.Dec.{leb}
 use Rattle.scan.specs.Spans.{span}
+use Rattle.scan.proofs.SpanLaws.{span_outside}
 use Rattle.text.specs.Lines.{cons_head}
-use Rattle.lists.specs.Parts.{Bytes, part}
+use Rattle.lists.specs.Parts.{Bytes}
 use Rattle.lists.specs.Tests.{all}
 use Rattle.lists.proofs.BoolLaws.{and_left, and_right}
-use Rattle.text.specs.Fields.{is_blank, in_field, field_from, field_at, fields_of, head_of, first_field}
+use Rattle.lists.proofs.PartLaws.{tail-lent}
+use Rattle.text.specs.Fields.{is_blank, in_field, fields_of, head_of, first_field}
+use Rattle.text.specs.Inner.Fronts.{is_space, from_field, FieldTaken}
 
 -- a byte's test: the blanks are 9 to 13 and 32
 module _ (b : ℕ) where
@@ -36,21 +36,31 @@ module _ (b : ℕ) where
   pub blank_rest : (b ≡ 32 → ⊥) → 9 ≤ b → leb b 13 ≡ is_blank b
   blank_rest n h = simp (le-leb 9 b h, ne_eqb b 32 n) (sym (or-false (leb b 13)))
 
-module _ (l : List ℕ) (at a : ℕ) (q : a ≡ at + span is_blank (drop at l)) where
-  pub field-some : (e : ℕ) → a < length l → e ≡ a + span in_field (drop a l) → Some (record { start = a; end = e }) ≡ field_at l at
-  field-some e h k = simp (← q, lt-ltb a (length l) h, ← k)
+-- ---- from_field: spaces first, and then all blanks
 
-  pub field-none : length l ≤ a → None ≡ field_at l at
-  field-none h = simp (← q, le-ltb a (length l) h)
+spaces_at : (b : ℕ) (bs : Bytes) → from_field (drop (span is_space bs) bs) ≡ from_field bs → (q : Bool) → is_space b ≡ q
+    → from_field (drop (span is_space (b ∷ bs)) (b ∷ bs)) ≡ from_field (b ∷ bs)
+spaces_at b bs ih true e = simp (e, or-true (leb 9 b && leb b 13)) ih
+spaces_at b bs ih false e = simp e
 
--- ---- what `field_at` says of `fields_of`: the fields from a position on are the field that it finds and those from that field's end on
+spaces : (t : Bytes) → from_field (drop (span is_space t) t) ≡ from_field t
+spaces [] = refl
+spaces (b ∷ bs) = spaces_at b bs (spaces bs) (is_space b) refl
 
-skip_at : (b : ℕ) (bs : List ℕ) → fields_of bs ≡ fields_of (drop (span is_blank bs) bs) → (q : Bool) → is_blank b ≡ q
-    → fields_of (b ∷ bs) ≡ fields_of (drop (span is_blank (b ∷ bs)) (b ∷ bs))
+pub after-spaces : (l others : Bytes) (n m : ℕ) → n ≡ span is_space l → others ≡ take (length l - n) (drop n l) → m ≡ span is_blank others
+    → take (length others - m) (drop m others) ≡ from_field l
+after-spaces l others n m e o f =
+    tail-lent others m ∙ ap (λ (k : ℕ). drop k others) f
+    ∙ ap from_field (o ∙ tail-lent l n ∙ ap (λ (k : ℕ). drop k l) e) ∙ spaces l
+
+-- ---- the fields of a line are its first field and those of the line behind it
+
+skip_at : (b : ℕ) (bs : List ℕ) → fields_of bs ≡ fields_of (from_field bs) → (q : Bool) → is_blank b ≡ q
+    → fields_of (b ∷ bs) ≡ fields_of (from_field (b ∷ bs))
 skip_at b bs ih true e = simp e ih
 skip_at b bs ih false e = simp e
 
-skip : (t : List ℕ) → fields_of t ≡ fields_of (drop (span is_blank t) t)
+skip : (t : List ℕ) → fields_of t ≡ fields_of (from_field t)
 skip [] = refl
 skip (b ∷ bs) = skip_at b bs (skip bs) (is_blank b) refl
 
@@ -72,84 +82,22 @@ unfolding Word
 first [] h e = absurd (omega arith)
 first (b ∷ bs) h e = simp e (simp e at (word b bs e))
 
--- the field that starts at a
-from : (l : List ℕ) (a : ℕ) → a < length l → is_blank (get_or l a 0) ≡ false
-    → fields_of (drop a l) ≡ part l a (a + span in_field (drop a l)) ∷ fields_of (drop (a + span in_field (drop a l)) l)
-from l a h e =
-    rw (add-sub_cancel_left a (span in_field (drop a l)), ← drop-drop (span in_field (drop a l)) a l)
-    (first (drop a l) (omega (arith, length-drop a l)) (rw (get_or-drop, add-zero) e))
+-- the first byte from a field on is none between fields
+pub front-in_field : (l : Bytes) → 0 < length (from_field l) → is_blank (get_or (from_field l) 0 0) ≡ false
+front-in_field l h = rw (get_or-drop, add-zero) (span_outside is_blank l (omega (arith, length-drop (span is_blank l) l)))
 
-never : {r : Option Field} {f : Field} → r ≡ Some f → r ≡ None → ⊥
-never p k = let z : ◌≡◌ {A = ℕ} 0 1 = cc in omega arith
+pub fields_none : (l : Bytes) → from_field l ≡ [] → fields_of l ≡ []
+fields_none l e = skip l ∙ ap fields_of e
 
--- what is known of the field that was found
-record Found (l : List ℕ) (at : ℕ) (f : Field) : Type 0 where
-  fields : fields_of (drop at l) ≡ part l f.start f.end ∷ fields_of (drop f.end l)
-  after : at ≤ f.start
-  some_byte : f.start < f.end
-  within : f.end ≤ length l
-  unblank : all in_field (part l f.start f.end) ≡ true
+module _ (l f r : Bytes) (k : FieldTaken l f r) where
+  pub fields_some : fields_of l ≡ f ∷ fields_of r
+  fields_some = skip l ∙ rw (k.stands.field, k.stands.rest) (first (from_field l) k.some_byte (front-in_field l k.some_byte))
 
--- `field_at` with the start of the field as a variable, so that nothing of it unfolds
-module _ (l : List ℕ) (at b : ℕ) (same : fields_of (drop at l) ≡ fields_of (drop b l)) (r : Option Field) where
-  on_none : (t : Bool) → ltb b (length l) ≡ t → r ≡ field_from l b → r ≡ None → fields_of (drop at l) ≡ []
-  on_none true e q k = absurd (never (simp e at q) k)
-  on_none false e q k = same ∙ ap fields_of (drop_of_length-le l (ltb-false b (length l) e))
+  pub first_some : f ≡ first_field l
+  first_some = sym (ap head_of fields_some)
 
-  module _ (before : at ≤ b) (stop : b < length l → is_blank (get_or l b 0) ≡ false) where
-    found-from : b < length l → Found l at (record { start = b; end = b + span in_field (drop b l) })
-    found-from h =
-        let s : b + span in_field (drop b l) ≡ b + 1 + span in_field (drop (b + 1) l) = span_in in_field l b h (rw (stop h)) in
-        record {
-          fields = same ∙ from l b h (stop h);
-          after = before;
-          some_byte = omega arith;
-          within = span-within in_field l b (omega arith);
-          unblank = rw (add-sub_cancel_left b (span in_field (drop b l))) (span-passes in_field (drop b l));
-        }
-
-    on_some : (f : Field) (t : Bool) → ltb b (length l) ≡ t → r ≡ field_from l b → r ≡ Some f → Found l at f
-    on_some f true g q k =
-        let q' : r ≡ Some (record { start = b; end = b + span in_field (drop b l) }) = simp g at q in
-        let is : f ≡ record { start = b; end = b + span in_field (drop b l) } = cc in
-        rw is (found-from (ltb-true b (length l) g))
-    on_some f false g q k = absurd (never k (simp g at q))
-
--- what a caller that holds `r ≡ field_at l at` and r's case learns
-module _ (l : List ℕ) (at : ℕ) (r : Option Field) (q : r ≡ field_at l at) where
-  to_start : fields_of (drop at l) ≡ fields_of (drop (at + span is_blank (drop at l)) l)
-  to_start = skip (drop at l) ∙ ap fields_of (drop-drop (span is_blank (drop at l)) at l)
-
-  pub fields_none : r ≡ None → fields_of (drop at l) ≡ []
-  fields_none k = on_none l at (at + span is_blank (drop at l)) to_start r (ltb (at + span is_blank (drop at l)) (length l)) refl q k
-
-  module _ (f : Field) (k : r ≡ Some f) where
-    found : Found l at f
-    found =
-        on_some l at (at + span is_blank (drop at l)) to_start r (omega arith) (span-ends is_blank l at) f
-        (ltb (at + span is_blank (drop at l)) (length l)) refl q k
-
-    pub fields_some : fields_of (drop at l) ≡ part l f.start f.end ∷ fields_of (drop f.end l)
-    fields_some = found.fields
-
-    -- a field is never empty: it has a byte, no blank, and stands at or after the position
-    pub field-some_byte : f.start < f.end
-    field-some_byte = found.some_byte
-
-    pub field-ordered : f.start ≤ f.end
-    field-ordered = omega (arith, found.some_byte)
-
-    pub field-within : f.end ≤ length l
-    field-within = found.within
-
-    pub field_unblank : all in_field (part l f.start f.end) ≡ true
-    field_unblank = found.unblank
-
-    pub first_some : at ≡ 0 → part l f.start f.end ≡ first_field l
-    first_some z = sym (ap head_of (rw z at fields_some))
-
-  pub first-none : at ≡ 0 → r ≡ None → [] ≡ first_field l
-  first-none z k = sym (ap head_of (rw z at (fields_none k)))
+pub first-none : (l : Bytes) → from_field l ≡ [] → [] ≡ first_field l
+first-none l e = sym (ap head_of (fields_none l e))
 
 -- ---- a field in front of others, as lists
 

@@ -1,33 +1,30 @@
--- Laws of `line_at`: its cases for the code that finds lines, and what it says of `lines_of`.
-use Rattle.std.specs.Prelude.{Option, Some, None}
-use Prim.Native.Nat.{ℕ, suc, ◌+◌, ◌-◌, ◌≤◌, ◌<◌}
-use mathlib.Core.Path.{◌≡◌, refl, ap, ◌∙◌}
+-- Laws of `lines_of`: the first line of a text and the text behind it, for the code that takes lines.
+use Prim.Native.Nat.{ℕ, suc, ◌+◌, ◌<◌}
+use mathlib.Core.Path.{◌≡◌, refl, ap, sym, ◌∙◌}
 use mathlib.Core.List.{List, [], ◌∷◌, ◌++◌, append-nil}
-use mathlib.Core.Bool.{Bool, true, false, cond}
+use mathlib.Core.Bool.{Bool, true, false}
 use native.Mathlib.Omega.{arith}
-use native.Mathlib.Nat.{add-sub_cancel_left}
-use borrow.Author.Tests.{lt-ltb, le-ltb, ltb-true, ltb-false, not-true}
-use lib.ListN.{length, take, drop, length-drop, drop_of_length-le}
+use borrow.Author.Tests.{not-true}
+use lib.ListN.{length, take, drop, length-drop}
 use lib.Seq.{drop-drop}
-use lib.Dec.{eqb, ltb}
-use Rattle.scan.proofs.SpanLaws.{span-within, span-passes}
-use Rattle.text.specs.declared.Line.{Line}
+use lib.Dec.{eqb}
 use Rattle.scan.specs.Spans.{span, in_line}
-use Rattle.text.specs.Lines.{cons_head, lines_of, line_from, line_at}
-use Rattle.lists.specs.Parts.{Bytes, part}
+use Rattle.text.specs.Lines.{cons_head, lines_of, line_size}
+use Rattle.text.specs.Inner.Fronts.{Behind, LineTaken}
+use Rattle.lists.specs.Parts.{Bytes}
 use Rattle.lists.specs.Tests.{all}
 use Rattle.lists.proofs.BoolLaws.{and_left, and_right}
+use Rattle.lists.proofs.PartLaws.{drop_min}
 
-pub line-none : (s : List ℕ) (at : ℕ) → length s ≤ at → None ≡ line_at s at
-line-none s at h = simp (le-ltb at (length s) h)
+-- ---- texts behind a text
 
-pub line-more : (s : List ℕ) (at e : ℕ) → at < length s → e ≡ at + span in_line (drop at s) → e < length s → Some (record { start = at; end = e; next = record { at = e + 1 } }) ≡ line_at s at
-line-more s at e h q k = simp (← q, lt-ltb at (length s) h, lt-ltb e (length s) k)
+pub behind-none : (s : Bytes) → Behind s s
+behind-none s = record { size = 0; is = refl }
 
-pub line_last : (s : List ℕ) (at e : ℕ) → at < length s → e ≡ at + span in_line (drop at s) → length s ≤ e → Some (record { start = at; end = e; next = record { at = e } }) ≡ line_at s at
-line_last s at e h q k = simp (← q, lt-ltb at (length s) h, le-ltb e (length s) k)
+pub behind_then : (s r t : Bytes) → Behind s r → Behind r t → Behind s t
+behind_then s r t k h = record { size = k.size + h.size; is = h.is ∙ ap (drop h.size) k.is ∙ drop-drop h.size k.size s }
 
--- ---- what `line_at` says of `lines_of`: the lines from a position on are the line that it finds and those from the next cursor on
+-- ---- the lines of a text are its first line and those of the text behind it
 
 Cut : List ℕ → Type 0
 Cut t = 0 < length t → lines_of t ≡ take (span in_line t) t ∷ lines_of (drop (suc (span in_line t)) t)
@@ -43,95 +40,28 @@ unfolding Cut
 cut [] h = absurd (omega arith)
 cut (b ∷ bs) h = cut_at b bs (cut bs) (eqb b 10) refl h
 
-never : {r : Option Line} {l : Line} → r ≡ Some l → r ≡ None → ⊥
-never p k = let z : ◌≡◌ {A = ℕ} 0 1 = cc in omega arith
+pub lines_none : (s : Bytes) → s ≡ [] → lines_of s ≡ []
+lines_none s e = ap lines_of e
 
-module _ (s : List ℕ) (at k : ℕ) (h : at < length s) (q : k ≡ span in_line (drop at s)) where
-  -- with the line's length k as a variable
-  cut_k : lines_of (drop at s) ≡ part s at (at + k) ∷ lines_of (drop (at + suc k) s)
+module _ (s l r : Bytes) (k : LineTaken s l r) where
+  pub lines-some : lines_of s ≡ l ∷ lines_of r
   unfolding Cut
-  cut_k = rw (add-sub_cancel_left at k, ← drop-drop (suc k) at s, q) (cut (drop at s) (omega (arith, length-drop at s)))
+  lines-some =
+      rw (k.line, k.rest, drop_min (suc (span in_line s)) s) (cut s k.some_byte)
 
-  next-at : (t : Bool) → ltb (at + k) (length s) ≡ t → lines_of (drop at s) ≡ part s at (at + k) ∷ lines_of (drop (cond t (at + k + 1) (at + k)) s)
-  next-at true g = let e : at + k + 1 ≡ at + suc k = omega arith in rw e cut_k
-  next-at false g =
-      let n : length s ≤ at + k = ltb-false (at + k) (length s) g in
-      rw (drop_of_length-le s n) (rw (drop_of_length-le s {i = at + suc k} (omega arith)) at cut_k)
+  -- less of the text is left, for a loop over lines
+  pub line-less : length r < length s
+  line-less = omega (arith, k.some_byte, ap length k.rest, length-drop (line_size s) s)
 
--- what is known of the line that was found
-record Found (s : List ℕ) (at : ℕ) (l : Line) : Type 0 where
-  lines : lines_of (drop at s) ≡ part s l.start l.end ∷ lines_of (drop l.next.at s)
-  starts : l.start ≡ at
-  ordered : l.start ≤ l.end
-  within : l.end ≤ length s
-  plain : all in_line (part s l.start l.end) ≡ true
-  moves : at < l.next.at
-  stays_within : l.next.at ≤ length s
+  pub line-behind : Behind s r
+  line-behind = record { size = line_size s; is = k.rest }
 
-moved : (at e size : ℕ) → at < size → at ≤ e → e ≤ size → (t : Bool) → ltb e size ≡ t → (at < cond t (e + 1) e) × (cond t (e + 1) e ≤ size)
-moved at e size h k l true g = (omega arith, omega (arith, ltb-true e size g))
-moved at e size h k l false g = (omega (arith, ltb-false e size g), l)
-
-found-from : (s : List ℕ) (at : ℕ) → at < length s → Found s at (line_from s at (at + span in_line (drop at s)))
-found-from s at h =
-    let e = at + span in_line (drop at s) in
-    let m = moved at e (length s) h (omega arith) (span-within in_line s at (omega arith)) (ltb e (length s)) refl in
-    record {
-      lines = next-at s at (span in_line (drop at s)) h refl (ltb e (length s)) refl;
-      starts = refl;
-      ordered = omega arith;
-      within = span-within in_line s at (omega arith);
-      plain = rw (add-sub_cancel_left at (span in_line (drop at s))) (span-passes in_line (drop at s));
-      moves = m.0;
-      stays_within = m.1;
-    }
-
-on_some : (s : List ℕ) (at : ℕ) (r : Option Line) (l : Line) → r ≡ Some l → (t : Bool) → ltb at (length s) ≡ t → r ≡ line_at s at → Found s at l
-on_some s at r l k true g q =
-    let q' : r ≡ Some (line_from s at (at + span in_line (drop at s))) = simp g at q in
-    let same : l ≡ line_from s at (at + span in_line (drop at s)) = cc in
-    rw same (found-from s at (ltb-true at (length s) g))
-on_some s at r l k false g q = absurd (never k (simp g at q))
-
-on_none : (s : List ℕ) (at : ℕ) (r : Option Line) → r ≡ None → (t : Bool) → ltb at (length s) ≡ t → r ≡ line_at s at → lines_of (drop at s) ≡ []
-on_none s at r k true g q = absurd (never (simp g at q) k)
-on_none s at r k false g q = ap lines_of (drop_of_length-le s (ltb-false at (length s) g))
-
--- what a caller that holds `r ≡ line_at s at` and r's case learns
-module _ (s : List ℕ) (at : ℕ) (r : Option Line) (q : r ≡ line_at s at) where
-  pub lines_none : r ≡ None → lines_of (drop at s) ≡ []
-  lines_none k = on_none s at r k (ltb at (length s)) refl q
-
-  module _ (l : Line) (k : r ≡ Some l) where
-    found : Found s at l
-    found = on_some s at r l k (ltb at (length s)) refl q
-
-    pub lines-some : lines_of (drop at s) ≡ part s l.start l.end ∷ lines_of (drop l.next.at s)
-    lines-some = found.lines
-
-    pub line-starts : l.start ≡ at
-    line-starts = found.starts
-
-    pub line-ordered : l.start ≤ l.end
-    line-ordered = found.ordered
-
-    pub line-within : l.end ≤ length s
-    line-within = found.within
-
-    -- the line has no byte 10
-    pub line_plain : all in_line (part s l.start l.end) ≡ true
-    line_plain = found.plain
-
-    -- the cursor moves, and stays within the text
-    pub line-moves : at < l.next.at
-    line-moves = found.moves
-
-    pub line-next-within : l.next.at ≤ length s
-    line-next-within = found.stays_within
-
-    -- so less of the text is left, for a loop over lines
-    pub line-less : length s - l.next.at < length s - at
-    line-less = omega (arith, line-moves, line-next-within)
+-- what stands behind the first line has the other lines
+pub lines-behind : (s : Bytes) → lines_of (drop (line_size s) s) ≡ drop 1 (lines_of s)
+unfolding Cut
+lines-behind [] = refl
+lines-behind (b ∷ bs) =
+    ap lines_of (drop_min (suc (span in_line (b ∷ bs))) (b ∷ bs)) ∙ sym (ap (drop 1) (cut (b ∷ bs) (omega arith)))
 
 -- ---- bytes of a line in front of others, as lists
 

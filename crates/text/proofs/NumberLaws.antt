@@ -5,9 +5,9 @@ use mathlib.Core.Path.{◌≡◌, refl, ap, ◌∙◌}
 use mathlib.Core.Bool.{Bool, true, false, cond, ◌&&◌}
 use mathlib.Core.List.{[], ◌∷◌}
 use native.Mathlib.Omega.{arith}
-use borrow.Author.Tests.{eq-eqb, ne_eqb, lt-ltb, ltb-true, leb-true}
+use borrow.Author.Tests.{ne_eqb, lt-ltb, ltb-true, leb-true}
 use lib.Dec.{leb, ltb}
-use lib.ListN.{length, get_or}
+use lib.ListN.{length}
 use Rattle.lists.specs.Parts.{Bytes}
 use Rattle.lists.specs.Tests.{all}
 use Rattle.lists.proofs.BoolLaws.{and_left, and_right}
@@ -21,23 +21,14 @@ unfolding number_of
 usize-digits f g r k e = e ∙ ap digits_of k
 
 -- the witness reader: a field of at most one byte, a longer one that begins with 0, another
-pub number_short : (f : Bytes) (r : Option ℕ) → length f < 2 → r ≡ number_of Transition f → r ≡ number_of Witness f
-unfolding number_of
-number_short [] r h e = e
-number_short (b ∷ []) r h e = e
-number_short (b ∷ c ∷ bs) r h e = absurd (omega arith)
+module _ (f : Bytes) (z : Bool) (q : z ≡ long_zero f) where
+  pub number-zero : z ≡ true → None ≡ number_of Witness f
+  unfolding number_of
+  number-zero h = rw (← q, h)
 
-pub number-zero : (f : Bytes) → 2 ≤ length f → get_or f 0 0 ≡ 48 → None ≡ number_of Witness f
-unfolding number_of
-number-zero [] h e = absurd (omega arith)
-number-zero (b ∷ []) h e = absurd (omega arith)
-number-zero (b ∷ c ∷ bs) h e = simp (eq-eqb b 48 e)
-
-pub number_long : (f : Bytes) (r : Option ℕ) → 2 ≤ length f → (get_or f 0 0 ≡ 48 → ⊥) → r ≡ number_of Transition f → r ≡ number_of Witness f
-unfolding number_of
-number_long [] r h n e = absurd (omega arith)
-number_long (b ∷ []) r h n e = absurd (omega arith)
-number_long (b ∷ c ∷ bs) r h n e = simp (ne_eqb b 48 n) e
+  pub number_long : z ≡ false → (r : Option ℕ) → r ≡ number_of Transition f → r ≡ number_of Witness f
+  unfolding number_of
+  number_long h r e = rw (← q, h) e
 
 pub number_transition : (reader : Reader) (f : Bytes) (r : Option ℕ) → reader ≡ Transition → r ≡ number_of Transition f → r ≡ number_of reader f
 number_transition reader f r k e = rw k e

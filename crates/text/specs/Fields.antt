@@ -1,11 +1,9 @@
--- The fields of a line (R2.2), as a list and by position.
-use Rattle.std.specs.Prelude.{ℕ, ◌+◌, List, [], ◌∷◌, Bool, cond, not, ◌&&◌, ◌||◌, length, drop, ltb, leb, eqb, Option, Some, None}
+-- The fields of a line (R2.2).
+use Rattle.std.specs.Prelude.{ℕ, List, [], ◌∷◌, Bool, cond, not, ◌&&◌, ◌||◌, leb, eqb}
 use Rattle.lists.specs.Quoted.{bytes}
 use Rattle.lists.specs.Parts.{Bytes}
-use Rattle.scan.specs.Spans.{span}
 use Rattle.scan.specs.Same.{same_bytes}
 use Rattle.text.specs.Lines.{cons_head}
-use Rattle.text.specs.declared.Field.{Field}
 
 -- R2.2: a blank, which stands between fields: the bytes 9, 10, 11, 12, 13 and 32
 abbrev pub is_blank : ℕ → Bool
@@ -45,11 +43,3 @@ is_header_word f = same_bytes f aag
 -- R9.4: a line's first field is the header's word
 abbrev pub has_header_word : Bytes → Bool
 has_header_word l = is_header_word (first_field l)
-
--- the field that begins at place a, where the line has one
-abbrev pub field_from : Bytes → ℕ → Option Field
-field_from l a = cond (ltb a (length l)) (Some (record { start = a; end = a + span in_field (drop a l) })) None
-
--- R2.2: the next field at or after a position of a line
-abbrev pub field_at : Bytes → ℕ → Option Field
-field_at l at = field_from l (at + span is_blank (drop at l))

@@ -1,8 +1,7 @@
--- The lines of a text (R2.1), as a list and by position.
-use Rattle.std.specs.Prelude.{ℕ, ◌+◌, List, [], ◌∷◌, cond, length, drop, ltb, eqb, Option, Some, None}
+-- The lines of a text (R2.1).
+use Rattle.std.specs.Prelude.{ℕ, suc, min, List, [], ◌∷◌, cond, length, eqb}
 use Rattle.lists.specs.Parts.{Bytes}
 use Rattle.scan.specs.Spans.{span, in_line}
-use Rattle.text.specs.declared.Line.{Line}
 
 -- byte b in front of the first of some lines or fields
 abbrev pub cons_head : ℕ → List Bytes → List Bytes
@@ -14,10 +13,6 @@ abbrev pub lines_of : Bytes → List Bytes
 lines_of [] = []
 lines_of (b ∷ bs) = cond (eqb b 10) ([] ∷ lines_of bs) (cons_head b (lines_of bs))
 
--- R2.1: the line from place a to place e, and the cursor behind the byte 10 at e, or at e where the text ends there
-abbrev pub line_from : Bytes → ℕ → ℕ → Line
-line_from s a e = record { start = a; end = e; next = record { at = cond (ltb e (length s)) (e + 1) e } }
-
--- R2.1: the line, or the rest of one, from a position on, and the cursor after it; none at or past the end of the text
-abbrev pub line_at : Bytes → ℕ → Option Line
-line_at s at = cond (ltb at (length s)) (Some (line_from s at (at + span in_line (drop at s)))) None
+-- R2.1: how many bytes the first line takes up, with the byte 10 that ends it; 0 where there is no line
+abbrev pub line_size : Bytes → ℕ
+line_size s = min (suc (span in_line s)) (length s)

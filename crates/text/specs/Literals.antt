@@ -1,18 +1,10 @@
 -- The numbers of a line (R1, R2), and `take_literal` (R2.3, R2.4).
-use Rattle.std.specs.Prelude.{ℕ, List, [], ◌∷◌, Option, Some, None}
-use Rattle.lists.specs.Parts.{Bytes, part}
+use Rattle.std.specs.Prelude.{ℕ, ◌+◌, List, [], ◌∷◌, drop, Option, Some, None}
+use Rattle.lists.specs.Parts.{Bytes}
 use Rattle.text.specs.declared.Reader.{Reader}
-use Rattle.text.specs.declared.Cursor.{Cursor}
-use Rattle.text.specs.declared.Line.{Line}
-use Rattle.text.specs.declared.Field.{Field}
-use Rattle.text.specs.declared.Taken.{Taken}
-use Rattle.text.specs.declared.Taken.TheVariants as taken
-use Rattle.text.specs.declared.Literal.{Literal}
 use Rattle.text.specs.Numbers.{number_of}
-use Rattle.text.specs.Lines.{line_at}
-use Rattle.text.specs.Fields.{fields_of, field_at}
-
--- ---- on lists
+use Rattle.text.specs.Lines.{lines_of, line_size}
+use Rattle.text.specs.Fields.{fields_of}
 
 -- a field's number in front of the numbers of the fields after it
 abbrev pub with_number : Option ℕ → Option (List ℕ) → Option (List ℕ)
@@ -36,27 +28,16 @@ one_of (Some (v ∷ w ∷ vs)) = None
 abbrev pub literal_of : Reader → Bytes → Option ℕ
 literal_of reader l = one_of (numbers_of reader (fields_of l))
 
--- ---- by position
+-- R2.4, R9.8: the literal of the first of some lines; none where it is no literal or no line is left
+abbrev pub first_literal : Reader → List Bytes → Option ℕ
+first_literal reader [] = None
+first_literal reader (l ∷ ls) = literal_of reader l
 
--- a field's number with the place where the field ends
-abbrev pub taken_number : Option ℕ → ℕ → Taken
-taken_number (Some v) e = taken.Got v e
-taken_number None e = taken.Unreadable
+-- R2.3: the literal of a line, if it is one, and the place of the next line
+pub record LineLiteral : Type 0 where
+  pub value : Option ℕ
+  pub next : ℕ
 
--- the number of the field that was found, if one was
-abbrev pub taken_field : Reader → Bytes → Option Field → Taken
-taken_field reader l (Some f) = taken_number (number_of reader (part l f.start f.end)) f.end
-taken_field reader l None = taken.Missing
-
--- R1, R2.2: the number that the next field at or after a position of a line writes, and the position after it
-abbrev pub taken_at : Reader → Bytes → ℕ → Taken
-taken_at reader l at = taken_field reader l (field_at l at)
-
--- R2.3, R2.4: the literal of the line that was found, if one was, with the cursor after the line
-abbrev pub literal_line : Reader → Bytes → Cursor → Option Line → Literal
-literal_line reader s c (Some l) = record { value = literal_of reader (part s l.start l.end); next = l.next }
-literal_line reader s c None = record { value = None; next = c }
-
--- R2.3, R2.4: what `take_literal` answers at a cursor: behind the line there, taken or refused; where no line is left, the same cursor
-abbrev pub literal_at : Reader → Bytes → Cursor → Literal
-literal_at reader s c = literal_line reader s c (line_at s c.at)
+-- R2.3, R2.4: what `take_literal` answers at a place: behind the line there, taken or refused; where no line is left, the same place
+abbrev pub literal_at : Reader → Bytes → ℕ → LineLiteral
+literal_at reader s at = record { value = first_literal reader (lines_of (drop at s)); next = at + line_size (drop at s) }

@@ -1,17 +1,17 @@
 // Lines and fields of a text of bytes (R2), and the checks of R9.3. The numbers (R1) are in `numbers`.
 #![tactic(auto)]
 
-ghost use Rattle.std.specs.Prelude.{ℕ, Bool, ◌≡◌, true, false, ◌+◌, ◌<◌, length, drop};
-ghost use Rattle.lists.specs.Parts.{part};
+ghost use Rattle.std.specs.Prelude.{ℕ, Bool, ◌≡◌, true};
 ghost use Rattle.scan.specs.Spans.{span};
-ghost use Rattle.text.specs.Lines.{line_at};
-ghost use Rattle.text.specs.Fields.{is_blank, in_field, field_from, field_at, first_field, is_header_word, has_header_word};
-ghost use Rattle.text.specs.Numbers.{long_zero};
-ghost use Rattle.text.specs.Literals.{taken_field, taken_at, literal_of, literal_at};
+ghost use Rattle.text.specs.Fields.{is_blank, in_field, first_field, is_header_word, has_header_word};
+ghost use Rattle.text.specs.Literals.{literal_of};
 ghost use Rattle.text.specs.Inner.PlainDigits.{IsRun, ReadsPlain};
+ghost use Rattle.text.specs.Inner.Fronts.{TakesLine, is_space, from_field, TakesField, NumberAtFront, TakesNumber, TakesLiteral};
 ghost use Rattle.text.specs.Texts.{limited, good_bytes, good_end, good_text};
 
 pub mod numbers;
+
+use scan::ByteTest;
 
 // Which of the two readers reads: they differ in the numbers and the texts that they take.
 #[derive(Clone, Copy)]
@@ -20,93 +20,66 @@ pub enum Reader {
     Witness,
 }
 
+// What was read at the front of a text or a line, and what is left of it.
 #[derive(Clone, Copy)]
-pub struct Cursor {
-    pub at: usize,
-}
-
-// Where a line stands, without its byte 10, and the place of the next line.
-#[derive(Clone, Copy)]
-pub struct Line {
-    pub start: usize,
-    pub end: usize,
-    pub next: Cursor,
-}
-
-// Where a field of a line stands.
-#[derive(Clone, Copy)]
-pub struct Field {
-    pub start: usize,
-    pub end: usize,
-}
-
-// What was read of a text, and the place after it.
-#[derive(Clone, Copy)]
-pub struct Parsed<T> {
+pub struct Parsed<'a, T> {
     pub value: T,
-    pub next: Cursor,
+    pub rest: &'a [u8],
 }
 
-// A number of a line, and where to go on in the line.
+// The number of the first field of a line, and what is left of the line.
 #[derive(Clone, Copy)]
-pub enum Taken {
-    Got { value: u64, next: usize },
+pub enum Taken<'a> {
+    Got { value: u64, rest: &'a [u8] },
     Unreadable,
     Missing,
 }
 
-// Where digits of a line end, and the number that they write.
+// How many digits are at a front, and the number that they write.
 #[derive(Clone, Copy)]
 struct Run {
-    end: usize,
+    size: usize,
     value: u64,
 }
 
-// The number of a line that has one and nothing else; and the place of the next line, whether or not the line has.
-#[derive(Clone, Copy)]
-pub struct Literal {
-    pub value: Option<u64>,
-    pub next: Cursor,
-}
-
-// The line at a cursor, without its byte 10.
-pub fn next_line(s: &[u8], cursor: Cursor) -> Option<Line>
-    ensures { result ≡ line_at s.now cursor.at }
+// The first line of a text, without its byte 10, and the text behind it.
+pub fn next_line(s: &[u8]) -> Option<Parsed<'_, &[u8]>>
+    ensures { TakesLine s.now result }
 {
-    let start = cursor.at;
-    if s.len() <= start {
+    if s.is_empty() {
         return None;
     }
-    let end = scan::line_end(s, start);
-    let at = if end < s.len() { end + 1 } else { end };
-    Some(Line {
-        start,
-        end,
-        next: Cursor { at },
+    let (value, others) = s.split_at(scan::line_length(s));
+    Some(Parsed {
+        value,
+        rest: &others[others.len().min(1)..],
     })
 }
 
-// A test of bytes.
-pub trait ByteTest {
-    ghost passes: { ℕ → Bool };
-
-    fn passes(b: u8) -> bool
-        ensures { result ≡ passes b };
-}
-
 // A byte between fields.
-struct Blank {}
+struct Blank;
 
 impl ByteTest for Blank {
     ghost passes = { is_blank };
 
     fn passes(b: u8) -> bool {
-        b <= 32 && (b == 32 || (9 <= b && b <= 13))
+        b == 32 || (9 <= b && b <= 13)
+    }
+}
+
+// The byte 32.
+struct Space;
+
+impl ByteTest for Space {
+    ghost passes = { is_space };
+
+    fn passes(b: u8) -> bool {
+        b == 32
     }
 }
 
 // A byte of a field.
-struct InField {}
+struct InField;
 
 impl ByteTest for InField {
     ghost passes = { in_field };
@@ -116,38 +89,34 @@ impl ByteTest for InField {
     }
 }
 
-// Where the bytes that pass end, from a position on; a position past the end stays.
-pub fn passing_end<T: ByteTest>(l: &[u8], at: usize) -> usize
-    ensures { result ≡ at + span T.passes (drop at l.now) }
+// A line from its first field on. Nearly all blanks are spaces, for which one test a byte is enough.
+fn from_field(l: &[u8]) -> &[u8]
+    ensures { result.now ≡ from_field l.now }
 {
-    for i in at..l.len() {
-        if !T::passes(l[i]) {
-            return i;
-        }
-    }
-    at.max(l.len())
+    let others = &l[scan::passing::<Space>(l)..];
+    &others[scan::passing::<Blank>(others)..]
 }
 
-// The next field at or after a position of a line.
-pub fn next_field(l: &[u8], at: usize) -> Option<Field>
-    ensures { result ≡ field_at l.now at }
+// The first field of a line, and the line behind it.
+pub fn next_field(l: &[u8]) -> Option<Parsed<'_, &[u8]>>
+    ensures { TakesField l.now result }
 {
-    let start = passing_end::<Blank>(l, at);
-    if l.len() <= start {
+    let front = from_field(l);
+    if front.is_empty() {
         return None;
     }
-    let end = passing_end::<InField>(l, start);
-    Some(Field { start, end })
+    let (value, rest) = front.split_at(scan::passing::<InField>(front));
+    Some(Parsed { value, rest })
 }
 
 // The first field of a line; empty where it has none.
 pub fn first_field(l: &[u8]) -> &[u8]
     ensures { result.now ≡ first_field l.now }
 {
-    let Some(field) = next_field(l, 0) else {
+    let Some(field) = next_field(l) else {
         return &l[..0];
     };
-    &l[field.start..field.end]
+    field.value
 }
 
 // Whether a field is the header word.
@@ -164,127 +133,114 @@ pub fn has_header_word(l: &[u8]) -> bool
     is_header_word(first_field(l))
 }
 
-// The number of the field that begins at a place of a line: the field's end first, and then its bytes.
-fn any_number(reader: Reader, l: &[u8], start: usize) -> Taken
-    requires { start < length l.now }
-    ensures { result ≡ taken_field reader l.now (field_from l.now start) }
+// The number of the field at the front of a line, in whatever form: the field's end first, and then its bytes.
+fn any_number(reader: Reader, l: &[u8]) -> Taken<'_>
+    ensures { NumberAtFront reader l.now result }
 {
-    let end = passing_end::<InField>(l, start);
-    let Some(value) = numbers::parse_for(reader, &l[start..end]) else {
-        return Taken::Unreadable;
-    };
-    Taken::Got { value, next: end }
+    let (field, rest) = l.split_at(scan::passing::<InField>(l));
+    match numbers::parse_for(reader, field) {
+        Some(value) => Taken::Got { value, rest },
+        None => Taken::Unreadable,
+    }
 }
 
-// The digits from a place on and the number that they write: at most 18 of them, so that no digit needs a test for room.
-fn digits_run(l: &[u8], at: usize) -> Run
-    ensures { IsRun l.now at result.end result.value }
+// The digits at the front of a line or a text and the number that they write: at most 18 of them, so that no digit needs a test for room.
+fn digits_run(l: &[u8]) -> Run
+    ensures { IsRun l.now result.size result.value }
 {
-    let last = at + l.len().saturating_sub(at).min(18);
+    let most = l.len().min(18);
     let mut value = 0;
-    for i in at..last {
+    for i in 0..most {
         let b = l[i];
         if b < 48 || 57 < b {
-            return Run { end: i, value };
+            return Run { size: i, value };
         }
         value = value * 10 + (u64::from(b) - 48);
     }
-    Run { end: last, value }
+    Run { size: most, value }
 }
 
-// Whether the bytes between two places begin with '0' and are more than one. Zeros in front may be many, and the readers differ on
-// them, so they are left to the longer way.
-fn long_zero(l: &[u8], at: usize, end: usize) -> bool
-    ensures { result ≡ false → long_zero (part l.now at end) ≡ false }
+// The number that plain digits at the front of a text write, where the byte `stop` follows them, and the text behind that byte: one
+// pass over the bytes, for texts in the form in which circuits are printed. Anything else is left to the longer way.
+pub fn plain_number(s: &[u8], stop: u8) -> Option<Parsed<'_, u64>>
+    ensures { ReadsPlain s.now stop result }
 {
-    if l.len() <= at {
-        return false;
-    }
-    l[at] == 48 && at + 1 < end
-}
-
-// The number that plain digits from a place on write, where the byte `stop` follows them, and the place behind that byte: one pass
-// over the bytes, for texts in the form in which circuits are printed. Anything else is left to the longer way.
-pub fn plain_number(s: &[u8], cursor: Cursor, stop: u8) -> Option<Parsed<u64>>
-    ensures { ReadsPlain s.now cursor.at stop result }
-{
-    let at = cursor.at;
-    let run = digits_run(s, at);
-    let end = run.end;
-    if s.len() <= end || end <= at || long_zero(s, at, end) || s[end] != stop {
+    let Run { size, value } = digits_run(s);
+    let (digits, others) = s.split_at(size);
+    let [b, rest @ ..] = others else {
+        return None;
+    };
+    if size == 0 || numbers::long_zero(digits) || *b != stop {
         return None;
     }
-    Some(Parsed {
-        value: run.value,
-        next: Cursor { at: end + 1 },
-    })
+    Some(Parsed { value, rest })
 }
 
-// Whether no field goes on at a place of a line.
-fn ends_field(l: &[u8], at: usize) -> bool
-    ensures { result ≡ true → at + span in_field (drop at l.now) ≡ at }
+// Whether no field goes on at the front of a line.
+fn ends_field(l: &[u8]) -> bool
+    ensures { result ≡ true → span in_field l.now ≡ 0 }
 {
-    l.len() <= at || Blank::passes(l[at])
+    match l {
+        [b, ..] => Blank::passes(*b),
+        [] => true,
+    }
 }
 
-// The number of the next field at or after a position of a line. Most fields are short and plain digits, which are read while
-// their end is looked for.
-pub fn next_number(reader: Reader, l: &[u8], at: usize) -> Taken
-    ensures { result ≡ taken_at reader l.now at }
+// The number of the first field of a line. Most fields are short and plain digits, which are read while their end is looked for.
+pub fn next_number(reader: Reader, l: &[u8]) -> Taken<'_>
+    ensures { TakesNumber reader l.now result }
 {
-    let start = passing_end::<Blank>(l, at);
-    if l.len() <= start {
+    let front = from_field(l);
+    if front.is_empty() {
         return Taken::Missing;
     }
-    let run = digits_run(l, start);
-    if long_zero(l, start, run.end) || !ends_field(l, run.end) {
-        return any_number(reader, l, start);
+    let Run { size, value } = digits_run(front);
+    let (digits, rest) = front.split_at(size);
+    if numbers::long_zero(digits) || !ends_field(rest) {
+        return any_number(reader, front);
     }
-    Taken::Got {
-        value: run.value,
-        next: run.end,
-    }
+    Taken::Got { value, rest }
 }
 
 // The number of a line that has one and nothing else.
 pub fn line_literal(reader: Reader, l: &[u8]) -> Option<u64>
     ensures { result ≡ literal_of reader l.now }
 {
-    let Taken::Got { value, next } = next_number(reader, l, 0) else {
+    let Taken::Got { value, rest } = next_number(reader, l) else {
         return None;
     };
-    if next_field(l, next).is_some() {
+    if next_field(rest).is_some() {
         return None;
     }
     Some(value)
 }
 
-// The number of the line at a cursor, which has nothing else, in whatever form; the line is passed also when it is refused.
-fn any_literal(reader: Reader, s: &[u8], cursor: Cursor) -> Literal
-    ensures { result ≡ literal_at reader s.now cursor }
+// The number of the first line, if it has one and nothing else, in whatever form; the line is passed also when it is refused.
+fn any_literal(reader: Reader, s: &[u8]) -> Parsed<'_, Option<u64>>
+    ensures { TakesLiteral reader s.now result }
 {
-    let Some(line) = next_line(s, cursor) else {
-        return Literal {
+    let Some(line) = next_line(s) else {
+        return Parsed {
             value: None,
-            next: cursor,
+            rest: s,
         };
     };
-    Literal {
-        value: line_literal(reader, &s[line.start..line.end]),
-        next: line.next,
+    Parsed {
+        value: line_literal(reader, line.value),
+        rest: line.rest,
     }
 }
 
-// The number of the line at a cursor: nearly always plain digits alone.
-pub fn take_literal(reader: Reader, s: &[u8], cursor: Cursor) -> Literal
-    ensures { result ≡ literal_at reader s.now cursor }
+// The number of the first line, if it has one and nothing else: nearly always plain digits alone.
+pub fn take_literal(reader: Reader, s: &[u8]) -> Parsed<'_, Option<u64>>
+    ensures { TakesLiteral reader s.now result }
 {
-    let Some(number) = plain_number(s, cursor, 10) else {
-        return any_literal(reader, s, cursor);
+    let Some(number) = plain_number(s, 10) else {
+        return any_literal(reader, s);
     };
-    Literal {
+    Parsed {
         value: Some(number.value),
-        next: number.next,
+        rest: number.rest,
     }
 }
 

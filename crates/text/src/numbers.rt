@@ -1,8 +1,21 @@
 // The number that a field of bytes writes (R1).
-ghost use Rattle.std.specs.Prelude.{◌≡◌, drop};
-ghost use Rattle.text.specs.Numbers.{digits_after, digits_of, unsigned, number_of};
+ghost use Rattle.std.specs.Prelude.{ℕ, Bool, ◌≡◌};
+ghost use Rattle.text.specs.Numbers.{digits_after, digits_of, unsigned, long_zero, number_of};
+ghost use Rattle.text.specs.Inner.PlainDigits.{is_zero};
 
 use super::Reader;
+use scan::ByteTest;
+
+// The digit 0.
+struct Zero;
+
+impl ByteTest for Zero {
+    ghost passes = { is_zero };
+
+    fn passes(b: u8) -> bool {
+        b == b'0'
+    }
+}
 
 // A field without the zeros in front of its digits, where it is long.
 fn without_zeros(f: &[u8]) -> &[u8]
@@ -11,7 +24,7 @@ fn without_zeros(f: &[u8]) -> &[u8]
     if f.len() <= 32 {
         return f;
     }
-    &f[scan::run_end(f, 0, 48, 48)..]
+    &f[scan::passing::<Zero>(f)..]
 }
 
 // The number of a field of digits.
@@ -42,6 +55,17 @@ fn unsigned(f: &[u8]) -> &[u8]
     }
 }
 
+// Whether a field begins with '0' and has more bytes (R1.3). Zeros in front may be many, and the readers differ on them, so the short
+// ways leave such a field to the longer one.
+pub fn long_zero(f: &[u8]) -> bool
+    ensures { result ≡ long_zero f.now }
+{
+    match f {
+        [b'0', _, ..] => true,
+        _ => false,
+    }
+}
+
 // The transition reader's number (R1.4).
 pub fn parse_usize(f: &[u8]) -> Option<u64>
     ensures { result ≡ number_of Reader.Transition f.now }
@@ -53,10 +77,7 @@ pub fn parse_usize(f: &[u8]) -> Option<u64>
 pub fn parse_number(f: &[u8]) -> Option<u64>
     ensures { result ≡ number_of Reader.Witness f.now }
 {
-    if f.len() < 2 {
-        return parse_usize(f);
-    }
-    if f[0] == b'0' {
+    if long_zero(f) {
         return None;
     }
     parse_usize(f)

@@ -1,15 +1,13 @@
 -- The two words of an input or a latch stored among those of all, and what they say of its name.
-use Rattle.std.specs.Prelude.{Some, None}
-use Rattle.std.specs.declared.option.Option as option
 use Rattle.std.proofs.Common.{◌⊎◌, inl, inr}
-use Prim.Native.Nat.{ℕ, ◌+◌, ◌-◌, ◌*◌, ◌≤◌, ◌<◌, min}
+use Prim.Native.Nat.{ℕ, suc, ◌+◌, ◌-◌, ◌*◌, ◌≤◌, ◌<◌, min}
 use mathlib.Core.Bool.{true, false}
 use mathlib.Core.List.{List, [], ◌∷◌}
 use mathlib.Core.Option.{Option, some}
 use mathlib.Core.Path.{◌≡◌, refl, sym, ap, ◌∙◌}
 use native.Mathlib.Omega.{arith}
 use borrow.Author.Tests.{ne_eqb, le-leb}
-use lib.ListN.{length, drop}
+use lib.ListN.{length, drop, length-drop}
 use Rattle.lists.specs.Answer.{got}
 use Rattle.lists.specs.Parts.{Bytes, part, put}
 use Rattle.lists.specs.Words.{pairs_of}
@@ -18,12 +16,11 @@ use Rattle.lists.proofs.WordLaws.{pairs-put}
 use Rattle.witness_text.specs.declared.AagCounts.{AagCounts}
 use Rattle.witness_text.specs.declared.Kind.{Kind}
 use Rattle.witness_text.specs.declared.Kind.TheVariants as kind
-use Rattle.witness_text.specs.Symbols.{count_of, symbol_of}
-use Rattle.witness_text.specs.Inner.Takes.{symbol_answer}
+use Rattle.witness_text.specs.Symbols.{Symbol, count_of, before_space, symbol_of}
 use Rattle.witness_text.specs.declared.SymbolLine.{SymbolLine}
-use Rattle.witness_text.proofs.SymbolLaws.{symbol-below}
+use Rattle.witness_text.proofs.SymbolLaws.{symbol-below, symbol-name}
 use Rattle.witness_load.specs.Inner.Loaded.{name_from}
-use Rattle.witness_load.specs.Inner.Loading.{leaf_words, with_words, with_name, NamesLine}
+use Rattle.witness_load.specs.Inner.Loading.{leaf_words, with_words, with_name, StandsAt, Named}
 
 -- ---- store_leaf
 
@@ -64,7 +61,7 @@ module _ (n : AagCounts) (k : ℕ) (x y : ℕ) (o : List ℕ) (g : length o ≡ 
 
 -- ---- name_line
 
-module _ (s : Bytes) (a e : ℕ) (n : AagCounts) (h : 0 < a) (g : a ≤ e) (f : e ≤ length s) where
+module _ (s : Bytes) (a e : ℕ) (h : 0 < a) (g : a ≤ e) (f : e ≤ length s) where
   -- the words of a name that begins at a place of the line
   said : (name b : ℕ) → b ≡ min (a + name) e → name_from s b (e - b) ≡ some (some (drop name (part s a e)))
   said name b q =
@@ -81,34 +78,33 @@ module _ (s : Bytes) (a e : ℕ) (n : AagCounts) (h : 0 < a) (g : a ≤ e) (f : 
       ∙ ap (λ (j : ℕ). drop j (part s a e)) least
       ∙ drop_min name (part s a e)))
 
-module _ (s : Bytes) (a e : ℕ) (n : AagCounts) (o : List ℕ) (x : option.Option SymbolLine) (q : symbol_answer (part s a e) x ≡ symbol_of n (part s a e)) where
-  pub line_refused : x ≡ None → NamesLine s (part s a e) n o o false
-  line_refused u = rw u at (sym q)
+module _ (l : Bytes) (n : AagCounts) (y : SymbolLine) (named : got (record { kind = y.kind; index = y.index; name = y.name.now }) ≡ symbol_of n l) where
+  abbrev symbol : Symbol
+  symbol = record { kind = y.kind; index = y.index; name = y.name.now }
 
-  module _ (y : SymbolLine) (u : x ≡ Some y) where
-    abbrev z : Kind
-    z = y.kind
+  pub line-below : y.index < count_of n y.kind
+  line-below = symbol-below n l symbol (sym named)
 
-    abbrev k : ℕ
-    k = y.index
+  pub name-within : length y.name.now ≤ length l
+  name-within = omega (arith, ap length (symbol-name n l symbol (sym named)), length-drop (suc (before_space l)) l)
 
-    abbrev name : ℕ
-    name = y.name
-
-    named : symbol_of n (part s a e) ≡ got (record { kind = z; index = k; name = drop name (part s a e) })
-    named = rw u at (sym q)
-
-    pub line-below : k < count_of n z
-    line-below = symbol-below n (part s a e) (record { kind = z; index = k; name = drop name (part s a e) }) named
-
-    pub line-named : 0 < a → a ≤ e → e ≤ length s → length o ≡ leaf_words n → (b : ℕ) → b ≡ min (a + name) e
-        → (o' : List ℕ) → o' ≡ with_words n z k (b ∷ (e - b) ∷ []) o → NamesLine s (part s a e) n o o' true
-    line-named h g f w b j o' v =
+  module _ (a : ℕ) (o : List ℕ) (w : length o ≡ leaf_words n) (b : ℕ) (j : b ≡ a + (length l - length y.name.now)) (o' : List ℕ)
+      (v : o' ≡ with_words n y.kind y.index (b ∷ length y.name.now ∷ []) o) where
+    pub line-named : (s : Bytes) → StandsAt s l a → Named s l n o o'
+    line-named s t =
+        let name : ℕ = suc (before_space l) in
+        let is : y.name.now ≡ drop name l = sym (symbol-name n l symbol (sym named)) in
+        let size : length y.name.now ≡ length l - name = ap length is ∙ length-drop name l in
+        let place : b ≡ min (a + name) (a + length l) = omega (arith, size) in
+        let rest : a + length l - b ≡ length y.name.now = omega (arith, size) in
+        let at : name_from s b (a + length l - b) ≡ some (some (drop name (part s a (a + length l)))) =
+            said s a (a + length l) t.past (omega arith) t.fits name b place in
+        let told : name_from s b (length y.name.now) ≡ some (some y.name.now) = rw (rest, t.is, ← is) at at in
         record {
-          symbol = record { kind = z; index = k; name = drop name (part s a e) };
-          is = named;
-          same = ap length v ∙ same_length n k b (e - b) o w z line-below;
+          symbol = symbol;
+          is = sym named;
+          same = ap length v ∙ same_length n y.index b (length y.name.now) o w y.kind line-below;
           names =
               ap (pairs_of (name_from s)) v
-              ∙ pairs-stored n k b (e - b) o w (name_from s) z line-below (some (some (drop name (part s a e)))) (said s a e n h g f name b j);
+              ∙ pairs-stored n y.index b (length y.name.now) o w (name_from s) y.kind line-below (some (some y.name.now)) told;
         }

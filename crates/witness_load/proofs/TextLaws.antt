@@ -1,34 +1,31 @@
 -- What an accepted text says of its sections and their words, and the call that loads them.
-use Rattle.std.specs.Prelude.{Some, None}
-use Rattle.std.specs.declared.option.Option as option
 use Prim.Native.Nat.{ℕ, zero, suc, ◌+◌, ◌*◌, ◌≤◌, ◌<◌}
 use mathlib.Core.Bool.{Bool}
 use mathlib.Core.List.{List, [], ◌∷◌, ◌++◌, map, append_assoc}
 use mathlib.Core.Option.{Option, some}
 use mathlib.Core.Path.{◌≡◌, refl, sym, ap, ◌∙◌}
 use native.Mathlib.Omega.{arith}
-use lib.ListN.{length, take, drop, length-append}
+use lib.ListN.{length, take, drop, length-append, length-drop}
 use lib.Seq.{drop-drop, length-take-le}
-use Rattle.lists.specs.Answer.{got}
+use Rattle.lists.specs.Answer.{got, refused}
 use Rattle.lists.specs.Parts.{Bytes, put, front}
 use Rattle.lists.specs.Words.{words_of}
 use Rattle.lists.proofs.AnswerLaws.{got-refused}
 use Rattle.lists.proofs.PartLaws.{put-drop}
 use Rattle.lists.proofs.WordLaws.{words-length}
-use Rattle.text.specs.declared.Cursor.{Cursor}
 use Rattle.text.specs.declared.Reader.TheVariants.{Witness}
 use Rattle.text.specs.Lines.{lines_of}
+use Rattle.text.specs.Inner.Fronts.{Behind}
+use Rattle.text.proofs.LineLaws.{behind_then}
 use Rattle.text.specs.Texts.{limited}
 use Rattle.aiger.proofs.SectionLaws.{section_shorter}
 use Rattle.circuit_lines.specs.SectionLines.{literal_line, gate_line}
-use Rattle.circuit_lines.specs.Inner.Takes.{lines_from}
 use Rattle.witness_text.specs.declared.AagCounts.{AagCounts}
-use Rattle.text.specs.declared.Parsed.{Parsed}
 use Rattle.witness_text.specs.declared.Latch.{Latch}
 use Rattle.witness_text.specs.Header.{header_of}
 use Rattle.witness_text.specs.LatchLines.{latch_line}
 use Rattle.witness_text.specs.Symbols.{Symbol}
-use Rattle.witness_text.specs.Inner.Takes.{Headed, TakesCounts}
+use Rattle.witness_text.specs.Inner.Takes.{Headed}
 use Rattle.witness_read.specs.Sections.{Sections, names_in}
 use Rattle.witness_read.specs.Names.{is_latch, symbols_of, name_of, names_of}
 use Rattle.witness_read.specs.Order.{Body, body_of}
@@ -95,32 +92,35 @@ body_shorter n ls d p =
       section_shorter (gate_line Witness) n.gates p.after-constraints d.gates d.rest p.gates,
     )
 
--- a cursor with fewer lines after it than the text has is past place 0
-past : (s : Bytes) (k : ℕ) (ls : List Bytes) → ls ≡ lines_of s → (n : AagCounts) → header_of ls ≡ got n → length (lines_of (drop k s)) ≤ length (drop 1 ls) → 0 < k
-past s zero [] g n e h = got-refused e refl
+-- a text behind s that has fewer lines than s is shorter
+past : (s : Bytes) (k : ℕ) (ls : List Bytes) → ls ≡ lines_of s → (n : AagCounts) → header_of ls ≡ got n → length (lines_of (drop k s)) ≤ length (drop 1 ls)
+    → length (drop k s) < length s
+past s k [] g n e h = got-refused e refl
 past s zero (l ∷ ls) g n e h = absurd (omega (arith, ap length g))
-past s (suc k) ls g n e h = omega arith
+past [] (suc k) (l ∷ ls) g n e h = absurd (omega (arith, ap length g))
+past (b ∷ bs) (suc k) (l ∷ ls) g n e h = omega (arith, length-drop k bs)
 
 module _ (s : Bytes) (n : AagCounts) (w₀ : List ℕ) where
   pub load-room : Loadable s n w₀ → leaf_words n + body_room n ≤ length w₀
   load-room a = rw (a.accepted.counts, ← words-counted a.sections) a.accepted.fits
 
-  module _ (r : option.Option (Parsed AagCounts)) (q : TakesCounts s r) where
-    pub load_no_header : r ≡ None → (w : List ℕ) → LoadsText s n w₀ w
-    load_no_header u w x a = got-refused (text_taken s n w₀ x a).1.heads (rw u at q)
+  pub load_no_header : header_of (lines_of s) ≡ refused 4 → (w : List ℕ) → LoadsText s n w₀ w
+  load_no_header u w x a = got-refused (text_taken s n w₀ x a).1.heads u
 
-    module _ (h : Parsed AagCounts) (u : r ≡ Some h) (w₁ : List ℕ) (c : Cursor) (b : LoadsBody s h.next n w₀ (leaf_words n) w₁ c) where
-      headed : Headed s h.value h.next
-      headed = rw u at q
+  module _ (m : AagCounts) (r : Bytes) (headed : Headed s m r) (c : Bytes) (k : Behind r c) where
+    pub load-behind : Behind s c
+    load-behind = behind_then s r c headed.behind k
 
-      loaded : (x : Sections) (k : Taken s n x) → (w₁ ≡ put w₀ (leaf_words n) (body_words k.1.body)) × (lines_from s c ≡ k.1.body.rest)
+    module _ (w₁ : List ℕ) (b : LoadsBody r n w₀ (leaf_words n) w₁ c) where
+      loaded : (x : Sections) (k : Taken s n x) → (w₁ ≡ put w₀ (leaf_words n) (body_words k.1.body)) × (lines_of c ≡ k.1.body.rest)
       loaded x k = b k.1.body (ap (body_of n) (sym headed.rest) ∙ k.1.takes)
 
-      pub load_past : Loadable s n w₀ → 0 < c.at
+      pub load_past : Loadable s n w₀ → length c < length s
       load_past a =
           let k = text_taken s n w₀ a.sections a.accepted in
-          past s c.at (lines_of s) refl n k.1.heads
-          (omega (arith, ap length (loaded a.sections k).1, body_shorter n (drop 1 (lines_of s)) k.1.body (body-parts n (drop 1 (lines_of s)) k.1.body k.1.takes)))
+          let fewer : length (lines_of c) ≤ length (drop 1 (lines_of s)) =
+              omega (arith, ap length (loaded a.sections k).1, body_shorter n (drop 1 (lines_of s)) k.1.body (body-parts n (drop 1 (lines_of s)) k.1.body k.1.takes)) in
+          rw load-behind.is (past s load-behind.size (lines_of s) refl n k.1.heads (rw load-behind.is at fewer))
 
       pub load-done : (v : List ℕ) → length v ≡ length (take (leaf_words n) w₁) → length w₁ ≡ length w₀ → LoadsNames s c n v → LoadsText s n w₀ (v ++ drop (leaf_words n) w₁)
       load-done v e f g x a =

@@ -2,34 +2,36 @@
 #![tactic(auto)]
 
 ghost use Rattle.std.specs.Prelude.{ℕ, List, refl, true, [], ◌∷◌, ◌≡◌, ◌+◌, ◌*◌, ◌≤◌, ◌<◌, leb, length, drop};
-ghost use Rattle.lists.specs.Parts.{part, put, zeros};
+ghost use Rattle.lists.specs.Parts.{Bytes, put, zeros};
 ghost use Rattle.text.specs.declared.Reader.TheVariants.{Witness};
-ghost use Rattle.circuit_lines.specs.Inner.Takes.{lines_from};
+ghost use Rattle.text.specs.Lines.{lines_of};
+ghost use Rattle.text.specs.Inner.Fronts.{Behind};
 ghost use Rattle.circuit_lines.specs.SectionLines.{literal_line};
 ghost use Rattle.text.specs.Texts.{limited};
 ghost use Rattle.witness_text.specs.Header.{counted};
 ghost use Rattle.witness_text.specs.Symbols.{count_of};
 ghost use Rattle.witness_read.specs.Reading.{read_aag};
 ghost use Rattle.witness_load.specs.Inner.Loaded.{operand_words, Loads};
-ghost use Rattle.witness_load.specs.Inner.Loading.{stored_words, literal_word, LoadsSection, rest_room, LoadsRest, body_room, LoadsBody, leaf_words, with_words, NamesLine, LoadsNames, Loadable, LoadsText};
+ghost use Rattle.witness_load.specs.Inner.Loading.{stored_words, literal_word, LoadsSection, rest_room, LoadsRest, body_room, LoadsBody, leaf_words, with_words, StandsAt, NamesLine, LoadsNames, Loadable, LoadsText};
 
 use aiger::{Gate, Refusal};
 use circuit_lines::{GateLine, LiteralLine, TakeLine};
-use text::{Cursor, Reader};
+use text::Reader;
 use witness_text::{AagCounts, Kind, Latch, LatchLine};
 
-// The cursor after n lines, or at the end where there are fewer.
-fn pass_lines(s: &[u8], cursor: Cursor, n: usize) -> Cursor
-    ensures { lines_from s.now result ≡ drop n (lines_from s.now cursor) }
+// The text behind the first n lines, or behind all where there are fewer.
+fn pass_lines(s: &[u8], n: usize) -> &[u8]
+    ensures lines { lines_of result.now ≡ drop n (lines_of s.now) }
+    ensures behind { Behind s.now result.now }
 {
-    let mut p = cursor;
+    let mut left = s;
     for i in 0..n {
-        let Some(line) = text::next_line(s, p) else {
-            return p;
+        let Some(line) = text::next_line(left) else {
+            return left;
         };
-        p = line.next;
+        left = line.rest;
     }
-    p
+    left
 }
 
 fn store_pair(out: &mut [u64], at: usize, x: u64, y: u64)
@@ -72,68 +74,69 @@ impl PairLine for GateLine {
     }
 }
 
-// The pairs of the n lines from a cursor on, stored from a place on.
-fn load_pairs<K: PairLine>(
+// The pairs of the first n lines, stored from a place on, and the text behind them.
+fn load_pairs<'a, K: PairLine>(
     kind: K,
-    s: &[u8],
-    cursor: Cursor,
+    s: &'a [u8],
     n: usize,
     out: &mut [u64],
     at: usize,
-) -> Option<Cursor>
+) -> Option<&'a [u8]>
     requires { at + 2 * n ≤ length out.old }
-    ensures { LoadsSection (K.item kind) K.words s.now cursor n out.old at out.new result }
+    ensures { LoadsSection (K.item kind) K.words s.now n out.old at out.new result }
 {
-    let mut p = cursor;
+    let mut left = s;
     for i in 0..n {
-        let line = kind.take(s, p)?;
+        let line = kind.take(left)?;
         let (x, y) = K::pair(line.value);
         store_pair(out, at + 2 * i, x, y);
-        p = line.next;
+        left = line.rest;
     }
-    Some(p)
+    Some(left)
 }
 
-// The literals of the n lines from a cursor on, stored from a place on.
-fn load_literals(s: &[u8], cursor: Cursor, n: usize, out: &mut [u64], at: usize) -> Option<Cursor>
+// The literals of the first n lines, stored from a place on, and the text behind them.
+fn load_literals<'a>(s: &'a [u8], n: usize, out: &mut [u64], at: usize) -> Option<&'a [u8]>
     requires { at + n ≤ length out.old }
-    ensures { LoadsSection (literal_line Witness) literal_word s.now cursor n out.old at out.new result }
+    ensures { LoadsSection (literal_line Witness) literal_word s.now n out.old at out.new result }
 {
     let end = at + n;
     let kind = LiteralLine {
         reader: Reader::Witness,
     };
-    circuit_lines::take_lines(kind, s, cursor, &mut out[at..end])
+    circuit_lines::take_lines(kind, s, &mut out[at..end])
 }
 
-// Outputs, bads, constraints and gates from a cursor on, stored from a place on, and the cursor after them.
-fn load_rest(s: &[u8], cursor: Cursor, counts: AagCounts, out: &mut [u64], at: usize) -> Cursor
+// Outputs, bads, constraints and gates, stored from a place on, and the text behind them.
+fn load_rest<'a>(s: &'a [u8], counts: AagCounts, out: &mut [u64], at: usize) -> &'a [u8]
     requires { at + rest_room counts ≤ length out.old }
-    ensures { LoadsRest s.now cursor counts out.old at out.new result }
+    ensures words { LoadsRest s.now counts out.old at out.new result.now }
+    ensures behind { Behind s.now result.now }
 {
     let count = counts.outputs + counts.bads + counts.constraints;
-    let Some(gates) = load_literals(s, cursor, count, out, at) else {
-        return cursor;
+    let Some(gates) = load_literals(s, count, out, at) else {
+        return s;
     };
     let kind = GateLine {
         reader: Reader::Witness,
     };
-    let Some(end) = load_pairs(kind, s, gates, counts.gates, out, at + count) else {
-        return cursor;
+    let Some(rest) = load_pairs(kind, gates, counts.gates, out, at + count) else {
+        return s;
     };
-    end
+    rest
 }
 
-// The literals of all sections but the inputs from a cursor on, stored from a place on, and the cursor after them.
-fn load_body(s: &[u8], cursor: Cursor, counts: AagCounts, out: &mut [u64], at: usize) -> Cursor
+// The literals of all sections but the inputs, stored from a place on, and the text behind the sections.
+fn load_body<'a>(s: &'a [u8], counts: AagCounts, out: &mut [u64], at: usize) -> &'a [u8]
     requires { at + body_room counts ≤ length out.old }
-    ensures { LoadsBody s.now cursor counts out.old at out.new result }
+    ensures words { LoadsBody s.now counts out.old at out.new result.now }
+    ensures behind { Behind s.now result.now }
 {
-    let latches = pass_lines(s, cursor, counts.inputs);
-    let Some(rest) = load_pairs(LatchLine {}, s, latches, counts.latches, out, at) else {
-        return cursor;
+    let latches = pass_lines(s, counts.inputs);
+    let Some(rest) = load_pairs(LatchLine {}, latches, counts.latches, out, at) else {
+        return s;
     };
-    load_rest(s, rest, counts, out, at + 2 * counts.latches)
+    load_rest(rest, counts, out, at + 2 * counts.latches)
 }
 
 // Two words of an input or a latch; the other kinds have none.
@@ -148,51 +151,51 @@ fn store_leaf(counts: AagCounts, kind: Kind, index: usize, x: u64, y: u64, out: 
     }
 }
 
-// Stores where the name of a symbol line stands; the line is from one place of the text to another. False where it is refused.
-fn name_line(s: &[u8], start: usize, end: usize, counts: AagCounts, out: &mut [u64]) -> bool
-    requires { (0 < start) × (start ≤ end) × (end ≤ length s.now) × (length out.old ≡ leaf_words counts) }
-    ensures { NamesLine s.now (part s.now start end) counts out.old out.new result }
+// Stores where the name of a symbol line stands, which begins at a place of the text. False where it is refused.
+fn name_line(start: usize, l: &[u8], counts: AagCounts, out: &mut [u64]) -> bool
+    requires { (start + length l.now < 18446744073709551616) × (length out.old ≡ leaf_words counts) }
+    ensures { (s : Bytes) → StandsAt s l.now start → NamesLine s l.now counts out.old out.new result }
 {
-    let l = &s[start..end];
     let Some(symbol) = witness_text::symbol_line(l, counts) else {
         return false;
     };
-    let at = scan::block_end(end, start, symbol.name);
+    let size = symbol.name.len();
+    let place = start + (l.len() - size);
     store_leaf(
         counts,
         symbol.kind,
         symbol.index,
-        at as u64,
-        (end - at) as u64,
+        place as u64,
+        size as u64,
         out,
     );
     true
 }
 
-// The names of the symbols from a cursor on, up to the line `c` or the end.
-fn name_leaves(s: &[u8], cursor: Cursor, counts: AagCounts, out: &mut [u64])
-    requires { (0 < cursor.at) × (out.old ≡ zeros (leaf_words counts)) }
-    ensures { LoadsNames s.now cursor counts out.new }
+// The names of the symbols with which a text ends, up to the line `c` or the end.
+fn name_leaves(s: &[u8], symbols: &[u8], counts: AagCounts, out: &mut [u64])
+    requires { Behind s.now symbols.now × (length symbols.now < length s.now) × (out.old ≡ zeros (leaf_words counts)) }
+    ensures { LoadsNames s.now symbols.now counts out.new }
 {
-    let mut p = cursor;
-    while let Some(line) = text::next_line(s, p) {
-        if witness_text::ends_symbols(&s[line.start..line.end]) {
+    let mut left = symbols;
+    while let Some(line) = text::next_line(left) {
+        if witness_text::ends_symbols(line.value) {
             return;
         }
-        if !name_line(s, line.start, line.end, counts, out) {
+        if !name_line(s.len() - left.len(), line.value, counts, out) {
             return;
         }
-        p = line.next;
+        left = line.rest;
     }
 }
 
 // The names of inputs and latches, as places in the text; all words are written.
-fn load_names(s: &[u8], cursor: Cursor, counts: AagCounts, out: &mut [u64])
-    requires { (0 < cursor.at) × (length out.old ≡ leaf_words counts) }
-    ensures { LoadsNames s.now cursor counts out.new }
+fn load_names(s: &[u8], symbols: &[u8], counts: AagCounts, out: &mut [u64])
+    requires { Behind s.now symbols.now × (length symbols.now < length s.now) × (length out.old ≡ leaf_words counts) }
+    ensures { LoadsNames s.now symbols.now counts out.new }
 {
     lists::clear(out);
-    name_leaves(s, cursor, counts, out);
+    name_leaves(s, symbols, counts, out);
 }
 
 // The sections of an accepted text, whose counts are known, in front of the words.
@@ -204,8 +207,8 @@ pub fn load(s: &[u8], known: AagCounts, words: &mut [u64])
         return;
     };
     let names = 2 * (known.inputs + known.latches);
-    let c = load_body(s, header.next, known, words, names);
-    load_names(s, c, known, &mut words[..names]);
+    let symbols = load_body(header.rest, known, words, names);
+    load_names(s, symbols, known, &mut words[..names]);
 }
 
 // Whether so many words are enough for sections with these counts. The numbers of outputs, bads and constraints are not added, since their sum may pass 2^64.

@@ -1,5 +1,6 @@
 -- Inputs and latches that are named in their order: none is named twice.
-use Rattle.std.specs.Prelude.{ℕ, ◌+◌, ◌≤◌, ◌<◌, Option, Some, None, Result, Ok}
+use Rattle.std.specs.Prelude.{ℕ, ◌+◌, ◌≤◌, ◌<◌, Option, Some, None, Result}
+use Rattle.std.specs.Borrow.{Bor}
 use Rattle.std.specs.Result.{IsErrAnd}
 use Rattle.std.proofs.Common.{◌⊎◌, inl, inr}
 use mathlib.Core.Bool.{Bool, true, false}
@@ -12,7 +13,6 @@ use Rattle.lists.specs.Tests.{Each}
 use Rattle.lists.proofs.BoolLaws.{and_both}
 use Rattle.lists.proofs.DistinctLaws.{distinct-above}
 use Rattle.lists.proofs.TestLaws.{each_append, each-so}
-use Rattle.text.specs.declared.Cursor.{Cursor}
 use Rattle.text.specs.Texts.{limited}
 use Rattle.aiger.specs.declared.Refusal.{Refusal}
 use Rattle.aiger.specs.Refusals.{refusal_number}
@@ -24,7 +24,7 @@ use Rattle.witness_text.specs.Symbols.{Symbol, count_of}
 use Rattle.witness_text.proofs.CountLaws.{counts-leaves}
 use Rattle.witness_text.specs.declared.SymbolLine.{SymbolLine}
 use Rattle.witness_read.specs.Names.{is_input, is_latch, indices_of}
-use Rattle.witness_read.specs.Inner.Passes.{TakenSymbol, BadSymbol, Follows, ChecksSymbols}
+use Rattle.witness_read.specs.Inner.Passes.{TakenSymbol, BadSymbol, Follows, PassedSymbols, ChecksSymbols}
 use Rattle.witness_read.proofs.SymbolSetLaws.{indices_append}
 use Rattle.witness_read.proofs.TailLaws.{index_below, Begun, begun_none, begun_end, begun_bad, begun_more}
 
@@ -54,40 +54,40 @@ module _ (is : Kind → Bool) (k : ℕ) (ss : List Symbol) (r : Rises is k ss) (
       }
 
 -- the symbols so far name inputs and latches in their order; the next input is at least i, the next latch at least l
-pub record InOrder (s : Bytes) (c : Cursor) (n : AagCounts) (i l : ℕ) (p : Cursor) : Type 0 where
+pub record InOrder (s : Bytes) (n : AagCounts) (i l : ℕ) (p : Bytes) : Type 0 where
   done : List Symbol
   inputs : Rises is_input i done
   latches : Rises is_latch l done
-  begun : Begun s c n done p
+  begun : Begun s n done p
 
-pub order-none : (s : Bytes) (c : Cursor) (n : AagCounts) → InOrder s c n 0 0 c
-order-none s c n = record { done = []; inputs = record { once = refl; below = tt }; latches = record { once = refl; below = tt }; begun = begun_none s c n }
+pub order-none : (s : Bytes) (n : AagCounts) → InOrder s n 0 0 s
+order-none s n = record { done = []; inputs = record { once = refl; below = tt }; latches = record { once = refl; below = tt }; begun = begun_none s n }
 
-module _ (s : Bytes) (c : Cursor) (n : AagCounts) (i l : ℕ) (p : Cursor) (k : InOrder s c n i l p) where
-  pub order-bad : (m : Refusal) → BadSymbol s p n (refusal_number m) → (r : Result Cursor Refusal) → IsErrAnd r (λ j. j ≡ m) → ChecksSymbols s c n r
-  order-bad m b r e = begun_bad s c n k.done p k.begun m b r e
+module _ (s : Bytes) (n : AagCounts) (i l : ℕ) (p : Bytes) (k : InOrder s n i l p) where
+  pub order-bad : (m : Refusal) → BadSymbol p n (refusal_number m) → (r : Result (Bor Bytes) Refusal) → IsErrAnd r (λ j. j ≡ m) → ChecksSymbols s n r
+  order-bad m b r e = begun_bad s n k.done p k.begun m b r e
 
-  module _ (o : Option SymbolLine) (x : Cursor) (t : Follows s p n o x) where
-    pub order-end : o ≡ None → ChecksSymbols s c n (Ok x)
+  module _ (o : Option SymbolLine) (x : Bytes) (t : Follows p n o x) where
+    pub order-end : o ≡ None → PassedSymbols s n x
     order-end e =
-        begun_end s c n k.done p k.begun
+        begun_end s n k.done p k.begun
         (and_both (distinct (indices_of is_input k.done)) (distinct (indices_of is_latch k.done)) k.inputs.once k.latches.once)
         x (t.ends e)
 
     module _ (y : SymbolLine) (e : o ≡ Some y) where
-      this : TakenSymbol s p n y.kind y.index x
+      this : TakenSymbol p n y.kind y.index x
       this = t.taken y e
 
       abbrev one : Symbol
       one = record { kind = y.kind; index = y.index; name = this.name }
 
-      after : Begun s c n (k.done ++ one ∷ []) x
-      after = begun_more s c n k.done p k.begun y.kind y.index x this
+      after : Begun s n (k.done ++ one ∷ []) x
+      after = begun_more s n k.done p k.begun y.kind y.index x this
 
       -- the next index is a word
       module _ (h : counted limited n ≡ true) where
         leaf_fits : count_of n y.kind ≤ n.inputs + n.latches → y.index + 1 < 18446744073709551616
-        leaf_fits most = omega (arith, index_below s p n o x t y e, counts-leaves n h)
+        leaf_fits most = omega (arith, index_below p n o x t y e, counts-leaves n h)
 
         pub input-fits : y.kind ≡ kind.Input → y.index + 1 < 18446744073709551616
         input-fits q = leaf_fits (rw q (omega arith))
@@ -95,7 +95,7 @@ module _ (s : Bytes) (c : Cursor) (n : AagCounts) (i l : ℕ) (p : Cursor) (k : 
         pub latch_fits : y.kind ≡ kind.Latch → y.index + 1 < 18446744073709551616
         latch_fits q = leaf_fits (rw q (omega arith))
 
-      pub order-input : y.kind ≡ kind.Input → i ≤ y.index → InOrder s c n (y.index + 1) l x
+      pub order-input : y.kind ≡ kind.Input → i ≤ y.index → InOrder s n (y.index + 1) l x
       order-input q h =
           record {
             done = k.done ++ one ∷ [];
@@ -104,7 +104,7 @@ module _ (s : Bytes) (c : Cursor) (n : AagCounts) (i l : ℕ) (p : Cursor) (k : 
             begun = after;
           }
 
-      pub order_latch : y.kind ≡ kind.Latch → l ≤ y.index → InOrder s c n i (y.index + 1) x
+      pub order_latch : y.kind ≡ kind.Latch → l ≤ y.index → InOrder s n i (y.index + 1) x
       order_latch q h =
           record {
             done = k.done ++ one ∷ [];
@@ -113,7 +113,7 @@ module _ (s : Bytes) (c : Cursor) (n : AagCounts) (i l : ℕ) (p : Cursor) (k : 
             begun = after;
           }
 
-      order_other : is_input y.kind ≡ false → is_latch y.kind ≡ false → InOrder s c n i l x
+      order_other : is_input y.kind ≡ false → is_latch y.kind ≡ false → InOrder s n i l x
       order_other q r =
           record {
             done = k.done ++ one ∷ [];
@@ -122,7 +122,7 @@ module _ (s : Bytes) (c : Cursor) (n : AagCounts) (i l : ℕ) (p : Cursor) (k : 
             begun = after;
           }
 
-      pub order-others : (y.kind ≡ kind.Output) ⊎ ((y.kind ≡ kind.Bad) ⊎ (y.kind ≡ kind.Constraint)) → InOrder s c n i l x
+      pub order-others : (y.kind ≡ kind.Output) ⊎ ((y.kind ≡ kind.Bad) ⊎ (y.kind ≡ kind.Constraint)) → InOrder s n i l x
       order-others (inl q) = order_other (rw q refl) (rw q refl)
       order-others (inr (inl q)) = order_other (rw q refl) (rw q refl)
       order-others (inr (inr q)) = order_other (rw q refl) (rw q refl)

@@ -10,7 +10,7 @@ ghost use Rattle.witness_read.specs.Inner.Passes.{Checks, ChecksLeaves, ChecksPr
 use super::Checked;
 use aiger::Gate;
 use circuit_lines::{GateLine, LiteralLine, TakeLine};
-use text::{Cursor, Reader};
+use text::Reader;
 use witness_text::{AagCounts, Latch, LatchLine};
 
 // What is tested of the items of a section, each by its number.
@@ -117,28 +117,27 @@ fn check_section<K: TakeLine, T: Numbered<K::Item> + Copy>(
     kind: K,
     test: T,
     s: &[u8],
-    cursor: Cursor,
     n: usize,
     first: usize,
-) -> Option<Checked>
+) -> Option<Checked<'_>>
     requires fits { first + n < 18446744073709551616 }
     requires may { (i : ℕ) → i < n → T.may test (first + i) }
-    ensures { Checks (K.item kind) (all_from (T.test test) first) s.now cursor n result }
+    ensures { Checks (K.item kind) (all_from (T.test test) first) s.now n result }
 {
-    let mut next = cursor;
+    let mut rest = s;
     let mut fine = true;
     for i in 0..n {
-        let taken = kind.take(s, next)?;
+        let taken = kind.take(rest)?;
         fine &= test.passes(first + i, taken.value);
-        next = taken.next;
+        rest = taken.rest;
     }
-    Some(Checked { next, fine })
+    Some(Checked { rest, fine })
 }
 
 // Inputs and latches.
-fn check_leaves(s: &[u8], cursor: Cursor, counts: AagCounts) -> Option<Checked>
+fn check_leaves(s: &[u8], counts: AagCounts) -> Option<Checked<'_>>
     requires { counted limited counts ≡ true }
-    ensures { ChecksLeaves s.now cursor counts result }
+    ensures { ChecksLeaves s.now counts result }
 {
     let test = Latches {
         most: counts.max_variable as u64,
@@ -149,28 +148,26 @@ fn check_leaves(s: &[u8], cursor: Cursor, counts: AagCounts) -> Option<Checked>
         },
         Inputs {},
         s,
-        cursor,
         counts.inputs,
         1,
     )?;
     let latches = check_section(
         LatchLine {},
         test,
-        s,
-        inputs.next,
+        inputs.rest,
         counts.latches,
         counts.inputs + 1,
     )?;
     Some(Checked {
-        next: latches.next,
+        rest: latches.rest,
         fine: inputs.fine & latches.fine,
     })
 }
 
 // Outputs, bads and constraints.
-fn check_properties(s: &[u8], cursor: Cursor, counts: AagCounts) -> Option<Checked>
+fn check_properties(s: &[u8], counts: AagCounts) -> Option<Checked<'_>>
     requires { counted limited counts ≡ true }
-    ensures { ChecksProperties s.now cursor counts result }
+    ensures { ChecksProperties s.now counts result }
 {
     let kind = LiteralLine {
         reader: Reader::Witness,
@@ -178,35 +175,34 @@ fn check_properties(s: &[u8], cursor: Cursor, counts: AagCounts) -> Option<Check
     let test = Literals {
         most: counts.max_variable as u64,
     };
-    let outputs = check_section(kind, test, s, cursor, counts.outputs, 0)?;
-    let bads = check_section(kind, test, s, outputs.next, counts.bads, 0)?;
-    let constraints = check_section(kind, test, s, bads.next, counts.constraints, 0)?;
+    let outputs = check_section(kind, test, s, counts.outputs, 0)?;
+    let bads = check_section(kind, test, outputs.rest, counts.bads, 0)?;
+    let constraints = check_section(kind, test, bads.rest, counts.constraints, 0)?;
     Some(Checked {
-        next: constraints.next,
+        rest: constraints.rest,
         fine: outputs.fine & bads.fine & constraints.fine,
     })
 }
 
 // All sections.
-pub fn check_body(s: &[u8], cursor: Cursor, counts: AagCounts) -> Option<Checked>
+pub fn check_body(s: &[u8], counts: AagCounts) -> Option<Checked<'_>>
     requires { counted limited counts ≡ true }
-    ensures { ChecksBody s.now cursor counts result }
+    ensures { ChecksBody s.now counts result }
 {
-    let leaves = check_leaves(s, cursor, counts)?;
-    let properties = check_properties(s, leaves.next, counts)?;
+    let leaves = check_leaves(s, counts)?;
+    let properties = check_properties(leaves.rest, counts)?;
     let kind = GateLine {
         reader: Reader::Witness,
     };
     let gates = check_section(
         kind,
         Gates {},
-        s,
-        properties.next,
+        properties.rest,
         counts.gates,
         counts.inputs + counts.latches + 1,
     )?;
     Some(Checked {
-        next: gates.next,
+        rest: gates.rest,
         fine: leaves.fine & properties.fine & gates.fine,
     })
 }

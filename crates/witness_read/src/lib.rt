@@ -4,7 +4,7 @@
 ghost use Rattle.std.specs.Prelude.{true, ◌≡◌};
 ghost use Rattle.aiger.specs.Refusals.{answered};
 ghost use Rattle.text.specs.Texts.{limited};
-ghost use Rattle.circuit_lines.specs.Inner.Takes.{lines_from};
+ghost use Rattle.text.specs.Lines.{lines_of};
 ghost use Rattle.witness_text.specs.Header.{counted, without_liveness};
 ghost use Rattle.witness_read.specs.Reading.{sections_of, after_header, read_aag, counts_read};
 
@@ -12,39 +12,38 @@ mod body;
 mod tail;
 
 use aiger::Refusal;
-use text::{Cursor, Reader};
+use text::Reader;
 use witness_text::{AagCounts, SymbolLine};
 
-// The place after some sections, and whether their literals are in range and order.
+// The text behind some sections, and whether their literals are in range and order.
 // Kept (enum): both are there whenever it is; `fine` is what a later reason asks.
 #[derive(Clone, Copy)]
-pub struct Checked {
-    pub next: Cursor,
+pub struct Checked<'a> {
+    pub rest: &'a [u8],
     pub fine: bool,
 }
 
-// What stands at a place among the symbols: a symbol line, unless they end there; then the place after it, where the comments begin if they end.
+// What stands first among the symbols: a symbol line, unless they end there; and the text behind it, which is the comments if they end.
 #[derive(Clone, Copy)]
-pub struct NextSymbol {
-    pub symbol: Option<SymbolLine>,
-    pub next: Cursor,
+pub struct NextSymbol<'a> {
+    pub symbol: Option<SymbolLine<'a>>,
+    pub rest: &'a [u8],
 }
 
-// The sections from a cursor on. All lines are looked at before R9.11, since a bad line, symbol or comment counts more.
+// The sections of a text. All lines are looked at before R9.11, since a bad line, symbol or comment counts more.
 fn read_sections(
     s: &[u8],
-    cursor: Cursor,
     counts: AagCounts,
     witness: bool,
 ) -> Result<AagCounts, Refusal>
     requires { (counted limited counts ≡ true) × (without_liveness counts ≡ true) }
-    ensures { answered result ≡ counts_read (sections_of witness counts (lines_from s.now cursor)) }
+    ensures { answered result ≡ counts_read (sections_of witness counts (lines_of s.now)) }
 {
-    let Some(checked) = body::check_body(s, cursor, counts) else {
+    let Some(checked) = body::check_body(s, counts) else {
         return Err(Refusal::Line);
     };
-    let comments = tail::check_tail(s, checked.next, counts)?;
-    if !tail::plain_comments(s, comments, witness) {
+    let comments = tail::check_tail(checked.rest, counts)?;
+    if !tail::plain_comments(comments, witness) {
         return Err(Refusal::Comment);
     }
     if !checked.fine {
@@ -53,14 +52,13 @@ fn read_sections(
     Ok(counts)
 }
 
-// What follows a header, from a cursor on.
+// What follows a header.
 fn read_body(
     s: &[u8],
-    cursor: Cursor,
     counts: AagCounts,
     witness: bool,
 ) -> Result<AagCounts, Refusal>
-    ensures { answered result ≡ counts_read (after_header limited witness (lines_from s.now cursor) counts) }
+    ensures { answered result ≡ counts_read (after_header limited witness (lines_of s.now) counts) }
 {
     if !witness_text::counts_hold(counts) {
         return Err(Refusal::Counts);
@@ -68,7 +66,7 @@ fn read_body(
     if !witness_text::no_liveness(counts) {
         return Err(Refusal::Liveness);
     }
-    read_sections(s, cursor, counts, witness)
+    read_sections(s, counts, witness)
 }
 
 // Reads a text as a witness, or as the model where `witness` is false: the counts of its sections, or the number of the first reason.
@@ -81,5 +79,5 @@ pub fn parse_aag(s: &[u8], witness: bool) -> Result<AagCounts, Refusal>
     let Some(header) = witness_text::take_witness_header(s) else {
         return Err(Refusal::Header);
     };
-    read_body(s, header.next, header.value, witness)
+    read_body(header.rest, header.value, witness)
 }

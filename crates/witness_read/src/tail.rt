@@ -1,7 +1,7 @@
 // The lines after the gates: symbols (R9.9) and comments (R9.10).
 ghost use Rattle.std.specs.Prelude.{true, ◌≡◌, ◌+◌, ◌*◌, ◌≤◌, ◌<◌};
 ghost use Rattle.text.specs.Texts.{limited};
-ghost use Rattle.circuit_lines.specs.Inner.Takes.{lines_from};
+ghost use Rattle.text.specs.Lines.{lines_of};
 ghost use Rattle.witness_text.specs.Header.{counted};
 ghost use Rattle.witness_text.specs.Symbols.{count_of};
 ghost use Rattle.witness_read.specs.Comments.{plain_comment, plain_comments};
@@ -9,7 +9,6 @@ ghost use Rattle.witness_read.specs.Inner.Passes.{MarksName, Unmarked, TakesSymb
 
 use super::NextSymbol;
 use aiger::Refusal;
-use text::Cursor;
 use witness_text::{AagCounts, Kind};
 
 // The next input and the next latch that may be named, while they are named in their order.
@@ -31,118 +30,112 @@ fn name_first(counts: AagCounts, kind: Kind, index: usize, marks: &mut [u64]) ->
     }
 }
 
-// The symbol of the line at a cursor, or how the symbols end there.
-fn next_symbol(s: &[u8], cursor: Cursor, counts: AagCounts) -> Result<NextSymbol, Refusal>
-    ensures { TakesSymbol s.now cursor counts result }
+// The symbol of the first line, or how the symbols end there.
+fn next_symbol(s: &[u8], counts: AagCounts) -> Result<NextSymbol<'_>, Refusal>
+    ensures { TakesSymbol s.now counts result }
 {
-    let Some(line) = text::next_line(s, cursor) else {
+    let Some(line) = text::next_line(s) else {
         return Ok(NextSymbol {
             symbol: None,
-            next: cursor,
+            rest: s,
         });
     };
-    let l = &s[line.start..line.end];
-    if witness_text::ends_symbols(l) {
+    if witness_text::ends_symbols(line.value) {
         return Ok(NextSymbol {
             symbol: None,
-            next: line.next,
+            rest: line.rest,
         });
     }
-    let Some(symbol) = witness_text::symbol_line(l, counts) else {
+    let Some(symbol) = witness_text::symbol_line(line.value, counts) else {
         return Err(Refusal::Symbol);
     };
     Ok(NextSymbol {
         symbol: Some(symbol),
-        next: line.next,
+        rest: line.rest,
     })
 }
 
-// The symbols from a cursor on, up to the line `c` or the end. An input or latch that is named is marked: input k at k, latch k at I + k.
-fn check_symbols(
-    s: &[u8],
-    cursor: Cursor,
+// The symbols of a text, up to the line `c` or the end, and the comments behind them. An input or latch that is named is marked: input k at k, latch k at I + k.
+fn check_symbols<'a>(
+    s: &'a [u8],
     counts: AagCounts,
     marks: &mut [u64],
-) -> Result<Cursor, Refusal>
+) -> Result<&'a [u8], Refusal>
     requires { (counts.inputs + counts.latches ≤ 2000000) × Unmarked counts marks.old }
-    ensures { ChecksSymbols s.now cursor counts result }
+    ensures { ChecksSymbols s.now counts result }
 {
-    let mut p = cursor;
-    // Kept (loop): the symbols' end comes with the place of the comments, which a chain of symbols would not hand on.
+    let mut left = s;
+    // Kept (loop): the symbols' end comes with the comments, which a chain of symbols would not hand on.
     loop {
-        let NextSymbol { symbol, next } = next_symbol(s, p, counts)?;
+        let NextSymbol { symbol, rest } = next_symbol(left, counts)?;
         let Some(symbol) = symbol else {
-            return Ok(next);
+            return Ok(rest);
         };
         if !name_first(counts, symbol.kind, symbol.index, marks) {
             return Err(Refusal::Symbol);
         }
-        p = next;
+        left = rest;
     }
 }
 
 // The symbols with N words of marks, which stand in this frame alone: clearing many marks would cost more than a short text.
-fn check_with<const N: usize>(
-    s: &[u8],
-    cursor: Cursor,
-    counts: AagCounts,
-) -> Result<Cursor, Refusal>
+fn check_with<const N: usize>(s: &[u8], counts: AagCounts) -> Result<&[u8], Refusal>
     requires few { N ≤ 31250 }
     requires room { (counts.inputs + counts.latches ≤ 2000000) × (counts.inputs + counts.latches ≤ 64 * N) }
-    ensures { ChecksSymbols s.now cursor counts result }
+    ensures { ChecksSymbols s.now counts result }
 {
     let mut marks: [u64; N] = [0; N];
-    check_symbols(s, cursor, counts, &mut marks)
+    check_symbols(s, counts, &mut marks)
 }
 
 // The symbols in any order, by marks.
-fn check_marked(s: &[u8], cursor: Cursor, counts: AagCounts) -> Result<Cursor, Refusal>
+fn check_marked(s: &[u8], counts: AagCounts) -> Result<&[u8], Refusal>
     requires { counted limited counts ≡ true }
-    ensures { ChecksSymbols s.now cursor counts result }
+    ensures { ChecksSymbols s.now counts result }
 {
     let leaves = counts.inputs + counts.latches;
     if leaves <= 4096 {
-        return check_with::<64>(s, cursor, counts);
+        return check_with::<64>(s, counts);
     }
     if leaves <= 65536 {
-        return check_with::<1024>(s, cursor, counts);
+        return check_with::<1024>(s, counts);
     }
-    check_with::<31250>(s, cursor, counts)
+    check_with::<31250>(s, counts)
 }
 
-// The symbols from a cursor on. Inputs and latches that are named in their order need no marks; where that order is first broken, the symbols
+// The symbols of a text, and the comments behind them. Inputs and latches that are named in their order need no marks; where that order is first broken, the symbols
 // are looked at again with them.
-pub fn check_tail(s: &[u8], cursor: Cursor, counts: AagCounts) -> Result<Cursor, Refusal>
+pub fn check_tail(s: &[u8], counts: AagCounts) -> Result<&[u8], Refusal>
     requires { counted limited counts ≡ true }
-    ensures { ChecksSymbols s.now cursor counts result }
+    ensures { ChecksSymbols s.now counts result }
 {
-    let mut p = cursor;
+    let mut left = s;
     let mut order = Order {
         inputs: 0,
         latches: 0,
     };
     // Kept (loop): as in `check_symbols`.
     loop {
-        let NextSymbol { symbol, next } = next_symbol(s, p, counts)?;
+        let NextSymbol { symbol, rest } = next_symbol(left, counts)?;
         let Some(symbol) = symbol else {
-            return Ok(next);
+            return Ok(rest);
         };
         match symbol.kind {
             Kind::Input => {
                 if symbol.index < order.inputs {
-                    return check_marked(s, cursor, counts);
+                    return check_marked(s, counts);
                 }
                 order.inputs = symbol.index + 1;
             }
             Kind::Latch => {
                 if symbol.index < order.latches {
-                    return check_marked(s, cursor, counts);
+                    return check_marked(s, counts);
                 }
                 order.latches = symbol.index + 1;
             }
             Kind::Output | Kind::Bad | Kind::Constraint => {}
         }
-        p = next;
+        left = rest;
     }
 }
 
@@ -153,19 +146,19 @@ fn plain_comment(l: &[u8]) -> bool
     !scan::same(first, b"MAPPING") && !scan::same(first, b"INTERVENTION")
 }
 
-// Whether no comment line from a cursor on begins with a word of R9.10; those of a model are not looked at.
-pub fn plain_comments(s: &[u8], cursor: Cursor, witness: bool) -> bool
-    ensures { result ≡ plain_comments witness (lines_from s.now cursor) }
+// Whether no comment line begins with a word of R9.10; those of a model are not looked at.
+pub fn plain_comments(s: &[u8], witness: bool) -> bool
+    ensures { result ≡ plain_comments witness (lines_of s.now) }
 {
     if !witness {
         return true;
     }
-    let mut p = cursor;
-    while let Some(line) = text::next_line(s, p) {
-        if !plain_comment(&s[line.start..line.end]) {
+    let mut left = s;
+    while let Some(line) = text::next_line(left) {
+        if !plain_comment(line.value) {
             return false;
         }
-        p = line.next;
+        left = line.rest;
     }
     true
 }

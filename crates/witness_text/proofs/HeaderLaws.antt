@@ -13,13 +13,12 @@ use Rattle.lists.specs.Parts.{Bytes, zeros, front}
 use Rattle.lists.proofs.ZeroLaws.{front-zeros}
 use Rattle.text.specs.declared.Reader.TheVariants.{Witness}
 use Rattle.text.specs.Lines.{lines_of}
-use Rattle.text.specs.declared.Parsed.{Parsed}
 use Rattle.circuit_lines.specs.SectionLines.{first_numbers}
 use Rattle.circuit_lines.specs.Inner.OneLine.{at_most}
-use Rattle.circuit_lines.specs.Inner.Takes.{Headed, TakesHeaderNumbers}
+use Rattle.circuit_lines.specs.Inner.Takes.{Headed}
 use Rattle.witness_text.specs.declared.AagCounts.{AagCounts}
-use Rattle.witness_text.specs.Header.{counts_from, five_to_nine}
-use Rattle.witness_text.specs.Inner.Takes.{TakesCounts}
+use Rattle.witness_text.specs.Header.{counts_from, five_to_nine, header_of}
+use Rattle.witness_text.specs.Inner.Takes as takes
 
 -- ---- counts_of_lem
 
@@ -60,18 +59,15 @@ counts-front ns h =
       front-zeros 9 ns 8 h,
     )
 
-module _ (s : Bytes) (ns : List ℕ) (r : Option (Parsed ℕ)) (q : TakesHeaderNumbers Witness s (zeros 9) ns r) where
-  pub header_bad : r ≡ None → TakesCounts s None
-  header_bad k = over_nine (first_numbers Witness (lines_of s)) (rw k at q)
+module _ (s : Bytes) (ns : List ℕ) where
+  pub header_bad : at_most 9 (first_numbers Witness (lines_of s)) ≡ None → header_of (lines_of s) ≡ refused 4
+  header_bad k = over_nine (first_numbers Witness (lines_of s)) k
 
-  module _ (x : Parsed ℕ) (k : r ≡ Some x) where
-    headed : Headed Witness s (zeros 9) ns x.value x.next
-    headed = rw k at q
-
-    pub header_few : x.value < 5 → TakesCounts s None
+  module _ (x : ℕ) (r : Bytes) (headed : Headed Witness s (zeros 9) ns x r) where
+    pub header_few : x < 5 → header_of (lines_of s) ≡ refused 4
     header_few h = ap five_to_nine headed.stored.are ∙ few headed.stored.numbers (omega (arith, headed.stored.count))
 
-    pub header_got : 5 ≤ x.value → (n : AagCounts) → n ≡ counts_from ns → TakesCounts s (Some (record { value = n; next = x.next }))
+    pub header_got : 5 ≤ x → (n : AagCounts) → n ≡ counts_from ns → takes.Headed s n r
     header_got h n p =
         let ms : List ℕ = headed.stored.numbers in
         let most : length ms ≤ 9 = omega (arith, headed.stored.count, headed.stored.fits) in
@@ -81,4 +77,5 @@ module _ (s : Bytes) (ns : List ℕ) (r : Option (Parsed ℕ)) (q : TakesHeaderN
               ∙ taken_nine ms (omega (arith, headed.stored.count)) most
               ∙ ap got (sym (p ∙ ap counts_from headed.stored.stand ∙ counts-front ms most));
           rest = headed.rest;
+          behind = headed.behind;
         }

@@ -8,8 +8,8 @@ use lib.ListN.{length, get_or}
 use Rattle.lists.specs.Answer.{got, refused}
 use Rattle.lists.specs.Parts.{Bytes, zeros, front}
 use Rattle.text.specs.declared.Reader.TheVariants.{Witness}
-use Rattle.text.proofs.LiteralLaws.{numbers_from}
-use Rattle.circuit_lines.specs.Inner.OneLine.{at_most, Stored, Stores}
+use Rattle.text.proofs.LiteralLaws.{numbers_in}
+use Rattle.circuit_lines.specs.Inner.OneLine.{at_most, Stored}
 use Rattle.witness_text.specs.LatchLines.{latch_from, latch_numbers, latch_line}
 
 -- ---- latch_line
@@ -36,14 +36,11 @@ over_three (Some (c ∷ n ∷ [])) h = let z : ◌≡◌ {A = ℕ} 0 1 = cc in a
 over_three (Some (c ∷ n ∷ r ∷ [])) h = let z : ◌≡◌ {A = ℕ} 0 1 = cc in absurd (omega arith)
 over_three (Some (c ∷ n ∷ r ∷ m ∷ ms)) h = refl
 
-module _ (l : Bytes) (ns : List ℕ) (r : Option ℕ) (q : Stores (zeros 3) ns (numbers_from Witness l 0) r) where
-  pub latch_refused : r ≡ None → refused 8 ≡ latch_line l
-  latch_refused k = over_three (numbers_from Witness l 0) (rw k at q)
+module _ (l : Bytes) (ns : List ℕ) where
+  pub latch_refused : at_most 3 (numbers_in Witness l) ≡ None → refused 8 ≡ latch_line l
+  latch_refused k = over_three (numbers_in Witness l) k
 
-  module _ (n : ℕ) (k : r ≡ Some n) where
-    stored : Stored (zeros 3) ns (numbers_from Witness l 0) n
-    stored = rw k at q
-
+  module _ (n : ℕ) (stored : Stored (zeros 3) ns (numbers_in Witness l) n) where
     pub latch_short : n < 2 → refused 8 ≡ latch_line l
     latch_short h = one_at_most stored.numbers (omega (arith, stored.count)) ∙ ap latch_numbers (sym stored.are)
 

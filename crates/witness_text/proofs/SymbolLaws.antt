@@ -2,15 +2,18 @@
 use Rattle.std.proofs.Common.{◌⊎◌, inl, inr}
 use Rattle.std.specs.Prelude.{Option, Some, None}
 use Prim.Native.Nat.{ℕ, zero, suc, ◌+◌, ◌-◌, ◌≤◌, ◌<◌}
-use mathlib.Core.Bool.{true, false}
+use mathlib.Core.Bool.{Bool, true, false}
 use mathlib.Core.List.{[], ◌∷◌}
 use mathlib.Core.Path.{◌≡◌, refl, ap, sym, ◌∙◌}
 use native.Mathlib.Numerals.{add-one}
 use native.Mathlib.Omega.{arith}
 use lib.Dec.{ltb}
-use lib.ListN.{length, get_or, take, drop}
+use lib.ListN.{length, get_or, take, drop, length-drop}
+use lib.Seq.{drop-drop}
 use borrow.Author.Tests.{eq-eqb, ne_eqb, lt-ltb, le-ltb, ltb-true}
-use Rattle.lists.specs.Answer.{Answer, got, refused, and_then}
+use Rattle.lists.specs.Answer.{Answer, got, refused, unless, and_then}
+use Rattle.lists.proofs.PartLaws.{tail-lent}
+use Rattle.lists.proofs.RestLaws.{rest_more}
 use Rattle.lists.specs.Parts.{Bytes, part}
 use Rattle.lists.proofs.AnswerLaws.{and_then-got, unless_test, unless-got, got_same, got-refused}
 use Rattle.text.specs.declared.Reader.TheVariants.{Witness}
@@ -42,69 +45,63 @@ kind_constraint b e = rw e
 pub kind-other : (b : ℕ) → (b ≡ 105 → ⊥) → (b ≡ 108 → ⊥) → (b ≡ 111 → ⊥) → (b ≡ 98 → ⊥) → (b ≡ 99 → ⊥) → refused 9 ≡ kind_of b
 kind-other b i l o d c = rw (ne_eqb b 105 i, ne_eqb b 108 l, ne_eqb b 111 o, ne_eqb b 98 d, ne_eqb b 99 c)
 
--- ---- first_space
+-- ---- symbol_line: the line is `front` before its first byte 32, and `others` from there on
 
-pub space-stops : (b : ℕ) → b ≡ 32 → not_space b ≡ false
-space-stops b h = rw (eq-eqb b 32 h)
-
-pub space-goes : (b : ℕ) → (b ≡ 32 → ⊥) → not_space b ≡ true
-space-goes b h = rw (ne_eqb b 32 h)
-
--- ---- symbol_line
-
-module _ (l : Bytes) (n : AagCounts) (end : ℕ) (q : end ≡ before_space l) where
-  no_space : length l ≤ end → refused 9 ≡ symbol_of n l
+module _ (l : Bytes) (n : AagCounts) (front others : Bytes) (m : ℕ) (q : m ≡ before_space l) (f : front ≡ take m l) (o : others ≡ drop m l) where
+  pub no_space : length others < 1 → refused 9 ≡ symbol_of n l
   unfolding symbol_of
-  no_space h = rw (← q, le-ltb end (length l) h)
+  no_space h = rw (← q, le-ltb m (length l) (omega (arith, length-drop m l, ap length o)))
 
-  module _ (h : end < length l) where
-    from_front : symbol_of n l ≡ symbol_from n (take end l) (drop (suc end) l)
-    unfolding symbol_of
-    from_front = rw (← q, lt-ltb end (length l) h)
+  from_front : symbol_of n l ≡ unless 9 (ltb m (length l)) (symbol_from n front (drop (suc m) l))
+  unfolding symbol_of
+  from_front = rw (← q, f) refl
 
-    no_kind : end ≡ 0 → refused 9 ≡ symbol_of n l
-    no_kind e = sym (from_front ∙ rw e)
+  pub no_kind : length front < 1 → refused 9 ≡ symbol_of n l
+  no_kind h = sym (from_front ∙ ap (λ (x : Bytes). unless 9 (ltb m (length l)) (symbol_from n x (drop (suc m) l))) (empty front h) ∙ both (ltb m (length l)))
+    where
+      empty : (x : Bytes) → length x < 1 → x ≡ []
+      empty [] k = refl
+      empty (b ∷ bs) k = absurd (omega arith)
 
-    module _ (g : end ≡ 0 → ⊥) where
-      fronts : (t : Bytes) → length t ≡ length l → (m : ℕ) → m ≡ end → take m t ≡ get_or t 0 0 ∷ part t 1 m
-      fronts [] k m e = absurd (omega arith)
-      fronts (b ∷ bs) k zero e = absurd (g (sym e))
-      fronts (b ∷ bs) k (suc m) e = let d : suc m - 1 ≡ m = omega arith in rw d
+      both : (b : Bool) → unless 9 b (symbol_from n [] (drop (suc m) l)) ≡ refused 9
+      both true = refl
+      both false = refl
 
-      front : take end l ≡ get_or l 0 0 ∷ part l 1 end
-      front = fronts l refl end refl
+  module _ (h : 1 ≤ length front) (g : 1 ≤ length others) where
+    abbrev digits : Bytes
+    digits = take (length front - 1) (drop 1 front)
 
-      module _ (x : Option Kind) (p : answer_or 9 x ≡ kind_of (get_or l 0 0)) where
-        from-kind : (y : Answer Kind) → answer_or 9 x ≡ y
-            → symbol_of n l ≡ and_then y (λ k. and_then (readable_index (number_of Witness (part l 1 end))) (indexed n (drop (suc end) l) k))
-        from-kind y e =
-            from_front
-            ∙ ap (λ (f : Bytes). symbol_from n f (drop (suc end) l)) front
-            ∙ ap (λ (z : Answer Kind). and_then z (λ k. and_then (readable_index (number_of Witness (part l 1 end))) (indexed n (drop (suc end) l) k))) (sym p ∙ e)
+    abbrev name : Bytes
+    name = take (length others - 1) (drop 1 others)
 
-        pub unknown_kind : x ≡ None → refused 9 ≡ symbol_of n l
-        unknown_kind e = sym (from-kind (refused 9) (ap (answer_or 9) e))
+    from-kind : (y : Answer Kind) → kind_of (get_or front 0 0) ≡ y
+        → symbol_of n l ≡ and_then y (λ k. and_then (readable_index (number_of Witness digits)) (indexed n name k))
+    from-kind y p =
+        let more : m < length l = omega (arith, length-drop m l, ap length o) in
+        let next : suc m ≡ m + 1 = omega arith in
+        let rest : drop (suc m) l ≡ name = ap (λ (k : ℕ). drop k l) next ∙ sym (drop-drop 1 m l) ∙ ap (drop 1) (sym o) ∙ sym (tail-lent others 1) in
+        let whole : front ≡ get_or front 0 0 ∷ digits = rw (tail-lent front 1) (rest_more front 0 0 h) in
+        from_front
+        ∙ rw (lt-ltb m (length l) more, rest) refl
+        ∙ ap (λ (x : Bytes). symbol_from n x name) whole
+        ∙ ap (λ (z : Answer Kind). and_then z (λ k. and_then (readable_index (number_of Witness digits)) (indexed n name k))) p
 
-        module _ (k : Kind) (e : x ≡ Some k) (v : Option ℕ) (u : v ≡ number_of Witness (part l 1 end)) where
-          from-index : (w : Option ℕ) → v ≡ w → symbol_of n l ≡ and_then (readable_index w) (indexed n (drop (suc end) l) k)
-          from-index w a =
-              from-kind (got k) (ap (answer_or 9) e) ∙ ap (λ (z : Option ℕ). and_then (readable_index z) (indexed n (drop (suc end) l) k)) (sym u ∙ a)
+    pub unknown_kind : refused 9 ≡ kind_of (get_or front 0 0) → refused 9 ≡ symbol_of n l
+    unknown_kind p = sym (from-kind (refused 9) (sym p))
 
-          pub unreadable_index : v ≡ None → refused 9 ≡ symbol_of n l
-          unreadable_index a = sym (from-index None a)
+    module _ (k : Kind) (p : got k ≡ kind_of (get_or front 0 0)) where
+      from-index : (w : Option ℕ) → number_of Witness digits ≡ w → symbol_of n l ≡ and_then (readable_index w) (indexed n name k)
+      from-index w a = from-kind (got k) (sym p) ∙ ap (λ (z : Option ℕ). and_then (readable_index z) (indexed n name k)) a
 
-          module _ (i : ℕ) (a : v ≡ Some i) (j : ℕ) (b : j ≡ i) (m : ℕ) (c : m ≡ count_of n k) where
-            pub index_below : j < m → symbol_answer l (Some (record { kind = k; index = j; name = end + 1 })) ≡ symbol_of n l
-            index_below d =
-                let f : i < count_of n k = omega arith in
-                sym (from-index (Some i) a ∙ rw (lt-ltb i (count_of n k) f, add-one end, b))
+      pub unreadable_index : None ≡ number_of Witness digits → refused 9 ≡ symbol_of n l
+      unreadable_index a = sym (from-index None (sym a))
 
-            pub index_past : m ≤ j → refused 9 ≡ symbol_of n l
-            index_past d = let f : count_of n k ≤ i = omega arith in sym (from-index (Some i) a ∙ rw (le-ltb i (count_of n k) f))
+      module _ (i : ℕ) (a : Some i ≡ number_of Witness digits) (j : ℕ) (b : j ≡ i) (c : ℕ) (e : c ≡ count_of n k) where
+        pub index_below : j < c → got (record { kind = k; index = j; name = name }) ≡ symbol_of n l
+        index_below d = sym (from-index (Some i) (sym a) ∙ rw (lt-ltb i (count_of n k) (omega arith), b) refl)
 
-pub no_front : (l : Bytes) (n : AagCounts) (end : ℕ) → end ≡ before_space l → (length l ≤ end) ⊎ ((end < length l) × (end ≡ 0)) → refused 9 ≡ symbol_of n l
-no_front l n end q (inl h) = no_space l n end q h
-no_front l n end q (inr (h, e)) = no_kind l n end q h e
+        pub index_past : c ≤ j → refused 9 ≡ symbol_of n l
+        index_past d = sym (from-index (Some i) (sym a) ∙ rw (le-ltb i (count_of n k) (omega arith)))
 
 -- ---- a symbol
 
@@ -124,3 +121,19 @@ module _ (n : AagCounts) where
   symbol-below l x e =
       let b : ℕ = before_space l in
       below_by (take b l) (drop (suc b) l) x (unless-got 9 (symbol_from n (take b l) (drop (suc b) l)) x (ltb b (length l)) e)
+
+  -- the name of a symbol is what stands behind its first byte 32
+  from-name : (f name : Bytes) (x : Symbol) → symbol_from n f name ≡ got x → name ≡ x.name
+  from-name [] name x e = got-refused e refl
+  from-name (b ∷ f) name x e =
+      let k = and_then-got (kind_of b) (λ z. and_then (readable_index (number_of Witness f)) (indexed n name z)) x e in
+      let i = and_then-got (readable_index (number_of Witness f)) (indexed n name k.0) x k.2 in
+      let y : Symbol = record { kind = k.0; index = i.0; name = name } in
+      ap (λ (z : Symbol). z.name) (got_same y x (unless-got 9 (got y) x (ltb i.0 (count_of n k.0)) i.2))
+
+  -- the name of a symbol line is what stands behind its first byte 32
+  pub symbol-name : (l : Bytes) (x : Symbol) → symbol_of n l ≡ got x → drop (suc (before_space l)) l ≡ x.name
+  unfolding symbol_of
+  symbol-name l x e =
+      let b : ℕ = before_space l in
+      from-name (take b l) (drop (suc b) l) x (unless-got 9 (symbol_from n (take b l) (drop (suc b) l)) x (ltb b (length l)) e)

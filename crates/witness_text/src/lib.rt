@@ -1,15 +1,16 @@
 // The header, the latch lines and the symbol lines of a witness text (R4). Its other lines are those of `circuit_lines`.
 #![tactic(auto)]
 
-ghost use Rattle.std.specs.Prelude.{◌≡◌};
+ghost use Rattle.std.specs.Prelude.{ℕ, Bool, ◌≡◌};
 ghost use Rattle.circuit_lines.specs.Inner.OneLine.{answer_or};
 ghost use Rattle.text.specs.Texts.{limited};
 ghost use Rattle.witness_text.specs.Header.{counts_from, counted, without_liveness};
 ghost use Rattle.witness_text.specs.LatchLines.{latch_line};
-ghost use Rattle.witness_text.specs.Symbols.{ends_symbols, count_of, kind_of, before_space, symbol_of};
+ghost use Rattle.witness_text.specs.Symbols.{ends_symbols, count_of, kind_of, not_space, symbol_of};
 ghost use Rattle.witness_text.specs.Inner.Takes.{TakesCounts, symbol_answer};
 
 use circuit_lines::{LineKind, TakeLine};
+use scan::ByteTest;
 use text::{Parsed, Reader};
 
 // The counts of a header: M I L O A B C J F.
@@ -43,12 +44,12 @@ pub enum Kind {
     Constraint,
 }
 
-// A symbol line taken apart: what it names, and the place in the line where the name begins.
+// A symbol line taken apart: what it names, and the name, which ends the line.
 #[derive(Clone, Copy)]
-pub struct SymbolLine {
+pub struct SymbolLine<'a> {
     pub kind: Kind,
     pub index: usize,
-    pub name: usize,
+    pub name: &'a [u8],
 }
 
 fn counts_of(ns: [u64; 9]) -> AagCounts
@@ -67,8 +68,8 @@ fn counts_of(ns: [u64; 9]) -> AagCounts
     }
 }
 
-// The counts of a text's header, its first line; those that are absent stay 0.
-pub fn take_witness_header(s: &[u8]) -> Option<Parsed<AagCounts>>
+// The counts of a text's header, its first line, and the text behind it; those that are absent stay 0.
+pub fn take_witness_header(s: &[u8]) -> Option<Parsed<'_, AagCounts>>
     ensures { TakesCounts s.now result }
 {
     let mut ns: [u64; 9] = [0; 9];
@@ -78,7 +79,7 @@ pub fn take_witness_header(s: &[u8]) -> Option<Parsed<AagCounts>>
     }
     Some(Parsed {
         value: counts_of(ns),
-        next: numbers.next,
+        rest: numbers.rest,
     })
 }
 
@@ -110,7 +111,7 @@ fn latch_line(l: &[u8]) -> Option<Latch>
     ensures { answer_or 8 result ≡ latch_line l.now }
 {
     let mut ns: [u64; 3] = [0; 3];
-    let count = circuit_lines::take_numbers(Reader::Witness, l, 0, &mut ns)?;
+    let count = circuit_lines::take_numbers(Reader::Witness, l, &mut ns)?;
     if count < 2 {
         return None;
     }
@@ -170,34 +171,32 @@ fn kind_of(b: u8) -> Option<Kind>
     }
 }
 
-// The place of the first byte 32, or the end of the line.
-fn first_space(l: &[u8]) -> usize
-    ensures { result ≡ before_space l.now }
-{
-    for i in 0..l.len() {
-        if l[i] == 32 {
-            return i;
-        }
+// A byte before the first byte 32.
+struct NotSpace;
+
+impl ByteTest for NotSpace {
+    ghost passes = { not_space };
+
+    fn passes(b: u8) -> bool {
+        b != 32
     }
-    l.len()
 }
 
-// The kind, the index and the place of the name of a symbol line, or that it has none (R4.9).
-pub fn symbol_line(l: &[u8], counts: AagCounts) -> Option<SymbolLine>
-    ensures { symbol_answer l.now result ≡ symbol_of counts l.now }
+// The kind, the index and the name of a symbol line, or that it has none (R4.9).
+pub fn symbol_line(l: &[u8], counts: AagCounts) -> Option<SymbolLine<'_>>
+    ensures { symbol_answer result ≡ symbol_of counts l.now }
 {
-    let end = first_space(l);
-    if l.len() <= end || end == 0 {
+    let (front, others) = l.split_at(scan::passing::<NotSpace>(l));
+    let [letter, digits @ ..] = front else {
         return None;
-    }
-    let kind = kind_of(l[0])?;
-    let index = text::numbers::parse_number(&l[1..end])? as usize;
+    };
+    let [_, name @ ..] = others else {
+        return None;
+    };
+    let kind = kind_of(*letter)?;
+    let index = text::numbers::parse_number(digits)? as usize;
     if count_of(counts, kind) <= index {
         return None;
     }
-    Some(SymbolLine {
-        kind,
-        index,
-        name: end + 1,
-    })
+    Some(SymbolLine { kind, index, name })
 }

@@ -2,4 +2,4 @@ use Rattle.circuit_lines.proofs.GateLaws.{plain-got}
 use Rattle.circuit_lines.proofs.plain_gate.Goals as goal
 
 pub returns : goal.returns
-returns c reader = search (plain-got, c.in_ok-output.was, c.in_ok-left.was, c.in_ok-right.was)
+returns c = plain-got c.args.s.now _ _ _ _ _ c.in_ok-right.right.rest c.in_ok-output.ensures c.in_ok-left.ensures c.in_ok-right.ensures

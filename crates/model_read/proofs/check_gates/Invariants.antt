@@ -4,4 +4,4 @@ use Rattle.model_read.proofs.GateLaws.{Checking}
 use Rattle.model_read.proofs.check_gates.Given as goal
 
 abbrev pub invariant-loop-i : goal.invariant-loop-i
-invariant-loop-i l = (length l.work ≡ length l.initial.work) × Checking l.s l.initial.next l.n l.most l.fine l.initial.work l.work l.next l.good l.i
+invariant-loop-i l = (length l.work ≡ length l.initial.work) × Checking l.s l.n l.most l.fine l.initial.work l.work l.left l.good l.i

@@ -12,7 +12,7 @@ check_model-checked-requires c = (search model-room, search rules)
 pub returns-in_err-checked : goal.returns-in_err-checked
 returns-in_err-checked c =
     let p = err_from_is_err_and c.from_residual.result c.from_residual.ensures.1 in
-    rw (p.1, p.2) (model-refused _ _ _ _ _ c.requires _ c.take_head.ensures _ c.in-Some.is _ c.check_model-checked.ensures _ c.in_err-checked.was _ (search rules))
+    rw (p.1, p.2) (model-refused c.args.s.now _ _ _ c.requires _ c.take_head.ensures _ c.in-Some.is _ c.check_model-checked.ensures _ c.in_err-checked.was _ (search rules))
 
 pub returns : goal.returns
-returns c = model-accepted _ _ _ _ _ c.requires _ c.take_head.ensures _ c.in-Some.is _ c.check_model-checked.ensures _ c.in_ok-checked.was _ (search rules) _ c.write_gates.ensures
+returns c = model-accepted c.args.s.now _ _ _ c.requires _ c.take_head.ensures _ c.in-Some.is _ c.check_model-checked.ensures _ c.in_ok-checked.was _ (search rules) _ c.write_gates.ensures

@@ -4,4 +4,4 @@ use Rattle.model_read.proofs.GateLaws.{Writing}
 use Rattle.model_read.proofs.write_gates.Given as goal
 
 abbrev pub invariant-loop-i : goal.invariant-loop-i
-invariant-loop-i l = (length l.gates ≡ length l.initial.gates) × Writing l.s l.initial.next l.n l.initial.gates l.gates l.next l.i
+invariant-loop-i l = (length l.gates ≡ length l.initial.gates) × Writing l.s l.n l.initial.gates l.gates l.left l.i

@@ -4,8 +4,8 @@ use Rattle.lists.specs.Answer.{Answer, got, refused, unless, and_then}
 use Rattle.lists.specs.Parts.{Bytes, front, zeros}
 use Rattle.lists.specs.Words.{words_of}
 use Rattle.text.specs.declared.Reader.TheVariants.{Transition}
-use Rattle.text.specs.declared.Cursor.{Cursor}
 use Rattle.text.specs.declared.Parsed.{Parsed}
+use Rattle.text.specs.Lines.{lines_of}
 use Rattle.aiger.specs.declared.Gate.{Gate}
 use Rattle.aiger.specs.Gates.{gate_words}
 use Rattle.aiger.specs.Defined.{defined}
@@ -17,7 +17,6 @@ use Rattle.model.specs.Limits.{counted, well_defined}
 use Rattle.model.specs.Inner.Marking.{Marking}
 use Rattle.circuit_lines.specs.SectionLines.{literal_line, gate_line}
 use Rattle.model_text.specs.ModelLines.{latch_line}
-use Rattle.circuit_lines.specs.Inner.Takes.{lines_from}
 
 -- ---- inputs, latches and outputs
 
@@ -55,15 +54,15 @@ record_with c gates =
     }
 
 -- they were taken: the record has them, and the gates' lines follow
-pub record Starts (s : Bytes) (c : Cursor) (n : Counts) (m : AigerTransition) (e : Cursor) : Type 0 where
+pub record Starts (s : Bytes) (n : Counts) (m : AigerTransition) (r : Bytes) : Type 0 where
   pub circuit : Circuit
   pub variables : circuit.variables ≡ n.max_variable
-  pub takes : start_of n (lines_from s c) ≡ got (record { circuit = circuit; rest = lines_from s e })
+  pub takes : start_of n (lines_of s) ≡ got (record { circuit = circuit; rest = lines_of r })
   pub model : m ≡ record_with circuit n.ands
 
-abbrev pub TakesStart : Bytes → Cursor → Counts → Option (Parsed AigerTransition) → Type 0
-TakesStart s c n (Some p) = Starts s c n p.value p.next
-TakesStart s c n None = start_of n (lines_from s c) ≡ refused 8
+abbrev pub TakesStart : Bytes → Counts → Option (Parsed AigerTransition) → Type 0
+TakesStart s n (Some p) = Starts s n p.value p.rest.now
+TakesStart s n None = start_of n (lines_of s) ≡ refused 8
 
 -- ---- gates
 
@@ -72,19 +71,19 @@ abbrev pub AddsNext : ℕ → List ℕ → Bool → Gate → List ℕ → Bool �
 AddsNext most work fine g work' r = (leaves : List ℕ) (gates : List Gate) → Marking most work leaves gates fine → Marking most work' leaves (gates ++ g ∷ []) r
 
 -- they were all taken, and f says whether all definitions hold, where `fine` says it of those of the leaves
-pub record Found (s : Bytes) (c : Cursor) (n most : ℕ) (fine : Bool) (work : List ℕ) (f : Bool) : Type 0 where
+pub record Found (s : Bytes) (n most : ℕ) (fine : Bool) (work : List ℕ) (f : Bool) : Type 0 where
   pub gates : List Gate
   pub rest : List Bytes
-  pub takes : section (gate_line Transition) n (lines_from s c) ≡ got (record { items = gates; rest = rest })
+  pub takes : section (gate_line Transition) n (lines_of s) ≡ got (record { items = gates; rest = rest })
   pub says : (leaves : List ℕ) → Marking most work leaves [] fine → f ≡ defined most leaves gates
 
-abbrev pub ChecksGates : Bytes → Cursor → ℕ → ℕ → Bool → List ℕ → Option Bool → Type 0
-ChecksGates s c n most fine work (Some f) = Found s c n most fine work f
-ChecksGates s c n most fine work None = section (gate_line Transition) n (lines_from s c) ≡ refused 8
+abbrev pub ChecksGates : Bytes → ℕ → ℕ → Bool → List ℕ → Option Bool → Type 0
+ChecksGates s n most fine work (Some f) = Found s n most fine work f
+ChecksGates s n most fine work None = section (gate_line Transition) n (lines_of s) ≡ refused 8
 
 -- the gates of a section that is good stand in front of the words
-abbrev pub Writes : Bytes → Cursor → ℕ → List ℕ → List ℕ → Type 0
-Writes s c n o o' = (gates : List Gate) (rest : List Bytes) → section (gate_line Transition) n (lines_from s c) ≡ got (record { items = gates; rest = rest }) → o' ≡ front o (words_of gate_words gates)
+abbrev pub Writes : Bytes → ℕ → List ℕ → List ℕ → Type 0
+Writes s n o o' = (gates : List Gate) (rest : List Bytes) → section (gate_line Transition) n (lines_of s) ≡ got (record { items = gates; rest = rest }) → o' ≡ front o (words_of gate_words gates)
 
 -- the gates of a model, and whether it is well defined
 abbrev pub gates_of : Circuit → ℕ → List Bytes → Answer Circuit

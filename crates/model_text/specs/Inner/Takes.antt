@@ -2,18 +2,16 @@
 use Rattle.std.specs.Prelude.{◌≡◌, drop, Option, Some, None}
 use Rattle.lists.specs.Answer.{got, refused}
 use Rattle.lists.specs.Parts.{Bytes}
-use Rattle.text.specs.declared.Cursor.{Cursor}
 use Rattle.text.specs.declared.Parsed.{Parsed}
 use Rattle.text.specs.Lines.{lines_of}
 use Rattle.model.specs.declared.Counts.{Counts}
-use Rattle.circuit_lines.specs.Inner.Takes.{lines_from}
 use Rattle.model_text.specs.Header.{header_of}
 
--- the first line has the counts n, and the others begin at the cursor c
-pub record Headed (s : Bytes) (n : Counts) (c : Cursor) : Type 0 where
+-- the first line has the counts n, and the text r with the others stands behind it
+pub record Headed (s : Bytes) (n : Counts) (r : Bytes) : Type 0 where
   pub counts : header_of (lines_of s) ≡ got n
-  pub rest : drop 1 (lines_of s) ≡ lines_from s c
+  pub rest : drop 1 (lines_of s) ≡ lines_of r
 
 abbrev pub TakesCounts : Bytes → Option (Parsed Counts) → Type 0
-TakesCounts s (Some p) = Headed s p.value p.next
+TakesCounts s (Some p) = Headed s p.value p.rest.now
 TakesCounts s None = header_of (lines_of s) ≡ refused 4

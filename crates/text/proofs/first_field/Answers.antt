@@ -1,17 +1,8 @@
-use Rattle.text.proofs.FieldLaws.{field-ordered, field-within, first_some, first-none}
+use Rattle.text.proofs.FieldLaws.{first_some, first-none}
 use Rattle.text.proofs.first_field.Goals as goal
 
 pub returns-in_default : goal.returns-in_default
-returns-in_default c = search first-none
-
-pub slice_bounds-result-count : goal.slice_bounds-result-count
-slice_bounds-result-count c = search field-ordered
-
-pub slice_bounds-result-start : goal.slice_bounds-result-start
-slice_bounds-result-start c = search field-ordered
-
-pub slice_bounds-result-end-2 : goal.slice_bounds-result-end-2
-slice_bounds-result-end-2 c = search field-within
+returns-in_default c = first-none c.args.l.now c.in_default.ensures
 
 pub returns : goal.returns
-returns c = search first_some
+returns c = first_some _ _ _ c.in-Some.ensures

@@ -1,12 +1,10 @@
-use Rattle.text.proofs.PlainLaws.{taken_run}
-use Rattle.text.proofs.LiteralLaws.{taken_missing, taken-from}
+use mathlib.Core.Path.{refl, sym, ap, ◌∙◌}
+use Rattle.text.specs.Numbers.{long_zero}
+use Rattle.text.proofs.PlainLaws.{number_run}
 use Rattle.text.proofs.next_number.Goals as goal
 
-pub returns-then-l-start : goal.returns-then-l-start
-returns-then-l-start c = search taken_missing
-
-pub returns-then-long_zero : goal.returns-then-long_zero
-returns-then-long_zero c = search taken-from
-
 pub returns : goal.returns
-returns c = search taken_run
+returns c =
+    number_run c.args.reader c.args.l.now c.from_field-front.result.now c.from_field-front.ensures c.is_empty.result c.is_empty.ensures c.if-is_empty.false _ _
+    c.digits_run-size.ensures (ap long_zero (sym c.split_at.ensures.front) ∙ sym c.long_zero.ensures ∙ c.if-long_zero.false) _ c.split_at.ensures.back
+    (c.if-not-ends_field.ensures refl)

@@ -3,4 +3,4 @@ use Rattle.lists.proofs.ZeroLaws.{zeros-kept}
 use Rattle.witness_load.proofs.load_names.Goals as goal
 
 pub name_leaves-requires : goal.name_leaves-requires
-name_leaves-requires c = (search rules, search zeros-kept)
+name_leaves-requires c = (search rules, search rules, search zeros-kept)

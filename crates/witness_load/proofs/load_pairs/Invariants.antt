@@ -5,4 +5,4 @@ use Rattle.witness_load.proofs.load_pairs.Given as goal
 abbrev pub invariant-loop-i : goal.invariant-loop-i
 invariant-loop-i g l =
     (length l.out ≡ length l.initial.out)
-    × Loading (g.K.LineKind.item l.kind) g.K.PairLine.words l.s l.initial.p l.n l.initial.out l.at l.out l.p l.i
+    × Loading (g.K.LineKind.item l.kind) g.K.PairLine.words l.s l.n l.initial.out l.at l.out l.left l.i

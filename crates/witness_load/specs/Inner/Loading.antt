@@ -1,18 +1,19 @@
 -- For the contracts of the functions that load: what each of them says of the lines of a text.
-use Rattle.std.specs.Prelude.{ℕ, ◌+◌, ◌*◌, ◌≤◌, Bool, true, false, List, [], ◌∷◌, ◌++◌, map, ◌≡◌, length, set}
+use Rattle.std.specs.Prelude.{ℕ, ◌+◌, ◌*◌, ◌≤◌, ◌<◌, Bool, true, false, List, [], ◌∷◌, ◌++◌, map, ◌≡◌, length, set}
 use Rattle.std.specs.Prelude.{Some, None}
+use Rattle.std.specs.Borrow.{Bor}
 use Rattle.std.specs.declared.option.Option as option
 use Rattle.std.proofs.Math.Option.{Option, some}
 use Rattle.lists.specs.Answer.{Answer, got, refused}
-use Rattle.lists.specs.Parts.{Bytes, put}
+use Rattle.lists.specs.Parts.{Bytes, part, put}
 use Rattle.lists.specs.Words.{pairs_of, words_of}
-use Rattle.text.specs.declared.Cursor.{Cursor}
 use Rattle.text.specs.Texts.{limited}
 use Rattle.text.specs.declared.Reader.TheVariants.{Witness}
 use Rattle.aiger.specs.declared.Gate.{Gate}
 use Rattle.aiger.specs.Sections.{Section, section}
 use Rattle.circuit_lines.specs.SectionLines.{literal_line, gate_line}
-use Rattle.circuit_lines.specs.Inner.Takes.{lines_from}
+use Rattle.text.specs.Lines.{lines_of}
+use Rattle.text.specs.Inner.Fronts.{Behind}
 use Rattle.witness_text.specs.declared.AagCounts.{AagCounts}
 use Rattle.witness_text.specs.declared.Kind.{Kind}
 use Rattle.witness_text.specs.declared.Kind.TheVariants as kind
@@ -34,16 +35,17 @@ stored_words q = q.next ∷ q.reset ∷ []
 abbrev pub literal_word : ℕ → List ℕ
 literal_word x = x ∷ []
 
-module _ {A : Type 0} (item : Bytes → Answer A) (words : A → List ℕ) (s : Bytes) (c : Cursor) (n : ℕ) (o₀ : List ℕ) (at : ℕ) (o : List ℕ) where
-  -- the section of n lines from the cursor c on was taken up to the cursor e, and its items' words stand in o₀ from a place on
-  pub record Stored (e : Cursor) : Type 0 where
+module _ {A : Type 0} (item : Bytes → Answer A) (words : A → List ℕ) (s : Bytes) (n : ℕ) (o₀ : List ℕ) (at : ℕ) (o : List ℕ) where
+  -- the section of the first n lines was taken, the text r stands behind it, and its items' words stand in o₀ from a place on
+  pub record Stored (r : Bytes) : Type 0 where
     pub items : List A
-    pub takes : section item n (lines_from s c) ≡ got (record { items = items; rest = lines_from s e })
+    pub takes : section item n (lines_of s) ≡ got (record { items = items; rest = lines_of r })
+    pub behind : Behind s r
     pub stand : o ≡ put o₀ at (words_of words items)
 
-  abbrev pub LoadsSection : option.Option Cursor → Type 0
-  LoadsSection (Some e) = Stored e
-  LoadsSection None = section item n (lines_from s c) ≡ refused 8
+  abbrev pub LoadsSection : option.Option (Bor Bytes) → Type 0
+  LoadsSection (Some r) = Stored r.now
+  LoadsSection None = section item n (lines_of s) ≡ refused 8
 
 -- outputs, bads and constraints are consecutive lines with one literal each, so they are taken as one section; then come the gates
 abbrev pub literal_count : AagCounts → ℕ
@@ -52,12 +54,12 @@ literal_count n = n.outputs + n.bads + n.constraints
 abbrev pub rest_room : AagCounts → ℕ
 rest_room n = literal_count n + 2 * n.gates
 
--- where both sections are good, their words stand in o₀ from a place on, and the lines after them begin at the cursor e
-abbrev pub LoadsRest : Bytes → Cursor → AagCounts → List ℕ → ℕ → List ℕ → Cursor → Type 0
-LoadsRest s c n o₀ at o e =
-    (literals : Section ℕ) (gates : Section Gate) → section (literal_line Witness) (literal_count n) (lines_from s c) ≡ got literals
+-- where both sections are good, their words stand in o₀ from a place on, and the lines behind them are those of the text r
+abbrev pub LoadsRest : Bytes → AagCounts → List ℕ → ℕ → List ℕ → Bytes → Type 0
+LoadsRest s n o₀ at o r =
+    (literals : Section ℕ) (gates : Section Gate) → section (literal_line Witness) (literal_count n) (lines_of s) ≡ got literals
     → section (gate_line Witness) n.gates literals.rest ≡ got gates
-    → (o ≡ put o₀ at (literals.items ++ words_of operand_words gates.items)) × (lines_from s e ≡ gates.rest)
+    → (o ≡ put o₀ at (literals.items ++ words_of operand_words gates.items)) × (lines_of r ≡ gates.rest)
 
 -- the literals of all sections but the inputs, and how many there are
 abbrev pub body_words : Body → List ℕ
@@ -66,9 +68,9 @@ body_words d = words_of stored_words d.latches ++ (d.outputs ++ (d.bads ++ (d.co
 abbrev pub body_room : AagCounts → ℕ
 body_room n = 2 * n.latches + rest_room n
 
--- where the sections are good, they stand in o₀ from a place on, and the lines after them begin at the cursor e
-abbrev pub LoadsBody : Bytes → Cursor → AagCounts → List ℕ → ℕ → List ℕ → Cursor → Type 0
-LoadsBody s c n o₀ at o e = (d : Body) → body_of n (lines_from s c) ≡ got d → (o ≡ put o₀ at (body_words d)) × (lines_from s e ≡ d.rest)
+-- where the sections are good, they stand in o₀ from a place on, and the lines behind them are those of the text r
+abbrev pub LoadsBody : Bytes → AagCounts → List ℕ → ℕ → List ℕ → Bytes → Type 0
+LoadsBody s n o₀ at o r = (d : Body) → body_of n (lines_of s) ≡ got d → (o ≡ put o₀ at (body_words d)) × (lines_of r ≡ d.rest)
 
 -- ---- names
 
@@ -93,6 +95,12 @@ module _ {A : Type 0} where
   with_name n kind.Bad k name names = names
   with_name n kind.Constraint k name names = names
 
+-- the line l stands in the text s from place a on, behind its first byte
+pub record StandsAt (s l : Bytes) (a : ℕ) : Type 0 where
+  pub past : 0 < a
+  pub fits : a + length l ≤ length s
+  pub is : part s a (a + length l) ≡ l
+
 module _ (s l : Bytes) (n : AagCounts) (o o' : List ℕ) where
   -- the line l is a symbol line, and its name is one more that the words say
   pub record Named : Type 0 where
@@ -109,9 +117,9 @@ module _ (s l : Bytes) (n : AagCounts) (o o' : List ℕ) where
 abbrev pub leaf_names : AagCounts → List Symbol → List (Option Bytes)
 leaf_names n ss = names_of is_input 0 n.inputs ss ++ names_of is_latch 0 n.latches ss
 
--- the words say the names of the lines from the cursor c on
-abbrev pub LoadsNames : Bytes → Cursor → AagCounts → List ℕ → Type 0
-LoadsNames s c n o = (t : Tail) → symbols_of n (lines_from s c) ≡ got t → pairs_of (name_from s) o ≡ map some (leaf_names n t.symbols)
+-- the words say the names of the lines of the text r, which s ends with
+abbrev pub LoadsNames : Bytes → Bytes → AagCounts → List ℕ → Type 0
+LoadsNames s r n o = (t : Tail) → symbols_of n (lines_of r) ≡ got t → pairs_of (name_from s) o ≡ map some (leaf_names n t.symbols)
 
 -- ---- a text
 

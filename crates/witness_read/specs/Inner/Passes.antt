@@ -1,17 +1,17 @@
 -- For the contracts of the reader's inner functions: what each of its passes over the lines says of the definitions.
-use Rattle.std.specs.Prelude.{ℕ, ◌+◌, ◌-◌, ◌*◌, ◌≤◌, ◌<◌, Bool, true, false, not, ◌&&◌, List, [], ◌∷◌, ◌≡◌, length, Option, Some, None, Result, Ok, Err}
+use Rattle.std.specs.Prelude.{ℕ, ◌+◌, ◌*◌, ◌≤◌, ◌<◌, Bool, true, false, not, ◌&&◌, List, [], ◌∷◌, ◌≡◌, length, Option, Some, None, Result, Ok, Err}
+use Rattle.std.specs.Borrow.{Bor}
 use Rattle.lists.specs.Answer.{Answer, got, refused, and_then}
 use Rattle.lists.specs.Parts.{Bytes, zeros}
 use Rattle.lists.specs.Sets.{holds, with_bit}
 use Rattle.lists.specs.Tests.{all, all_from}
-use Rattle.text.specs.declared.Cursor.{Cursor}
 use Rattle.text.specs.declared.Reader.TheVariants.{Witness}
 use Rattle.aiger.specs.declared.Refusal.{Refusal}
 use Rattle.aiger.specs.Refusals.{refusal_number}
 use Rattle.aiger.specs.Defined.{literal}
 use Rattle.aiger.specs.Sections.{section}
 use Rattle.circuit_lines.specs.SectionLines.{literal_line}
-use Rattle.circuit_lines.specs.Inner.Takes.{lines_from}
+use Rattle.text.specs.Lines.{lines_of}
 use Rattle.witness_text.specs.declared.AagCounts.{AagCounts}
 use Rattle.witness_text.specs.declared.Kind.{Kind}
 use Rattle.witness_text.specs.declared.Kind.TheVariants as kind
@@ -35,16 +35,16 @@ pub record SmallBoth (most k : ℕ) : Type 0 where
   pub largest : most ≤ 2000000
   pub number : k ≤ 2000000
 
-module _ {A : Type 0} (item : Bytes → Answer A) (test : List A → Bool) (s : Bytes) (c : Cursor) (n : ℕ) where
-  -- the section of n lines from the cursor c on was taken up to the cursor e, and f says whether its items pass the test
-  pub record Passed (e : Cursor) (f : Bool) : Type 0 where
+module _ {A : Type 0} (item : Bytes → Answer A) (test : List A → Bool) (s : Bytes) (n : ℕ) where
+  -- the section of the first n lines of s was taken, the text r stands behind it, and f says whether its items pass the test
+  pub record Passed (r : Bytes) (f : Bool) : Type 0 where
     pub items : List A
-    pub takes : section item n (lines_from s c) ≡ got (record { items = items; rest = lines_from s e })
+    pub takes : section item n (lines_of s) ≡ got (record { items = items; rest = lines_of r })
     pub says : f ≡ test items
 
   abbrev pub Checks : Option Checked → Type 0
-  Checks (Some r) = Passed r.next r.fine
-  Checks None = section item n (lines_from s c) ≡ refused 8
+  Checks (Some x) = Passed x.rest.now x.fine
+  Checks None = section item n (lines_of s) ≡ refused 8
 
 -- inputs and latches
 pub record Leaves : Type 0 where
@@ -79,67 +79,66 @@ abbrev pub properties_numbered : AagCounts → Properties → Bool
 properties_numbered n d =
     all (literal n.max_variable) d.outputs && (all (literal n.max_variable) d.bads && all (literal n.max_variable) d.constraints)
 
-module _ {A : Type 0} (read : List Bytes → Answer A) (rest : A → List Bytes) (test : A → Bool) (s : Bytes) (c : Cursor) where
-  -- several sections were taken up to the cursor e, and f says whether they pass the test
-  pub record PassedAll (e : Cursor) (f : Bool) : Type 0 where
+module _ {A : Type 0} (read : List Bytes → Answer A) (rest : A → List Bytes) (test : A → Bool) (s : Bytes) where
+  -- several sections were taken, the text r stands behind them, and f says whether they pass the test
+  pub record PassedAll (r : Bytes) (f : Bool) : Type 0 where
     pub taken : A
-    pub takes : read (lines_from s c) ≡ got taken
-    pub left : rest taken ≡ lines_from s e
+    pub takes : read (lines_of s) ≡ got taken
+    pub left : rest taken ≡ lines_of r
     pub says : f ≡ test taken
 
   abbrev pub ChecksAll : Option Checked → Type 0
-  ChecksAll (Some r) = PassedAll r.next r.fine
-  ChecksAll None = read (lines_from s c) ≡ refused 8
+  ChecksAll (Some x) = PassedAll x.rest.now x.fine
+  ChecksAll None = read (lines_of s) ≡ refused 8
 
-abbrev pub ChecksLeaves : Bytes → Cursor → AagCounts → Option Checked → Type 0
-ChecksLeaves s c n r = ChecksAll (leaves_of n) (λ d. d.rest) (leaves_numbered n) s c r
+abbrev pub ChecksLeaves : Bytes → AagCounts → Option Checked → Type 0
+ChecksLeaves s n r = ChecksAll (leaves_of n) (λ d. d.rest) (leaves_numbered n) s r
 
-abbrev pub ChecksProperties : Bytes → Cursor → AagCounts → Option Checked → Type 0
-ChecksProperties s c n r = ChecksAll (properties_of n) (λ d. d.rest) (properties_numbered n) s c r
+abbrev pub ChecksProperties : Bytes → AagCounts → Option Checked → Type 0
+ChecksProperties s n r = ChecksAll (properties_of n) (λ d. d.rest) (properties_numbered n) s r
 
-abbrev pub ChecksBody : Bytes → Cursor → AagCounts → Option Checked → Type 0
-ChecksBody s c n r = ChecksAll (body_of n) (λ d. d.rest) (well_numbered n) s c r
+abbrev pub ChecksBody : Bytes → AagCounts → Option Checked → Type 0
+ChecksBody s n r = ChecksAll (body_of n) (λ d. d.rest) (well_numbered n) s r
 
-module _ (s : Bytes) (p : Cursor) (n : AagCounts) where
-  -- the line at the cursor p is a symbol line, and the lines after it begin at the cursor e
-  pub record TakenSymbol (kd : Kind) (index : ℕ) (e : Cursor) : Type 0 where
+module _ (s : Bytes) (n : AagCounts) where
+  -- the first line of s is a symbol line, and the text r stands behind it
+  pub record TakenSymbol (kd : Kind) (index : ℕ) (r : Bytes) : Type 0 where
     pub line : Bytes
     pub name : Bytes
-    pub lines : lines_from s p ≡ line ∷ lines_from s e
+    pub lines : lines_of s ≡ line ∷ lines_of r
     pub goes : ends_symbols line ≡ false
     pub is : symbol_of n line ≡ got (record { kind = kd; index = index; name = name })
-    pub less : length s - e.at < length s - p.at
+    pub less : length r < length s
 
-  -- the line at the cursor p is refused with k
+  -- the first line of s is refused with k
   pub record BadSymbol (k : ℕ) : Type 0 where
     pub line : Bytes
     pub rest : List Bytes
-    pub lines : lines_from s p ≡ line ∷ rest
+    pub lines : lines_of s ≡ line ∷ rest
     pub goes : ends_symbols line ≡ false
     pub is : symbol_of n line ≡ refused k
 
-  -- there is no symbol at the cursor p, and the comments begin at the cursor e
-  pub record EndsSymbols (e : Cursor) : Type 0 where
-    pub takes : tail_of n (lines_from s p) ≡ got (record { symbols = []; comments = lines_from s e })
+  -- s begins with no symbol, and the comments are the text r
+  pub record EndsSymbols (r : Bytes) : Type 0 where
+    pub takes : tail_of n (lines_of s) ≡ got (record { symbols = []; comments = lines_of r })
 
   -- a symbol, or the end of the symbols
-  pub record Follows (o : Option SymbolLine) (e : Cursor) : Type 0 where
-    pub taken : (x : SymbolLine) → o ≡ Some x → TakenSymbol x.kind x.index e
-    pub ends : o ≡ None → EndsSymbols e
+  pub record Follows (o : Option SymbolLine) (r : Bytes) : Type 0 where
+    pub taken : (x : SymbolLine) → o ≡ Some x → TakenSymbol x.kind x.index r
+    pub ends : o ≡ None → EndsSymbols r
 
   abbrev pub TakesSymbol : Result NextSymbol Refusal → Type 0
-  TakesSymbol (Ok x) = Follows x.symbol x.next
+  TakesSymbol (Ok x) = Follows x.symbol x.rest.now
   TakesSymbol (Err k) = BadSymbol (refusal_number k)
 
-module _ (s : Bytes) (c : Cursor) (n : AagCounts) where
-  -- the symbols were taken, and the comments begin at the cursor e
-  pub record PassedSymbols (e : Cursor) : Type 0 where
+  -- the symbols were taken, and the comments are the text r
+  pub record PassedSymbols (r : Bytes) : Type 0 where
     pub symbols : List Symbol
-    pub takes : symbols_of n (lines_from s c) ≡ got (record { symbols = symbols; comments = lines_from s e })
+    pub takes : symbols_of n (lines_of s) ≡ got (record { symbols = symbols; comments = lines_of r })
 
-  abbrev pub ChecksSymbols : Result Cursor Refusal → Type 0
-  ChecksSymbols (Ok e) = PassedSymbols e
-  ChecksSymbols (Err k) = symbols_of n (lines_from s c) ≡ refused (refusal_number k)
+  abbrev pub ChecksSymbols : Result (Bor Bytes) Refusal → Type 0
+  ChecksSymbols (Ok r) = PassedSymbols r.now
+  ChecksSymbols (Err k) = symbols_of n (lines_of s) ≡ refused (refusal_number k)
 
 -- marks for each input and latch, none of them set
 pub record Unmarked (n : AagCounts) (marks : List ℕ) : Type 0 where

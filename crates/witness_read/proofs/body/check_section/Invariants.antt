@@ -4,4 +4,4 @@ use Rattle.witness_read.proofs.body.check_section.Given as goal
 
 abbrev pub invariant-loop-i : goal.invariant-loop-i
 invariant-loop-i g l =
-    Checking (g.K.LineKind.item l.kind) (all_from (g.T.Numbered.test l.test) l.first) l.s l.initial.next l.n l.i l.fine l.next
+    Checking (g.K.LineKind.item l.kind) (all_from (g.T.Numbered.test l.test) l.first) l.s l.n l.i l.fine l.rest

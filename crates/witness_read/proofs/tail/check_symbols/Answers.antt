@@ -6,7 +6,7 @@ pub loop-symbol-init : goal.loop-symbol-init
 loop-symbol-init c = (refl, search naming-none)
 
 pub returns-in_err-symbol : goal.returns-in_err-symbol
-returns-in_err-symbol c = naming-bad _ _ _ _ _ c.loop-symbol.invariant.1 _ c.in_err-symbol.ensures _ c.from_residual.ensures.1
+returns-in_err-symbol c = naming-bad _ _ _ _ c.loop-symbol.invariant.1 _ c.in_err-symbol.ensures _ c.from_residual.ensures.1
 
 pub returns-in_default : goal.returns-in_default
 returns-in_default c = search (naming-end, c.in_ok-symbol.ensures)

@@ -6,7 +6,7 @@ pub loop-symbol-init : goal.loop-symbol-init
 loop-symbol-init c = search order-none
 
 pub returns-in_err-symbol : goal.returns-in_err-symbol
-returns-in_err-symbol c = order-bad _ _ _ _ _ _ c.loop-symbol.invariant _ c.in_err-symbol.ensures _ c.from_residual.ensures.1
+returns-in_err-symbol c = order-bad _ _ _ _ _ c.loop-symbol.invariant _ c.in_err-symbol.ensures _ c.from_residual.ensures.1
 
 pub returns-in_default : goal.returns-in_default
 returns-in_default c = search (order-end, c.in_ok-symbol.ensures)
