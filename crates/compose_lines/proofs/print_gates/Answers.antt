@@ -1,6 +1,5 @@
 use native.Mathlib.Omega.{arith}
-use Rattle.compose_lines.proofs.GateLaws.{walk_none, key-some, walk_more, walk_end}
-use borrow.Author.Rules.{rules}
+use Rattle.compose_lines.proofs.GateLaws.{walk_more, walk_end}
 use Rattle.compose_lines.proofs.print_gates.Goals as goal
 
 pub loop-k-preserved : goal.loop-k-preserved

@@ -1,5 +1,5 @@
-use Rattle.text_print.proofs.PrintsLaws.{printing-none, printing-more, printing-done}
-use Rattle.text_print.proofs.LineLaws.{fields-more, fields-end}
+use Rattle.text_print.proofs.PrintsLaws.{printing-none, printing-more}
+use Rattle.text_print.proofs.LineLaws.{fields-more}
 use Rattle.text_print.proofs.Printer.fields.Goals as goal
 
 pub loop-n-init : goal.loop-n-init
