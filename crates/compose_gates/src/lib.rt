@@ -5,7 +5,7 @@ ghost use Rattle.std.specs.Prelude.{◌≡◌, ◌+◌, ◌<◌, length, drop};
 ghost use Rattle.compose_spec.specs.Sharing.{translate, unordered};
 ghost use Rattle.compose_spec.specs.Inner.Keys.{key_of};
 ghost use Rattle.compose_gates.specs.Inner.Linked.{Translatable, TwoLiterals, key_at, Findable, FindsIn, Sharable, Shares};
-ghost use Rattle.compose_gates.specs.Inner.Latches.{Slot, SlotIs, same_pair, Storable, DefinesLatch, Definable, Defines};
+ghost use Rattle.compose_gates.specs.Inner.Latches.{DefinesLatch, Definable, Defines};
 
 // The composed literal of a joint one, by the composed variables of the joint ones.
 pub fn translate(vars: &[u64], literal: u64) -> u64
@@ -76,56 +76,38 @@ pub fn share_gates(
     Some(shared)
 }
 
-// The number of the composed latch whose variable is at a place: the first one has the variable `first`, and `seen` of them were met.
-fn slot_of(work: &[u64], at: usize, first: usize, seen: usize) -> usize
-    requires { Slot at first seen work.now }
-    ensures { SlotIs at first seen work.now result }
+// Whether a latch with this next literal and reset is as its first definition, which stands at a place; where there is none yet, it is stored there.
+// Kept (switch): the loop says which latch was met before, and the definition branches on it.
+fn define_latch(definitions: &mut [u64], place: usize, next: u64, reset: u64, known: bool) -> bool
+    requires { place + 1 < length definitions.old }
+    ensures { DefinesLatch place next reset definitions.old definitions.new known result }
 {
-    work[at] as usize - first
-}
-
-fn same_pair(work: &[u64], at: usize, x: u64, y: u64) -> bool
-    requires { at + 1 < length work.now }
-    ensures { result ≡ same_pair at x y work.now }
-{
-    work[at] == x && work[at + 1] == y
-}
-
-// Whether the latch whose words stand at `at` is as its first definition, which stands at `place`; where there is none yet, it is stored there.
-// Kept (switch): both ways begin with the same two translated words, and the loop says which latch was met before.
-fn define_latch(work: &mut [u64], at: usize, vars: usize, place: usize, known: bool) -> bool
-    requires { Storable at vars place work.old }
-    ensures { DefinesLatch at vars place work.old work.new known result }
-{
-    let next = translate(&work[vars..], work[at]);
-    let reset = translate(&work[vars..], work[at + 1]);
     if known {
-        return same_pair(work, place, next, reset);
+        return definitions[place] == next && definitions[place + 1] == reset;
     }
-    work[place] = next;
-    work[place + 1] = reset;
+    definitions[place] = next;
+    definitions[place + 1] = reset;
     true
 }
 
-// How many latches the composition has where all definitions of each agree, or none (R9.18). The first definition of each composed latch is stored from the place `definitions` on.
-// Kept (buffer): as in `share_gates`.
+// How many latches the composition has where all definitions of each agree, or none (R9.18). The latches' own composed variables stand among
+// all from the place `own` on, and the first is the number `first`. The first definition of each composed latch is stored.
 pub fn define_latches(
-    work: &mut [u64],
-    words: usize,
-    count: usize,
-    vars: usize,
+    latches: &[u64],
+    vars: &[u64],
     own: usize,
-    definitions: usize,
+    definitions: &mut [u64],
     first: usize,
 ) -> Option<usize>
-    requires { Definable words count vars own definitions first work.old }
-    ensures { Defines words count vars own definitions first work.old work.new result }
+    requires { Definable latches.now vars.now own definitions.old first }
+    ensures { Defines latches.now vars.now own first definitions.old definitions.new result }
 {
     let mut seen = 0;
-    for j in 0..count {
-        let slot = slot_of(work, own + j, first, seen);
-        let place = definitions + 2 * slot;
-        if !define_latch(work, words + 2 * j, vars, place, slot < seen) {
+    for j in 0..latches.len() / 2 {
+        let slot = vars[own + j] as usize - first;
+        let next = translate(vars, latches[2 * j]);
+        let reset = translate(vars, latches[2 * j + 1]);
+        if !define_latch(definitions, 2 * slot, next, reset, slot < seen) {
             return None;
         }
         seen = seen.max(slot + 1);
