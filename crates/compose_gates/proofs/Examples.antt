@@ -16,14 +16,14 @@ in_order_lem = refl
 
 -- Two inputs of one witness, which are joint variables 1 and 2 and composed ones 1 and 2, and the gates (2, 4), (4, 2), (6, 1). The first two share variable 3;
 -- the operand 1 of the third is true, but it stays a gate.
-pub two_shared : (shared_in 0 3 6 3 2 (2 ∷ 4 ∷ 4 ∷ 2 ∷ 6 ∷ 1 ∷ 0 ∷ 1 ∷ 2 ∷ [])).vars ≡ 0 ∷ 1 ∷ 2 ∷ 3 ∷ 3 ∷ 4 ∷ []
+pub two_shared : (shared_in (2 ∷ 4 ∷ 4 ∷ 2 ∷ 6 ∷ 1 ∷ []) (0 ∷ 1 ∷ 2 ∷ []) 3 2).vars ≡ 0 ∷ 1 ∷ 2 ∷ 3 ∷ 3 ∷ 4 ∷ []
 two_shared = refl
 
-pub two_gates : shared_answer 2 (shared_in 0 3 6 3 2 (2 ∷ 4 ∷ 4 ∷ 2 ∷ 6 ∷ 1 ∷ 0 ∷ 1 ∷ 2 ∷ [])) ≡ Some 2
+pub two_gates : shared_answer 2 (shared_in (2 ∷ 4 ∷ 4 ∷ 2 ∷ 6 ∷ 1 ∷ []) (0 ∷ 1 ∷ 2 ∷ []) 3 2) ≡ Some 2
 two_gates = refl
 
 -- 17: the second composed gate would be variable 2,000,001
-pub too_many : shared_answer 1999999 (shared_in 0 3 6 3 1999999 (2 ∷ 4 ∷ 4 ∷ 2 ∷ 6 ∷ 1 ∷ 0 ∷ 1 ∷ 2 ∷ [])) ≡ None
+pub too_many : shared_answer 1999999 (shared_in (2 ∷ 4 ∷ 4 ∷ 2 ∷ 6 ∷ 1 ∷ []) (0 ∷ 1 ∷ 2 ∷ []) 3 1999999) ≡ None
 too_many = refl
 
 -- three latches: the second is the first one again, with the composed variable 1, and the third is new

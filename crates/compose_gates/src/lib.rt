@@ -1,10 +1,10 @@
 // The gates and latches of all witnesses, which stand side by side in lent words, become those of the composition.
 #![tactic(auto)]
 
-ghost use Rattle.std.specs.Prelude.{◌≡◌, ◌+◌, ◌<◌, length, drop};
+ghost use Rattle.std.specs.Prelude.{◌≡◌, ◌+◌, ◌<◌, length};
 ghost use Rattle.compose_spec.specs.Sharing.{translate, unordered};
 ghost use Rattle.compose_spec.specs.Inner.Keys.{key_of};
-ghost use Rattle.compose_gates.specs.Inner.Linked.{Translatable, TwoLiterals, key_at, Findable, FindsIn, Sharable, Shares};
+ghost use Rattle.compose_gates.specs.Inner.Linked.{Translatable, Sharable, Shares};
 ghost use Rattle.compose_gates.specs.Inner.Latches.{DefinesLatch, Definable, Defines};
 
 // The composed literal of a joint one, by the composed variables of the joint ones.
@@ -27,51 +27,38 @@ fn key_of(x: u64, y: u64) -> u64
     }
 }
 
-// The key of the composed gate for the gate whose operands stand at a place.
-fn gate_key(work: &[u64], at: usize, vars: usize) -> u64
-    requires { TwoLiterals at vars work.now }
-    ensures { result ≡ key_at at vars work.now }
+// The key of the composed gate for a gate with these operands.
+fn gate_key(vars: &[u64], left: u64, right: u64) -> u64
+    requires { Translatable vars.now left × Translatable vars.now right }
+    ensures { result ≡ key_of (unordered (translate vars.now left) (translate vars.now right)) }
 {
-    let left = translate(&work[vars..], work[at]);
-    let right = translate(&work[vars..], work[at + 1]);
-    key_of(left, right)
-}
-
-// The number of a key in the table at a place, where a new one is added.
-// Kept (buffer): this is where the table is cut out of the words.
-fn number_of(work: &mut [u64], table: usize, count: usize, shared: usize, key: u64) -> usize
-    requires { Findable table count shared key work.old }
-    ensures { FindsIn table count shared key work.old work.new result }
-{
-    let end = table + (4 * count + 1);
-    key_table::find_or_add(&mut work[table..end], count + 1, shared, key)
+    let x = translate(vars, left);
+    let y = translate(vars, right);
+    key_of(x, y)
 }
 
 // How many gates the composition has, or none (R9.17): equal unordered operand pairs share a gate. The composed variables of the gates are stored behind
-// those of the `known` joint variables.
-// Kept (travel): this call and `define_latches` name different places of the one lent slice, and each is called once: a struct would be made for one call.
-// Kept (buffer): operands, variables and table are parts of that slice, which the laws of `compose_merge` follow as one list through all passes.
+// the `known` ones; the table has room for the key of each gate.
 pub fn share_gates(
-    work: &mut [u64],
-    operands: usize,
-    count: usize,
-    vars: usize,
+    operands: &[u64],
+    vars: &mut [u64],
     known: usize,
-    table: usize,
+    table: &mut [u64],
     leaves: usize,
 ) -> Option<usize>
-    requires { Sharable operands count vars known table leaves work.old }
-    ensures { Shares operands count vars known table leaves work.old work.new result }
+    requires { Sharable operands.now vars.old known table.old leaves }
+    ensures { Shares operands.now vars.old known leaves vars.new table.new result }
 {
+    let count = operands.len() / 2;
     let mut shared = 0;
     for i in 0..count {
-        let key = gate_key(work, operands + 2 * i, vars);
-        let k = number_of(work, table, count, shared, key);
+        let key = gate_key(vars, operands[2 * i], operands[2 * i + 1]);
+        let k = key_table::find_or_add(table, count + 1, shared, key);
         shared = shared.max(k + 1);
         if leaves + shared > 2000000 {
             return None;
         }
-        work[vars + known + i] = (leaves + 1 + k) as u64;
+        vars[known + i] = (leaves + 1 + k) as u64;
     }
     Some(shared)
 }

@@ -3,7 +3,7 @@
 
 ghost use Rattle.compose_layout.specs.Inner.Laid.{OfSome};
 ghost use Rattle.compose_merge.specs.Inner.Merged.{Mergeable, Goes};
-ghost use Rattle.compose_merge.specs.Inner.Stages.{Clearable, Clears, CanDefine, DefinesAll, CanCollect, Collects, GatesShared};
+ghost use Rattle.compose_merge.specs.Inner.Stages.{Clearable, Clears, CanShare, SharesAll, CanDefine, DefinesAll, CanCollect, Collects, GatesShared};
 
 use aiger::Refusal;
 use compose_gather::Totals;
@@ -36,6 +36,22 @@ fn clear_regions(work: &mut [u64], at: Layout, gates: usize)
     compose_numbers::regions_clear(work, at.assigned, at.vars + 1);
     compose_numbers::regions_clear(work, at.gates, at.gates + (gates + 1));
     compose_numbers::regions_clear(work, at.bad_bits, at.end);
+}
+
+// Shares the gates, where they are not too many (R9.17), and counts those of the composition.
+fn share(work: &mut [u64], at: Layout, totals: Totals, leaves: usize) -> Option<usize>
+    requires { CanShare at totals leaves work.old }
+    ensures { SharesAll at totals leaves work.old work.new result }
+{
+    let (front, rest) = work.split_at_mut(at.gates);
+    let (lists, vars) = front.split_at_mut(at.vars);
+    compose_gates::share_gates(
+        &lists[at.operands..at.safety],
+        vars,
+        1 + totals.inputs + totals.latches,
+        &mut rest[..at.definitions - at.gates],
+        leaves,
+    )
 }
 
 // Stores the definitions of the latches, where those of each agree (R9.18), and counts them.
@@ -130,16 +146,7 @@ pub fn merge(
         own_latches,
         first_latch,
     );
-    let known = 1 + totals.inputs + totals.latches;
-    let Some(gates) = compose_gates::share_gates(
-        work,
-        at.operands,
-        totals.gates,
-        at.vars,
-        known,
-        at.gates,
-        next - 1,
-    ) else {
+    let Some(gates) = share(work, at, totals, next - 1) else {
         return Err(Refusal::GateLimit);
     };
     define_and_collect(work, at, totals, first_latch, next, gates)

@@ -12,6 +12,7 @@ use Rattle.compose_gather.specs.declared.Totals.{Totals}
 use Rattle.compose_layout.specs.declared.Layout.{Layout}
 use Rattle.compose_layout.specs.Inner.Laid.{Has, Summed}
 use Rattle.compose_gates.specs.Inner.Latches.{Definable, Defines}
+use Rattle.compose_gates.specs.Inner.Linked.{Sharable, Shares}
 use Rattle.compose_numbers.specs.Inner.Marked.{CanAdd, Added}
 use Rattle.compose_merge.specs.Inner.Merged.{Base, input_numbers, latch_numbers}
 
@@ -56,6 +57,23 @@ pub record GatesShared (t : Totals) (at : Layout) (n k g : ℕ) (work : List ℕ
   pub fits : gates_fit (leaf_count m ws) (composed_gates m ws) ≡ true
   pub shared : Shared at work m ws
   pub bits : Clean work at.bad_bits at.end
+
+-- the operands, the composed variables and the table of gates stand one behind the other within the words
+pub record CanShare (at : Layout) (t : Totals) (leaves : ℕ) (work : List ℕ) : Type 0 where
+  pub operands : at.operands ≤ at.safety
+  pub lists : at.safety ≤ at.vars
+  pub vars : at.vars ≤ at.gates
+  pub table : at.gates ≤ at.definitions
+  pub fits : at.definitions ≤ length work
+  pub known : 1 + t.inputs + t.latches ≤ length work
+  pub can : Sharable (part work at.operands at.safety) (part work at.vars at.gates) (1 + t.inputs + t.latches) (part work at.gates at.definitions) leaves
+
+-- the gates are shared in the last two of them, and no other words are written
+pub record SharesAll (at : Layout) (t : Totals) (leaves : ℕ) (work work' : List ℕ) (r : Option ℕ) : Type 0 where
+  pub shares :
+      Shares (part work at.operands at.safety) (part work at.vars at.gates) (1 + t.inputs + t.latches) leaves (part work' at.vars at.gates) (part work' at.gates at.definitions) r
+  pub before : take at.vars work' ≡ take at.vars work
+  pub behind : drop at.definitions work' ≡ drop at.definitions work
 
 -- the words of the latches, the composed variables and room for definitions stand one behind the other within the words
 pub record CanDefine (at : Layout) (t : Totals) (first : ℕ) (work : List ℕ) : Type 0 where
