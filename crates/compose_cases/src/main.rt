@@ -6,15 +6,7 @@ use std::io;
 
 // Prints `refused`, the number and byte 10.
 fn print_refused(rt: &impl Print, refusal: Refusal) -> io::Result<()> {
-    let mut line = [0u8; 32];
-    rt.write_all(b"refused ")?;
-    let Some(size) = text_decimal::write_decimal(&mut line, 0, u64::from(refusal)) else {
-        return Ok(());
-    };
-    if size <= 32 {
-        rt.write_all(&line[..size])?;
-    }
-    rt.write_all(b"\n")
+    println!(rt; "refused {}", u64::from(refusal))
 }
 
 // Prints the composition of the witness texts that pairs say, or the number of the reason.
@@ -38,6 +30,7 @@ fn show(
 }
 
 // R14.7: the model and two witnesses of 20 bytes each; so many work words and result bytes are lent.
+// Kept (buffer): how much is lent is what the cases try.
 fn show_case(
     rt: &impl Print,
     pairs: &[u64],

@@ -52,21 +52,20 @@ module _ (first : ℕ) (table : List ℕ) (heads count : ℕ) where
   abbrev all : Bytes
   all = text_of (key_lines table heads first 0 count)
 
-  -- the gates in front of number k are printed; x is the next variable
-  pub record GateWalk (p₀ p : Printer) (x k : ℕ) : Type 0 where
-    pub printing : Printing p₀ all p (text_of (key_lines table heads x k (count - k)))
-    pub number : x ≡ first + k
+  -- the gates in front of number k are printed
+  pub record GateWalk (p₀ p : Printer) (k : ℕ) : Type 0 where
+    pub printing : Printing p₀ all p (text_of (key_lines table heads (first + k) k (count - k)))
     pub passed : k ≤ count
     pub fits : heads + 3 * count ≤ length table
     pub small : first + count < 4294967296
 
   -- before the loop
-  pub walk_none : (p : Printer) → CanPrintGates first table heads count → GateWalk p p first 0
+  pub walk_none : (p : Printer) → CanPrintGates first table heads count → GateWalk p p 0
   walk_none p c =
       let z : count - 0 ≡ count = omega arith in
+      let x : first + 0 ≡ first = omega arith in
       record {
-        printing = rw z (printing-none p all);
-        number = omega arith;
+        printing = rw (z, x) (printing-none p all);
         passed = omega arith;
         fits = omega (arith, c.keys.held.fits, c.keys.counted, length-map c.gs key_of);
         small = c.keys.small;
@@ -76,20 +75,21 @@ module _ (first : ℕ) (table : List ℕ) (heads count : ℕ) where
   pub key-some : (k : ℕ) → CanPrintGates first table heads count → k < count → 1 ≤ get_or table (heads + 3 * k) 0
   key-some k c h = omega (arith, c.keys.held.key k (omega (arith, c.keys.counted, length-map c.gs key_of)))
 
-  module _ (p₀ p : Printer) (x k : ℕ) (w : GateWalk p₀ p x k) where
+  module _ (p₀ p : Printer) (k : ℕ) (w : GateWalk p₀ p k) where
     -- a turn
-    pub walk_more : (p' : Printer) → k < count → PrintsOn p (key_line x (key_at table heads k) ++ 10 ∷ []) p' → GateWalk p₀ p' (x + 1) (k + 1)
+    pub walk_more : (p' : Printer) → k < count → PrintsOn p (key_line (first + k) (key_at table heads k) ++ 10 ∷ []) p' → GateWalk p₀ p' (k + 1)
     walk_more p' h q =
         let n : count - k ≡ suc (count - (k + 1)) = omega arith in
-        let split : text_of (key_lines table heads x k (count - k)) ≡ (key_line x (key_at table heads k) ++ 10 ∷ []) ++ text_of (key_lines table heads (x + 1) (k + 1) (count - (k + 1))) =
-        ap (λ (l : ℕ). text_of (key_lines table heads x k l)) n
-        ∙ (sym (append_assoc (key_line x (key_at table heads k)) (10 ∷ []) (text_of (key_lines table heads (suc x) (suc k) (count - (k + 1)))))
-        ∙ ap₂ (λ (y j : ℕ). (key_line x (key_at table heads k) ++ 10 ∷ []) ++ text_of (key_lines table heads y j (count - (k + 1)))) (sym (add-one x)) (sym (add-one k))) in
+        let x : suc (first + k) ≡ first + (k + 1) = omega arith in
+        let line : Bytes = key_line (first + k) (key_at table heads k) in
+        let split : text_of (key_lines table heads (first + k) k (count - k)) ≡ (line ++ 10 ∷ []) ++ text_of (key_lines table heads (first + (k + 1)) (k + 1) (count - (k + 1))) =
+        ap (λ (l : ℕ). text_of (key_lines table heads (first + k) k l)) n
+        ∙ (sym (append_assoc line (10 ∷ []) (text_of (key_lines table heads (suc (first + k)) (suc k) (count - (k + 1)))))
+        ∙ ap₂ (λ (y j : ℕ). (line ++ 10 ∷ []) ++ text_of (key_lines table heads y j (count - (k + 1)))) x (sym (add-one k))) in
         record {
           printing =
-              printing-more p₀ all p (text_of (key_lines table heads x k (count - k))) w.printing (key_line x (key_at table heads k) ++ 10 ∷ [])
-              (text_of (key_lines table heads (x + 1) (k + 1) (count - (k + 1)))) p' split q;
-          number = omega (arith, w.number);
+              printing-more p₀ all p (text_of (key_lines table heads (first + k) k (count - k))) w.printing (line ++ 10 ∷ [])
+              (text_of (key_lines table heads (first + (k + 1)) (k + 1) (count - (k + 1)))) p' split q;
           passed = omega arith;
           fits = w.fits;
           small = w.small;
@@ -99,10 +99,10 @@ module _ (first : ℕ) (table : List ℕ) (heads count : ℕ) where
     pub walk_end : count ≤ k → PrintsGates first table heads count p₀ p
     walk_end h gs c =
         let n : count - k ≡ 0 = omega arith in
-        let none : text_of (key_lines table heads x k (count - k)) ≡ [] = ap (λ (l : ℕ). text_of (key_lines table heads x k l)) n in
+        let none : text_of (key_lines table heads (first + k) k (count - k)) ≡ [] = ap (λ (l : ℕ). text_of (key_lines table heads (first + k) k l)) n in
         let keys : (j : ℕ) → j < length gs → get_or table (heads + 3 * (0 + j)) 0 ≡ get_or (map key_of gs) j 0 + 1 =
         λ j l. let z : 0 + j ≡ j = omega arith in ap (λ (i : ℕ). get_or table (heads + 3 * i) 0) z ∙ c.held.key j (omega (arith, length-map gs key_of)) in
         let lines : key_lines table heads first 0 count ≡ gate_lines (gates_from first gs) =
         ap (key_lines table heads first 0) (sym c.counted) ∙ lines_are table heads first 0 gs keys c.narrow in
         prints_as p₀ all p (text_of (gate_lines (gates_from first gs))) (ap text_of lines)
-        (printing-done p₀ all p (text_of (key_lines table heads x k (count - k))) w.printing none)
+        (printing-done p₀ all p (text_of (key_lines table heads (first + k) k (count - k))) w.printing none)

@@ -1,5 +1,5 @@
-// The text of the composition from the composer's words: its header, its gates and its last lines. Its other lines are printed by `text_print` and `compose_names`;
-// the law `printed-parts` says how all of them make up the text.
+// The text of the composition from the composer's words: its header, its gates and its last lines. Its other lines are printed by
+// `text_print` and `compose_names`; the law `printed-parts` says how all of them make up the text.
 #![tactic(auto)]
 
 ghost use Rattle.std.specs.Prelude.{[], ◌∷◌, ◌++◌};
@@ -42,15 +42,14 @@ pub fn print_header(to: &mut Printer, counts: Counts)
 }
 
 // Prints the lines of the gates whose keys a table holds; the first gate has the variable `first`.
+// Kept (buffer): the keys stand between the heads and the spare words of a lent table.
 pub fn print_gates(to: &mut Printer, first: u64, table: &[u64], heads: usize, count: usize)
     requires { CanPrintGates first table.now heads count }
     ensures { PrintsGates first table.now heads count to.old to.new }
 {
-    let mut x = first;
     for k in 0..count {
         let key = table[heads + 3 * k] - 1;
-        to.three(2 * x, key % 4294967296, key / 4294967296);
-        x += 1;
+        to.three(2 * (first + k as u64), key % 4294967296, key / 4294967296);
     }
 }
 

@@ -2,6 +2,7 @@
 use model::{AigerLatch, AigerTransition};
 use nitrasovy::models;
 use replay_text::{form, show};
+use text_print::Printer;
 
 // The words of the latches.
 fn latch_words(latches: [AigerLatch; 8]) -> [u64; 16] {
@@ -15,38 +16,37 @@ fn latch_words(latches: [AigerLatch; 8]) -> [u64; 16] {
 }
 
 // Prints M I L O A.
-fn show_counts(model: AigerTransition, out: &mut [u8], at: usize) -> usize {
-    let counts = [
+fn show_counts(to: &mut Printer, model: AigerTransition) {
+    to.fields(&[
         model.max_variable as u64,
         model.input_count as u64,
         model.latch_count as u64,
         model.output_count as u64,
         model.and_count as u64,
-    ];
-    show::words(out, at, &counts)
+    ]);
 }
 
 // Prints a record: the counts, the literals of each list, and that all slots past them are 0.
-fn show_model(model: AigerTransition, out: &mut [u8], at: usize) -> usize {
+fn show_model(to: &mut Printer, model: AigerTransition) {
     let inputs = model.inputs;
     let pairs = model.latches;
     let latches = latch_words(pairs);
     let outputs = model.outputs;
-    let counted = show_counts(model, out, at);
-    let first = show::zero(out, counted, &inputs, model.input_count);
-    let second = show::zero(out, first, &latches, model.latch_count.saturating_mul(2));
-    show::zero(out, second, &outputs, model.output_count)
+    show_counts(to, model);
+    show::zero(to, &inputs, model.input_count);
+    show::zero(to, &latches, model.latch_count.saturating_mul(2));
+    show::zero(to, &outputs, model.output_count);
 }
 
 // Reads a text with exactly these words lent, and prints the answer.
-fn read_lent(text: &[u8], gates: &mut [u64], work: &mut [u64], out: &mut [u8], at: usize) -> usize {
+fn read_lent(text: &[u8], gates: &mut [u64], work: &mut [u64], to: &mut Printer) {
     let read = models::nit_read_transition(text, gates, work);
-    let named = text_print::print_bytes(out, at, b"transition");
-    let reasoned = show::number(out, named, read.reason);
     let model = read.model;
-    let shown = show_model(model, out, reasoned);
-    let listed = show::kept(out, shown, gates, model.and_count.saturating_mul(3));
-    show::zero(out, listed, work, 0)
+    to.bytes(b"transition");
+    to.field(read.reason);
+    show_model(to, model);
+    show::kept(to, gates, model.and_count.saturating_mul(3));
+    show::zero(to, work, 0);
 }
 
 // Reads a text with so many gate and work words lent.
@@ -55,60 +55,47 @@ fn read_with(
     text: &[u8],
     gates: &mut [u64],
     work: &mut [u64],
-    out: &mut [u8],
-    at: usize,
-) -> usize {
+    to: &mut Printer,
+) -> Option<()> {
     if numbers.len() != 4 {
-        return show::malformed(out, at);
+        return None;
     }
-    let gate_words = form::size(numbers, 2);
-    let work_words = form::size(numbers, 3);
-    if gates.len() < gate_words || work.len() < work_words {
-        return show::malformed(out, at);
-    }
-    read_lent(
-        text,
-        &mut gates[..gate_words],
-        &mut work[..work_words],
-        out,
-        at,
-    )
+    let gates = gates.get_mut(..form::size(numbers, 2))?;
+    let work = work.get_mut(..form::size(numbers, 3))?;
+    read_lent(text, gates, work, to);
+    Some(())
 }
 
 // A case of the reader: gate words, work words; the block is the text.
-pub fn read_case(numbers: &[u64], text: &[u8], out: &mut [u8], at: usize) -> usize {
+pub fn read_case(numbers: &[u64], text: &[u8], to: &mut Printer) -> Option<()> {
     let mut gates = [show::WORD; 4096];
     let mut work = [show::WORD; 4096];
-    read_with(numbers, text, &mut gates, &mut work, out, at)
+    read_with(numbers, text, &mut gates, &mut work, to)
 }
 
 // Makes a step with exactly these work words lent, and prints the answer.
-fn step_lent(numbers: &[u64], work: &mut [u64], out: &mut [u8], at: usize) -> usize {
+fn step_lent(numbers: &[u64], work: &mut [u64], to: &mut Printer) {
     let record = form::list(numbers, 5, 7, 0);
     let gates = form::list(numbers, 5, 7, 1);
     let state = lists::word(numbers, 3);
     let input = lists::word(numbers, 4);
     let stepped = models::nit_step(record, gates, work, state, input);
-    let answer = [stepped.reason, stepped.target, stepped.high, stepped.low];
-    let named = text_print::print_bytes(out, at, b"step");
-    let listed = show::words(out, named, &answer);
-    show::zero(out, listed, work, 0)
+    to.bytes(b"step");
+    to.fields(&[stepped.reason, stepped.target, stepped.high, stepped.low]);
+    show::zero(to, work, 0);
 }
 
 // Makes a step with so many work words lent.
-fn step_with(numbers: &[u64], work: &mut [u64], out: &mut [u8], at: usize) -> usize {
+fn step_with(numbers: &[u64], work: &mut [u64], to: &mut Printer) -> Option<()> {
     if form::list_start(numbers, 5, 7, 2) != numbers.len() {
-        return show::malformed(out, at);
+        return None;
     }
-    let work_words = form::size(numbers, 2);
-    if work.len() < work_words {
-        return show::malformed(out, at);
-    }
-    step_lent(numbers, &mut work[..work_words], out, at)
+    step_lent(numbers, work.get_mut(..form::size(numbers, 2))?, to);
+    Some(())
 }
 
 // A case of the step: work words, state, input word, and the lengths of the record and of the gate words before these.
-pub fn step_case(numbers: &[u64], out: &mut [u8], at: usize) -> usize {
+pub fn step_case(numbers: &[u64], to: &mut Printer) -> Option<()> {
     let mut work = [show::WORD; 4096];
-    step_with(numbers, &mut work, out, at)
+    step_with(numbers, &mut work, to)
 }

@@ -4,6 +4,7 @@ use nitrasovy::obligations;
 use nitrasovy::obligations::NitMade;
 use replay_text::form::Call;
 use replay_text::{form, show};
+use text_print::Printer;
 
 // The lengths stand from the first of these places on, and the lists from the second.
 const LENGTHS: usize = 6;
@@ -89,7 +90,8 @@ fn terminal(
     )
 }
 
-// Makes the call that a case names.
+// Prints the name of the call that a case names, and makes it.
+// Kept (switch): a case says which, and each takes other lists.
 fn make(
     call: Call,
     numbers: &[u64],
@@ -97,22 +99,22 @@ fn make(
     work: &mut [u64],
     pairs: &mut [u64],
     literals: &mut [u32],
+    to: &mut Printer,
 ) -> NitMade {
     match call {
-        Call::RelationRow => relation(numbers, predicate_pairs, work, pairs, literals),
-        Call::TransducerRow => transducer(numbers, predicate_pairs, work, pairs, literals),
-        _ => terminal(numbers, predicate_pairs, work, pairs, literals),
+        Call::RelationRow => {
+            to.bytes(b"relation");
+            relation(numbers, predicate_pairs, work, pairs, literals)
+        }
+        Call::TransducerRow => {
+            to.bytes(b"transducer");
+            transducer(numbers, predicate_pairs, work, pairs, literals)
+        }
+        _ => {
+            to.bytes(b"terminal");
+            terminal(numbers, predicate_pairs, work, pairs, literals)
+        }
     }
-}
-
-// Prints which call was made.
-fn show_name(call: Call, out: &mut [u8], at: usize) -> usize {
-    let name: &[u8] = match call {
-        Call::RelationRow => b"relation",
-        Call::TransducerRow => b"transducer",
-        _ => b"terminal",
-    };
-    text_print::print_bytes(out, at, name)
 }
 
 // Makes the call with exactly these words lent, and prints the answer: the counts, the pairs and the literals.
@@ -123,16 +125,13 @@ fn made_lent(
     work: &mut [u64],
     pairs: &mut [u64],
     literals: &mut [u32],
-    out: &mut [u8],
-    at: usize,
-) -> usize {
-    let made = make(call, numbers, predicate_pairs, work, pairs, literals);
-    let answer = [made.reason, made.clauses as u64, made.literals as u64];
-    let named = show_name(call, out, at);
-    let counted = show::words(out, named, &answer);
-    let first = show::kept(out, counted, pairs, made.clauses.saturating_mul(2));
-    let second = show::kept_literals(out, first, literals, made.literals);
-    show::zero(out, second, work, 0)
+    to: &mut Printer,
+) {
+    let made = make(call, numbers, predicate_pairs, work, pairs, literals, to);
+    to.fields(&[made.reason, made.clauses as u64, made.literals as u64]);
+    show::kept(to, pairs, made.clauses.saturating_mul(2));
+    show::kept_literals(to, literals, made.literals);
+    show::zero(to, work, 0);
 }
 
 // Makes the call with so many words lent.
@@ -143,25 +142,13 @@ fn made_with(
     work: &mut [u64],
     pairs: &mut [u64],
     literals: &mut [u32],
-    out: &mut [u8],
-    at: usize,
-) -> usize {
-    let work_words = form::size(numbers, 2);
-    let pair_words = form::size(numbers, 3);
-    let literal_words = form::size(numbers, 4);
-    if work.len() < work_words || pairs.len() < pair_words || literals.len() < literal_words {
-        return show::malformed(out, at);
-    }
-    made_lent(
-        call,
-        numbers,
-        predicate_pairs,
-        &mut work[..work_words],
-        &mut pairs[..pair_words],
-        &mut literals[..literal_words],
-        out,
-        at,
-    )
+    to: &mut Printer,
+) -> Option<()> {
+    let work = work.get_mut(..form::size(numbers, 2))?;
+    let pairs = pairs.get_mut(..form::size(numbers, 3))?;
+    let literals = literals.get_mut(..form::size(numbers, 4))?;
+    made_lent(call, numbers, predicate_pairs, work, pairs, literals, to);
+    Some(())
 }
 
 // Makes the call with the predicate's literals in front of the room that is lent for them.
@@ -172,31 +159,18 @@ fn made_for(
     work: &mut [u64],
     pairs: &mut [u64],
     literals: &mut [u32],
-    out: &mut [u8],
-    at: usize,
-) -> usize {
+    to: &mut Printer,
+) -> Option<()> {
     if form::list_start(numbers, LENGTHS, LISTS, 7) != numbers.len() {
-        return show::malformed(out, at);
+        return None;
     }
-    let count = form::size(numbers, 10);
-    if predicate_pairs.len() < count {
-        return show::malformed(out, at);
-    }
-    copy_literals(part(numbers, 4), predicate_pairs);
-    made_with(
-        call,
-        numbers,
-        &predicate_pairs[..count],
-        work,
-        pairs,
-        literals,
-        out,
-        at,
-    )
+    let predicate = predicate_pairs.get_mut(..form::size(numbers, 10))?;
+    copy_literals(part(numbers, 4), predicate);
+    made_with(call, numbers, predicate, work, pairs, literals, to)
 }
 
 // A case of one of the three calls.
-pub fn made_case(call: Call, numbers: &[u64], out: &mut [u8], at: usize) -> usize {
+pub fn made_case(call: Call, numbers: &[u64], to: &mut Printer) -> Option<()> {
     let mut predicate_pairs = [0u32; 2048];
     let mut work = [show::WORD; 4096];
     let mut pairs = [show::WORD; 8192];
@@ -208,7 +182,6 @@ pub fn made_case(call: Call, numbers: &[u64], out: &mut [u8], at: usize) -> usiz
         &mut work,
         &mut pairs,
         &mut literals,
-        out,
-        at,
+        to,
     )
 }

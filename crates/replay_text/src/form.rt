@@ -15,19 +15,22 @@ pub enum Call {
     TakeLiteral,
 }
 
-// The call that a number names, if it names one.
-// Kept (enum): the numbers stand in the stored cases.
-pub fn call_of(number: u64) -> Option<Call> {
-    match number {
-        1 => Some(Call::ReadTransition),
-        2 => Some(Call::Step),
-        3 => Some(Call::RelationRow),
-        4 => Some(Call::TransducerRow),
-        5 => Some(Call::Terminal),
-        6 => Some(Call::ReadWitness),
-        7 => Some(Call::Compose),
-        8 => Some(Call::TakeLiteral),
-        _ => None,
+impl TryFrom<u64> for Call {
+    type Error = ();
+
+    // Kept (enum): the stored cases name calls by numbers, and a number becomes an enum only case by case.
+    fn try_from(number: u64) -> Result<Call, ()> {
+        match number {
+            1 => Ok(Call::ReadTransition),
+            2 => Ok(Call::Step),
+            3 => Ok(Call::RelationRow),
+            4 => Ok(Call::TransducerRow),
+            5 => Ok(Call::Terminal),
+            6 => Ok(Call::ReadWitness),
+            7 => Ok(Call::Compose),
+            8 => Ok(Call::TakeLiteral),
+            _ => Err(()),
+        }
     }
 }
 

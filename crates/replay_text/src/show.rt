@@ -1,4 +1,5 @@
 // Prints answers, and what became of the words that were lent.
+use text_print::{Number, Printer};
 
 // What a word, a literal and a byte hold before they are lent.
 pub const WORD: u64 = 6148914691236517205;
@@ -7,83 +8,44 @@ pub const LITERAL: u32 = 2863311530;
 
 pub const BYTE: u8 = 170;
 
-// Prints a number with a space in front.
-pub fn number(out: &mut [u8], at: usize, n: u64) -> usize {
-    let to = text_print::print_byte(out, at, 32);
-    text_print::print_number(out, to, n)
-}
-
-// Prints words or literals, each with a space in front.
-pub fn words<T: Copy + Into<u64>>(out: &mut [u8], at: usize, list: &[T]) -> usize {
-    let mut to = at;
-    for word in list {
-        to = number(out, to, (*word).into());
-    }
-    to
-}
-
-// Prints one of two words.
-fn either(out: &mut [u8], at: usize, first: bool, one: &[u8], other: &[u8]) -> usize {
-    text_print::print_bytes(out, at, if first { one } else { other })
+// Prints the first elements, and one of two words: whether all others have a value.
+// Kept (buffer): the others are looked at too, here and below.
+fn first<T: Number>(to: &mut Printer, list: &[T], n: usize, value: u64, same: &[u8], other: &[u8]) {
+    let Some((front, rest)) = list.split_at_checked(n) else {
+        return to.bytes(b" more than were lent");
+    };
+    to.fields(front);
+    to.bytes(if rest.iter().all(|x| x.value() == value) {
+        same
+    } else {
+        other
+    });
 }
 
 // Prints the first words, and whether all others were kept.
-pub fn kept(out: &mut [u8], at: usize, list: &[u64], n: usize) -> usize {
-    let (front, rest) = list.split_at(n.min(list.len()));
-    let to = words(out, at, front);
-    either(
-        out,
-        to,
-        rest.iter().all(|word| *word == WORD),
-        b" kept",
-        b" changed",
-    )
-}
-
-// Prints the first words, and whether all others are 0.
-pub fn zero(out: &mut [u8], at: usize, list: &[u64], n: usize) -> usize {
-    let (front, rest) = list.split_at(n.min(list.len()));
-    let to = words(out, at, front);
-    either(
-        out,
-        to,
-        rest.iter().all(|word| *word == 0),
-        b" zero",
-        b" left",
-    )
+pub fn kept(to: &mut Printer, list: &[u64], n: usize) {
+    first(to, list, n, WORD, b" kept", b" changed");
 }
 
 // Prints the first literals, and whether all others were kept.
-pub fn kept_literals(out: &mut [u8], at: usize, list: &[u32], n: usize) -> usize {
-    let Some((front, rest)) = list.split_at_checked(n) else {
-        return text_print::print_bytes(out, at, b" more than were lent");
-    };
-    let to = words(out, at, front);
-    either(
-        out,
-        to,
-        rest.iter().all(|literal| *literal == LITERAL),
-        b" kept",
-        b" changed",
-    )
+pub fn kept_literals(to: &mut Printer, list: &[u32], n: usize) {
+    first(to, list, n, u64::from(LITERAL), b" kept", b" changed");
+}
+
+// Prints the first words, and whether all others are 0.
+pub fn zero(to: &mut Printer, list: &[u64], n: usize) {
+    first(to, list, n, 0, b" zero", b" left");
 }
 
 // Prints whether all bytes but the first were kept, and the first ones on lines of their own.
-pub fn kept_bytes(out: &mut [u8], at: usize, list: &[u8], n: usize) -> usize {
+pub fn kept_bytes(to: &mut Printer, list: &[u8], n: usize) {
     let Some((front, rest)) = list.split_at_checked(n) else {
-        return text_print::print_bytes(out, at, b" more than were lent");
+        return to.bytes(b" more than were lent");
     };
-    let to = either(
-        out,
-        at,
-        rest.iter().all(|byte| *byte == BYTE),
-        b" kept\n",
-        b" changed\n",
-    );
-    text_print::print_bytes(out, to, front)
-}
-
-// Prints that a case is not in the form that it should have.
-pub fn malformed(out: &mut [u8], at: usize) -> usize {
-    text_print::print_bytes(out, at, b"malformed")
+    to.bytes(if rest.iter().all(|byte| *byte == BYTE) {
+        b" kept\n"
+    } else {
+        b" changed\n"
+    });
+    to.bytes(front);
 }

@@ -11,6 +11,7 @@ fn answer(rt: &(impl Input + Print), out: &mut [u8]) -> io::Result<()> {
     rt.write_all(&out[..size])
 }
 
+// Kept (twin): `row_cases` is a program of its own, and lends as much.
 fn main(rt: HostRuntime) -> io::Result<()> {
     let mut out = [0u8; 700000];
     answer(&rt, &mut out)

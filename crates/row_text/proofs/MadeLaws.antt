@@ -7,19 +7,20 @@ use mathlib.Core.List.{List, [], ◌∷◌}
 use native.Mathlib.Omega.{arith}
 use borrow.Author.Tests.{leb-true}
 use lib.Dec.{leb}
-use lib.ListN.{length, drop, length-append}
+use lib.ListN.{length, take, drop, length-append}
+use lib.Seq.{take_at}
 use Rattle.lists.specs.Answer.{Answer, got, refused, unless, and_then}
 use Rattle.model.specs.Circuit.{Circuit}
 use Rattle.cnf.specs.declared.ClauseCounts.{ClauseCounts}
 use Rattle.cnf.specs.Clauses.{Clause, literals_of, pairs_from, returned}
-use Rattle.cnf.proofs.ReturnedLaws.{returned-back}
+use Rattle.cnf.proofs.ReturnedLaws.{pairs-length, returned-back}
 use Rattle.obligation_spec.specs.Calls.{Asked, Lent, asked, predicate, within, relation_row, relation_on}
 use Rattle.obligation_spec.specs.Limits.{is_state, states_claimed}
 use Rattle.obligation_spec.specs.Lists.{relation_clauses}
 use Rattle.aiger.specs.declared.Refusal.{Refusal}
 use Rattle.aiger.specs.Refusals.{refusal_number, answered}
 use Rattle.obligation.specs.Promise.{sizes, Buffers, lent_of, Makes, MakesRelation}
-use Rattle.row_text.specs.Inner.Steps.{InFront}
+use Rattle.row_text.specs.Inner.Steps.{Stands}
 use Rattle.row_text.specs.Inner.Made.{made_answer, Standing, numbers_in, room_for, PrintsAnswer}
 use Rattle.row_text.proofs.PrintLaws.{more_room}
 use Rattle.text_print.specs.declared.Printer.{Printer}
@@ -69,7 +70,8 @@ record Rows (answer : Answer (List Clause)) (t : ClauseCounts) (after : Buffers)
   cs : List Clause
   is : answer ≡ got cs
   back : returned t.clauses after.pairs after.literals ≡ cs
-  front : InFront cs t.clauses after.pairs after.literals
+  fits : 2 * t.clauses ≤ length after.pairs
+  stands : Stands cs (take (2 * t.clauses) after.pairs) after.literals
 
 rows_made : (answer : Answer (List Clause)) (b : Buffers) (r : Result ClauseCounts Refusal) (after : Buffers) → Makes answer b r after → (t : ClauseCounts) → r ≡ Ok t → Rows answer t after
 rows_made (got cs) b r after k t e =
@@ -80,10 +82,9 @@ rows_made (got cs) b r after k t e =
       cs = cs;
       is = refl;
       back = rw (n, k.pairs, k.literals) (returned-back cs b.pairs b.literals);
-      front = record {
-        counted = sym n;
-        other_pairs = drop (length (pairs_from 0 cs)) b.pairs;
-        pairs-are = k.pairs;
+      fits = omega (arith, n, pairs-length 0 cs, ap length k.pairs, length-append (pairs_from 0 cs) (drop (length (pairs_from 0 cs)) b.pairs));
+      stands = record {
+        pairs-are = rw (n, k.pairs) (take_at (pairs_from 0 cs) (drop (length (pairs_from 0 cs)) b.pairs) (2 * length cs) (pairs-length 0 cs));
         other_words = drop (length (literals_of cs)) b.literals;
         words_are = k.literals;
       };
@@ -107,7 +108,7 @@ module _ (q : Asked) (source : ℕ) (targets : List ℕ) (b : Buffers) (r : Resu
   rows t e = rows_made (relation_row q source targets (lent_of b)) b r after k.makes t e
 
   pub made_standing : Standing r after.pairs after.literals
-  made_standing t e = let w = rows t e in rw w.back w.front
+  made_standing t e = let w = rows t e in record { fits = w.fits; stands = rw w.back w.stands }
 
   by_answer : (s : Result ClauseCounts Refusal) → r ≡ s → made_answer s after.pairs after.literals ≡ relation_row q source targets (lent_of b)
   by_answer (Ok t) e = let w = rows t e in ap got w.back ∙ sym w.is

@@ -1,5 +1,5 @@
 -- The printed lines, number by number, and how long they are.
-use Prim.Native.Nat.{ℕ, suc, ◌+◌, ◌-◌, ◌*◌, ◌≤◌, ◌<◌, ◌^◌}
+use Prim.Native.Nat.{ℕ, suc, ◌+◌, ◌-◌, ◌*◌, ◌/◌, ◌≤◌, ◌<◌, ◌^◌}
 use mathlib.Core.Path.{◌≡◌, refl, sym, ap, ◌∙◌}
 use mathlib.Core.List.{List, [], ◌∷◌, ◌++◌, append_assoc}
 use native.Mathlib.Omega.{arith}
@@ -22,7 +22,7 @@ use Rattle.cnf.proofs.ReturnedLaws.{pairs-length}
 use Rattle.aiger.specs.declared.Refusal.{Refusal}
 use Rattle.aiger.specs.Refusals.{refusal_number}
 use Rattle.row_text.specs.RowProgram.{clause_lines, rows_word, refused_word, printed}
-use Rattle.row_text.specs.Inner.Steps.{InFront}
+use Rattle.row_text.specs.Inner.Steps.{Stands}
 use Rattle.row_text.specs.Inner.Made.{numbers_in, room_for, PrintsAnswer}
 
 -- ---- the line of a clause
@@ -47,31 +47,27 @@ abbrev lines_from : ℕ → List Clause → Bytes
 lines_from off cs = text_of (clause_lines off cs)
 
 -- the lines of clauses are being printed: those of the first i are, and `rest` are left, whose words begin at `off`
-pub record Listing (cs : List Clause) (count : ℕ) (pairs words : List ℕ) (p₀ p : Printer) (i : ℕ) : Type 0 where
+pub record Listing (cs : List Clause) (pairs words : List ℕ) (p₀ p : Printer) (i : ℕ) : Type 0 where
   pub rest : List Clause
   pub off : ℕ
-  pub other_pairs : List ℕ
   pub other_words : List ℕ
-  pub left : i + length rest ≡ count
-  pub pairs-left : drop (2 * i) pairs ≡ pairs_from off rest ++ other_pairs
+  pub left : 2 * (i + length rest) ≡ length pairs
+  pub pairs-left : drop (2 * i) pairs ≡ pairs_from off rest
   pub in_words : off ≤ length words
   pub words_left : drop off words ≡ literals_of rest ++ other_words
   pub printing : Printing p₀ (lines_from 0 cs) p (lines_from off rest)
-  pub long : 2 * count ≤ length pairs
 
-pub listing_none : (cs : List Clause) (count : ℕ) (pairs words : List ℕ) (p : Printer) → InFront cs count pairs words → Listing cs count pairs words p p 0
-listing_none cs count pairs words p f =
+pub listing_none : (cs : List Clause) (pairs words : List ℕ) (p : Printer) → Stands cs pairs words → Listing cs pairs words p p 0
+listing_none cs pairs words p f =
     record {
       rest = cs;
       off = 0;
-      other_pairs = f.other_pairs;
       other_words = f.other_words;
-      left = omega (arith, f.counted);
+      left = omega (arith, pairs-length 0 cs, ap length f.pairs-are);
       pairs-left = f.pairs-are;
       in_words = omega arith;
       words_left = f.words_are;
       printing = printing-none p (lines_from 0 cs);
-      long = omega (arith, f.counted, pairs-length 0 cs, ap length f.pairs-are, length-append (pairs_from 0 cs) f.other_pairs);
     }
 
 -- the next clause
@@ -88,18 +84,18 @@ none_left : (rest : List Clause) → length rest ≡ 0 → rest ≡ []
 none_left [] h = refl
 none_left (c ∷ cs) h = absurd (omega arith)
 
-module _ (cs : List Clause) (count : ℕ) (pairs words : List ℕ) (p₀ p : Printer) (i : ℕ) (k : Listing cs count pairs words p₀ p i) where
-  pub listing-done : count ≤ i → PrintsOn p₀ (lines_from 0 cs) p
+module _ (cs : List Clause) (pairs words : List ℕ) (p₀ p : Printer) (i : ℕ) (k : Listing cs pairs words p₀ p i) where
+  pub listing-done : length pairs / 2 ≤ i → PrintsOn p₀ (lines_from 0 cs) p
   listing-done h =
       let none : k.rest ≡ [] = none_left k.rest (omega (arith, k.left)) in
       printing-done p₀ (lines_from 0 cs) p (lines_from k.off k.rest) k.printing (ap (lines_from k.off) none)
 
-  module _ (h : i < count) where
+  module _ (h : i < length pairs / 2) where
     n : Next k.rest
     n = next k.rest (omega (arith, k.left))
 
-    pairs_first : drop (2 * i) pairs ≡ k.off ∷ length n.c ∷ (pairs_from (k.off + length n.c) n.others ++ k.other_pairs)
-    pairs_first = k.pairs-left ∙ ap (λ (l : List Clause). pairs_from k.off l ++ k.other_pairs) n.is
+    pairs_first : drop (2 * i) pairs ≡ k.off ∷ length n.c ∷ pairs_from (k.off + length n.c) n.others
+    pairs_first = k.pairs-left ∙ ap (pairs_from k.off) n.is
 
     words-first : drop k.off words ≡ n.c ++ (literals_of n.others ++ k.other_words)
     words-first = k.words_left ∙ ap (λ (l : List Clause). literals_of l ++ k.other_words) n.is ∙ append_assoc n.c (literals_of n.others) k.other_words
@@ -123,7 +119,7 @@ module _ (cs : List Clause) (count : ℕ) (pairs words : List ℕ) (p₀ p : Pri
           let f : offset ≡ k.off = omega (arith, offset_is) in
           rw m (rw (f, words-first) (take_at n.c (literals_of n.others ++ k.other_words) (length n.c) refl))
 
-      pub listing-more : (p' : Printer) → PrintsOn p (number_line (offset ∷ size ∷ part words offset (offset + size)) ++ 10 ∷ []) p' → Listing cs count pairs words p₀ p' (i + 1)
+      pub listing-more : (p' : Printer) → PrintsOn p (number_line (offset ∷ size ∷ part words offset (offset + size)) ++ 10 ∷ []) p' → Listing cs pairs words p₀ p' (i + 1)
       listing-more p' w =
           let f : offset ≡ k.off = omega (arith, offset_is) in
           let s : size ≡ length n.c = omega (arith, size_is) in
@@ -135,7 +131,6 @@ module _ (cs : List Clause) (count : ℕ) (pairs words : List ℕ) (p₀ p : Pri
           record {
             rest = n.others;
             off = k.off + length n.c;
-            other_pairs = k.other_pairs;
             other_words = k.other_words;
             left = omega (arith, k.left, ap length n.is);
             pairs-left = rw twice (sym (drop-drop 2 (2 * i) pairs) ∙ ap (drop 2) pairs_first);
@@ -148,7 +143,6 @@ module _ (cs : List Clause) (count : ℕ) (pairs words : List ℕ) (p₀ p : Pri
                 printing-more p₀ (lines_from 0 cs) p (lines_from k.off k.rest) k.printing (line ++ 10 ∷ []) later p'
                 (ap (lines_from k.off) n.is ∙ ap (λ (x : Bytes). x ++ 10 ∷ later) same ∙ sym (append_assoc line (10 ∷ []) later))
                 w;
-            long = k.long;
           }
 
 -- ---- how long the lines are
@@ -198,12 +192,13 @@ module _ (p p₁ p₂ p₃ : Printer) where
         few = omega (arith, length-append line (10 ∷ []), length-append refused_word (decimal n), decimal-length-word n w);
       })
 
-  pub rows_printed : (cs : List Clause) (count : ℕ) (pairs words : List ℕ) (p₄ : Printer) → InFront cs count pairs words → ((i : ℕ) → get_or words i 0 < 2 ^ 64) → length words < 2 ^ 64 → count < 2 ^ 64
-      → PrintsOn p rows_word p₁ → PrintsOn p₁ (decimal count) p₂ → PrintsOn p₂ (10 ∷ []) p₃ → PrintsOn p₃ (lines_from 0 cs) p₄ → PrintsAnswer p (got cs) (room_for (got cs)) p₄
-  rows_printed cs count pairs words p₄ f small n w q s t u =
+  pub rows_printed : (cs : List Clause) (count : ℕ) (pairs words : List ℕ) (p₄ : Printer) → Stands cs pairs words → count ≡ length pairs / 2 → ((i : ℕ) → get_or words i 0 < 2 ^ 64) → length words < 2 ^ 64
+      → count < 2 ^ 64 → PrintsOn p rows_word p₁ → PrintsOn p₁ (decimal count) p₂ → PrintsOn p₂ (10 ∷ []) p₃ → PrintsOn p₃ (lines_from 0 cs) p₄ → PrintsAnswer p (got cs) (room_for (got cs)) p₄
+  rows_printed cs count pairs words p₄ f half small n w q s t u =
+      let counted : length cs ≡ count = omega (arith, half, pairs-length 0 cs, ap length f.pairs-are) in
       let line : Bytes = rows_word ++ decimal count in
       let lines : Bytes = lines_from 0 cs in
-      let all : printed (got cs) ≡ line ++ 10 ∷ lines = ap (λ (k : ℕ). (rows_word ++ decimal k) ++ 10 ∷ lines) f.counted in
+      let all : printed (got cs) ≡ line ++ 10 ∷ lines = ap (λ (k : ℕ). (rows_word ++ decimal k) ++ 10 ∷ lines) counted in
       let literals : Each Word (literals_of cs) = each_left (literals_of cs) f.other_words (each_word (literals_of cs ++ f.other_words) (rw f.words_are at small)) in
       let size : length words ≡ length (literals_of cs) + length f.other_words = ap length f.words_are ∙ length-append (literals_of cs) f.other_words in
       record {

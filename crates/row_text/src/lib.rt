@@ -7,10 +7,10 @@ ghost use Rattle.lists.specs.Parts.{part};
 ghost use Rattle.text_decimal.specs.Printed.{number_line, text_of};
 ghost use Rattle.text_print.specs.Inner.Prints.{PrintsOn};
 ghost use Rattle.aiger.specs.Refusals.{refusal_number};
-ghost use Rattle.cnf.specs.Clauses.{returned};
+ghost use Rattle.cnf.specs.Clauses.{clauses_in};
 ghost use Rattle.obligation_spec.specs.Calls.{relation_row};
 ghost use Rattle.row_text.specs.RowProgram.{pieces, numbers_of, bare, row_for, row_answer, clause_lines, RowWrites};
-ghost use Rattle.row_text.specs.Inner.Steps.{in_piece, answer_in, InFront};
+ghost use Rattle.row_text.specs.Inner.Steps.{in_piece, answer_in, Stands};
 ghost use Rattle.row_text.specs.Inner.Made.{made_answer, Standing, room_for, PrintsAnswer, PrintsIn};
 
 use aiger::Refusal;
@@ -61,24 +61,24 @@ fn print_clause(to: &mut Printer, literals: &[u32], offset: u64, size: u64)
 }
 
 // Prints the lines of all clauses.
-fn print_clauses(to: &mut Printer, pairs: &[u64], literals: &[u32], count: usize)
-    requires { InFront (returned count pairs.now literals.now) count pairs.now literals.now }
-    ensures { PrintsOn to.old (text_of (clause_lines 0 (returned count pairs.now literals.now))) to.new }
+fn print_clauses(to: &mut Printer, pairs: &[u64], literals: &[u32])
+    requires { Stands (clauses_in literals.now pairs.now) pairs.now literals.now }
+    ensures { PrintsOn to.old (text_of (clause_lines 0 (clauses_in literals.now pairs.now))) to.new }
 {
-    for i in 0..count {
+    for i in 0..pairs.len() / 2 {
         print_clause(to, literals, pairs[2 * i], pairs[2 * i + 1]);
     }
 }
 
 // Prints clauses, of which each number takes 21 bytes at most.
-fn print_rows(to: &mut Printer, pairs: &[u64], literals: &[u32], count: usize)
-    requires { InFront (returned count pairs.now literals.now) count pairs.now literals.now }
-    ensures { PrintsAnswer to.old (got (returned count pairs.now literals.now)) (room_for (got (returned count pairs.now literals.now))) to.new }
+fn print_rows(to: &mut Printer, pairs: &[u64], literals: &[u32])
+    requires { Stands (clauses_in literals.now pairs.now) pairs.now literals.now }
+    ensures { PrintsAnswer to.old (got (clauses_in literals.now pairs.now)) (room_for (got (clauses_in literals.now pairs.now))) to.new }
 {
     to.bytes(b"rows ");
-    to.number(count as u64);
+    to.number((pairs.len() / 2) as u64);
     to.byte(10);
-    print_clauses(to, pairs, literals, count);
+    print_clauses(to, pairs, literals);
 }
 
 // Prints a refusal.
@@ -101,7 +101,7 @@ fn print_made(
     ensures { PrintsAnswer to.old (made_answer made pairs.now literals.now) (room_for (made_answer made pairs.now literals.now)) to.new }
 {
     match made {
-        Ok(made) => print_rows(to, pairs, literals, made.clauses),
+        Ok(made) => print_rows(to, &pairs[..2 * made.clauses], literals),
         Err(refusal) => print_refused(to, refusal),
     }
 }

@@ -7,7 +7,7 @@ use Rattle.lists.specs.Sets.{holds}
 use Rattle.text_decimal.specs.Decimal.{decimal}
 use Rattle.text_decimal.specs.Printed.{text_of}
 use Rattle.text_print.specs.Inner.Prints.{capped, Prints}
-use Rattle.text_print.specs.Inner.Lines.{literal_lines, literals_from, gate_lines}
+use Rattle.text_print.specs.Inner.Lines.{fields_text, literal_lines, literals_from, gate_lines}
 use Rattle.text_print.specs.Inner.Elements.{elements}
 
 -- places up to 2^64 - 1 are kept, and those behind it become that number
@@ -23,6 +23,11 @@ two_printed = record { next = refl; stands = λ h. refl }
 
 pub two_measured : Prints [] 1 (8 ∷ 9 ∷ []) [] 3
 two_measured = record { next = refl; stands = λ h. absurd (omega arith) }
+
+-- ` 6 40`, as fields behind another one
+pub two_fields : fields_text (λ n. n) (6 ∷ 40 ∷ []) ≡ bytes " 6 40"
+unfolding decimal
+two_fields = refl
 
 -- the variables 4 and 5: the lines `8` and `10`
 pub two_literals : text_of (literal_lines (literals_from 4 2)) ≡ bytes "8\n10\n"

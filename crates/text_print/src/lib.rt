@@ -55,35 +55,34 @@ fn digit_pairs() -> &'static [u8]
 }
 
 // Writes the digits of n, from the last to the first, two at a time. Looking two digits up is quicker than dividing.
-// Kept (travel): a printer has passed over the place, with others of the same line, before it is written.
-fn write_digits(out: &mut [u8], at: usize, n: u64, size: usize)
-    requires { (size ≡ length (decimal n)) × (at + size ≤ length out.old) }
-    ensures { out.new ≡ put out.old at (decimal n) }
+fn write_digits(to: &mut [u8], n: u64)
+    requires { length to.old ≡ length (decimal n) }
+    ensures { to.new ≡ decimal n }
 {
     let pairs = digit_pairs();
     let mut rest = n;
-    let mut left = size;
+    let mut left = to.len();
     // Kept (loop): two digits a turn, from the last on, and one that may be left over.
     while 2 <= left {
         let two = (rest % 100) as usize;
-        out[at + (left - 1)] = pairs[2 * two + 1];
-        out[at + (left - 2)] = pairs[2 * two];
+        to[left - 1] = pairs[2 * two + 1];
+        to[left - 2] = pairs[2 * two];
         left -= 2;
         rest = rest / 100;
     }
     if left == 1 {
-        out[at] = 48 + (rest % 10) as u8;
+        to[0] = 48 + (rest % 10) as u8;
     }
 }
 
 // Writes the digits of n and a byte behind them.
-// Kept (travel): as in `write_digits`.
-fn write_field(out: &mut [u8], at: usize, n: u64, size: usize, end: u8)
-    requires { (size ≡ length (decimal n)) × (at + size < length out.old) }
-    ensures { out.new ≡ put out.old at (decimal n ++ (end ∷ [])) }
+fn write_field(to: &mut [u8], n: u64, end: u8)
+    requires { length to.old ≡ length (decimal n) + 1 }
+    ensures { to.new ≡ decimal n ++ (end ∷ []) }
 {
-    write_digits(out, at, n, size);
-    out[at + size] = end;
+    let size = to.len() - 1;
+    write_digits(&mut to[..size], n);
+    to[size] = end;
 }
 
 // A number that stands for a word.
@@ -155,7 +154,7 @@ impl<'a> Printer<'a> {
     {
         let size = digit_count(n);
         if let Some(at) = self.pass(size) {
-            write_digits(self.out, at, n, size);
+            write_digits(&mut self.out[at..at + size], n);
         }
     }
 
@@ -182,7 +181,7 @@ impl<'a> Printer<'a> {
     {
         let size = digit_count(x);
         if let Some(at) = self.pass(size + 1) {
-            write_field(self.out, at, x, size, 10);
+            write_field(&mut self.out[at..at + (size + 1)], x, 10);
         }
     }
 
@@ -196,9 +195,9 @@ impl<'a> Printer<'a> {
         if let Some(at) = self.pass(first + second + third + 3) {
             let middle = at + (first + 1);
             let last = middle + (second + 1);
-            write_field(self.out, at, x, first, 32);
-            write_field(self.out, middle, y, second, 32);
-            write_field(self.out, last, z, third, 10);
+            write_field(&mut self.out[at..middle], x, 32);
+            write_field(&mut self.out[middle..last], y, 32);
+            write_field(&mut self.out[last..last + (third + 1)], z, 10);
         }
     }
 

@@ -10,7 +10,7 @@ pub overflow_sub-key : goal.overflow_sub-key
 overflow_sub-key c = search key-some
 
 pub loop-k-preserved : goal.loop-k-preserved
-loop-k-preserved c = walk_more _ _ _ _ _ _ _ _ c.loop-k.invariant _ (omega (arith, c.loop-k-test)) c.three.ensures
+loop-k-preserved c = walk_more _ _ _ _ _ _ _ c.loop-k.invariant _ (omega (arith, c.loop-k-test)) c.three.ensures
 
 pub returns : goal.returns
 returns c = search walk_end

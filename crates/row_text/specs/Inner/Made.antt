@@ -1,5 +1,5 @@
 -- For the contracts of inner functions: what is printed for an answer, with buffers of any length.
-use Rattle.std.specs.Prelude.{ℕ, ◌+◌, ◌*◌, ◌≤◌, ◌≡◌, List, [], ◌∷◌, length, Result, Ok, Err}
+use Rattle.std.specs.Prelude.{ℕ, ◌+◌, ◌*◌, ◌≤◌, ◌≡◌, List, [], ◌∷◌, length, take, Result, Ok, Err}
 use Rattle.lists.specs.Answer.{Answer, got, refused}
 use Rattle.lists.specs.Parts.{Bytes}
 use Rattle.text_print.specs.declared.Printer.{Printer}
@@ -9,16 +9,21 @@ use Rattle.cnf.specs.Clauses.{Clause, returned}
 use Rattle.aiger.specs.declared.Refusal.{Refusal}
 use Rattle.aiger.specs.Refusals.{refusal_number}
 use Rattle.row_text.specs.RowProgram.{printed, row_in}
-use Rattle.row_text.specs.Inner.Steps.{InFront}
+use Rattle.row_text.specs.Inner.Steps.{Stands}
 
 -- what the call's answer and the buffers say together
 abbrev pub made_answer : Result ClauseCounts Refusal → List ℕ → List ℕ → Answer (List Clause)
 made_answer (Ok t) pairs words = got (returned t.clauses pairs words)
 made_answer (Err r) pairs words = refused (refusal_number r)
 
--- the clauses of an accepted answer stand in front of the buffers
+-- so many clauses stand in front of the buffers
+pub record InFront (count : ℕ) (pairs words : List ℕ) : Type 0 where
+  pub fits : 2 * count ≤ length pairs
+  pub stands : Stands (returned count pairs words) (take (2 * count) pairs) words
+
+-- the clauses of an accepted answer do
 abbrev pub Standing : Result ClauseCounts Refusal → List ℕ → List ℕ → Type 0
-Standing r pairs words = (t : ClauseCounts) → r ≡ Ok t → InFront (returned t.clauses pairs words) t.clauses pairs words
+Standing r pairs words = (t : ClauseCounts) → r ≡ Ok t → InFront t.clauses pairs words
 
 -- how many numbers the lines of clauses have
 abbrev pub numbers_in : List Clause → ℕ

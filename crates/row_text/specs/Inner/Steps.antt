@@ -1,5 +1,5 @@
 -- What the inner functions of the row program promise.
-use Rattle.std.specs.Prelude.{ℕ, Bool, not, List, ◌++◌, ◌≡◌, eqb, length, take, Option, Some, None}
+use Rattle.std.specs.Prelude.{ℕ, Bool, not, List, ◌++◌, ◌≡◌, eqb, take, Option, Some, None}
 use Rattle.lists.specs.Answer.{Answer, got, refused}
 use Rattle.cnf.specs.Clauses.{Clause, literals_of, pairs_from}
 
@@ -12,10 +12,8 @@ abbrev pub answer_in : Option ℕ → List ℕ → Answer (List ℕ)
 answer_in (Some n) words = got (take n words)
 answer_in None words = refused 14
 
--- the buffers begin with the pairs and the literals of so many clauses
-pub record InFront (cs : List Clause) (count : ℕ) (pairs words : List ℕ) : Type 0 where
-  pub counted : length cs ≡ count
-  pub other_pairs : List ℕ
-  pub pairs-are : pairs ≡ pairs_from 0 cs ++ other_pairs
+-- the pairs are those of the clauses, and the words begin with their literals
+pub record Stands (cs : List Clause) (pairs words : List ℕ) : Type 0 where
+  pub pairs-are : pairs ≡ pairs_from 0 cs
   pub other_words : List ℕ
   pub words_are : words ≡ literals_of cs ++ other_words

@@ -1,14 +1,11 @@
 use native.Mathlib.Omega.{arith}
 use mathlib.Core.Path.{refl}
-use lib.ListN.{length-set}
-use Rattle.text_decimal.proofs.WritingLaws.{writing-none, writing-done}
-use Rattle.text_print.proofs.WriteLaws.{writing_two, writing-first}
+use Rattle.text_print.proofs.WriteLaws.{digits_none, writing_two, writing-first, writing-whole}
 use Rattle.text_print.proofs.DigitPairLaws.{pairs-length, tens_in, ones_in}
-use borrow.Author.Rules.{rules}
 use Rattle.text_print.proofs.write_digits.Goals as goal
 
 pub loop-left-init : goal.loop-left-init
-loop-left-init c = writing-none _ _ _ _ (search rules) (omega arith)
+loop-left-init c = search digits_none
 
 pub bounds-pairs-two : goal.bounds-pairs-two
 bounds-pairs-two c = omega (arith, pairs-length _ c.digit_pairs-pairs.ensures)
@@ -16,12 +13,9 @@ bounds-pairs-two c = omega (arith, pairs-length _ c.digit_pairs-pairs.ensures)
 pub bounds-pairs-two-in-loop-left : goal.bounds-pairs-two-in-loop-left
 bounds-pairs-two-in-loop-left c = omega (arith, pairs-length _ c.digit_pairs-pairs.ensures)
 
-pub bounds-out-at-in-loop-left : goal.bounds-out-at-in-loop-left
-bounds-out-at-in-loop-left c = simp length-set (omega arith)
-
 pub loop-left-preserved : goal.loop-left-preserved
 loop-left-preserved c =
-    writing_two _ _ _ _ c.loop-left.left c.loop-left.rest c.loop-left.invariant _ _ _ (omega arith) refl
+    writing_two _ _ _ c.loop-left.left c.loop-left.rest c.loop-left.invariant _ _ _ (omega arith) refl
     (ones_in _ c.digit_pairs-pairs.ensures _ (omega arith))
     (tens_in _ c.digit_pairs-pairs.ensures _ (omega arith))
 
@@ -29,4 +23,4 @@ pub returns-then-left-eq1 : goal.returns-then-left-eq1
 returns-then-left-eq1 c = search writing-first
 
 pub returns-else-left-eq1 : goal.returns-else-left-eq1
-returns-else-left-eq1 c = writing-done _ _ _ _ c.loop-left.left c.loop-left.rest c.loop-left.invariant (omega arith)
+returns-else-left-eq1 c = writing-whole _ _ _ _ _ c.loop-left.invariant (omega arith) (omega arith)
