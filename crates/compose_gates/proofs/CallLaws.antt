@@ -1,18 +1,12 @@
--- For callers: composed variables are small, composed latches are numbered in turn, their definitions are the words of the composition's latches, and only the variables that a latch names count.
-use Prim.Native.Nat.{ℕ, suc, ◌+◌, ◌-◌, ◌*◌, ◌%◌, ◌<◌}
+-- For callers: composed variables are small, composed latches are numbered in turn, and their definitions are the words of the composition's latches.
+use Prim.Native.Nat.{ℕ, suc}
 use mathlib.Core.List.{List, [], ◌∷◌, map}
-use mathlib.Core.Path.{◌≡◌, refl, sym, ap}
-use native.Mathlib.Omega.{arith}
-use lib.ListN.{length, get_or, drop}
-use lib.Seq.{get_or-take}
+use mathlib.Core.Path.{◌≡◌, refl}
+use lib.ListN.{length}
 use Rattle.lists.specs.Firsts.{appearing}
-use Rattle.lists.specs.Parts.{part}
 use Rattle.lists.specs.Words.{words_of}
-use Rattle.aiger.specs.Gates.{variable}
-use Rattle.witness_read.specs.Sections.{NamedLatch}
 use Rattle.witness_load.specs.Inner.Loaded.{latch_words}
 use Rattle.compose_spec.specs.Numbering.{Entry, same_entry, numbered}
-use Rattle.compose_spec.specs.Sharing.{translate}
 use Rattle.compose_spec.specs.Composing.{Defined, composed_latches}
 use Rattle.compose_spec.proofs.PlacedLaws.{entry_self}
 use Rattle.compose_gates.specs.Inner.Latches.{InTurn, met_in, definitions_from}
@@ -30,16 +24,3 @@ module _ (first : ℕ) (es : List Entry) where
 pub composed-words : (ds : List Defined) (x : ℕ) (es : List Entry) → definitions_from x (length es) ds ≡ words_of latch_words (composed_latches x es ds)
 composed-words ds x [] = refl
 composed-words ds x (e ∷ es) = rw (composed-words ds (suc x) es)
-
--- a latch names variables that are among the first so many
-pub record Within (size : ℕ) (q : NamedLatch) : Type 0 where
-  pub next : variable q.next < size
-  pub reset : variable q.reset < size
-
--- literals and latches that name variables of a part of the words alone
-module _ (work : List ℕ) (vars size : ℕ) where
-  variable-part : (x : ℕ) → x < size → get_or (drop vars work) x 0 ≡ get_or (part work vars (vars + size)) x 0
-  variable-part x h = sym (get_or-take (vars + size - vars) (drop vars work) x 0 (omega arith))
-
-  pub translate-part : (l : ℕ) → variable l < size → translate (drop vars work) l ≡ translate (part work vars (vars + size)) l
-  translate-part l h = ap (λ (y : ℕ). 2 * y + l % 2) (variable-part (variable l) h)

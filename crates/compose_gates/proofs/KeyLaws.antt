@@ -1,32 +1,20 @@
 -- Laws of translated literals and of keys: a key stands for one pair of operands, so keys are numbered as the gates are.
-use Prim.Native.Nat.{ℕ, ◌+◌, ◌-◌, ◌<◌}
+use Prim.Native.Nat.{ℕ, ◌<◌}
 use mathlib.Core.Bool.{Bool, true, false, cond}
 use mathlib.Core.List.{List, [], ◌∷◌, ◌++◌, map, map-append}
 use mathlib.Core.Path.{◌≡◌, refl, sym}
 use native.Mathlib.Omega.{arith}
 use borrow.Author.Tests.{eqb-true, eqb-false, eq-eqb}
 use lib.Dec.{eqb, leb}
-use lib.ListN.{length, get_or, take, drop, length-drop}
-use Rattle.lists.proofs.PartLaws.{tail-lent}
-use lib.Seq.{get_or-drop}
 use Rattle.lists.specs.Firsts.{place, joined}
 use Rattle.lists.specs.Tests.{any, Each}
 use Rattle.lists.proofs.BoolLaws.{to_false, and_left, and_right, and_both}
 use Rattle.lists.proofs.TestLaws.{each_append}
-use Rattle.aiger.specs.Gates.{variable}
 use Rattle.compose_spec.specs.Sharing.{translate, Operands, same_operands, unordered}
 use Rattle.compose_spec.specs.Inner.Keys.{key_of}
 use Rattle.compose_gates.specs.Inner.Linked.{Translatable}
 
 -- ---- translate
-
--- a variable in the words from a place on
-pub translatable-from : (vars : ℕ) (work : List ℕ) (l : ℕ) → vars + variable l < length work → get_or work (vars + variable l) 0 < 1073741824 → Translatable (drop vars work) l
-translatable-from vars work l h s = record { within = omega (arith, h, length-drop vars work); small = rw (get_or-drop vars work (variable l) 0) s }
-
--- the part `&work[vars..]`
-pub translatable-lent : (vars : ℕ) (work : List ℕ) (l : ℕ) → Translatable (drop vars work) l → Translatable (take (length work - vars) (drop vars work)) l
-translatable-lent vars work l t = rw (tail-lent work vars) t
 
 module _ (vars : List ℕ) (l : ℕ) (t : Translatable vars l) where
   pub literal-small : (r : ℕ) → r ≡ translate vars l → r < 2147483648

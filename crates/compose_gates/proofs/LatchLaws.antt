@@ -12,14 +12,13 @@ use Rattle.lists.proofs.PartLaws.{put_two}
 use Rattle.witness_read.specs.Sections.{NamedLatch}
 use Rattle.compose_spec.specs.Sharing.{translate}
 use Rattle.compose_spec.specs.Composing.{Defined, defined_from, definition_of, same_defined}
-use Rattle.compose_gates.specs.Inner.Linked.{literal_at}
 use Rattle.compose_gates.specs.Inner.Latches.{DefinesLatch, definitions_from}
 
 -- ---- define_latch
 
-module _ (at vars place : ℕ) (work : List ℕ) (known : Bool) (x y : ℕ) (e : x ≡ literal_at at vars work) (f : y ≡ literal_at (at + 1) vars work) where
-  pub latch_new : known ≡ false → place + 1 < length work → DefinesLatch at vars place work (set (set work place x) (place + 1) y) known true
-  latch_new k h = rw k (refl, sym (put_two work place x y h) ∙ rw (e, f))
+pub latch_new : (place next reset : ℕ) (definitions : List ℕ) (known : Bool) → known ≡ false → place + 1 < length definitions
+    → DefinesLatch place next reset definitions (set (set definitions place next) (place + 1) reset) known true
+latch_new place next reset definitions known k h = rw k (refl, sym (put_two definitions place next reset h))
 
 -- ---- the list of definitions
 

@@ -1,7 +1,6 @@
 -- What is proved of the functions that link.
 pub mod FirstLaws
 pub mod KeyLaws
-pub mod KeptLaws
 pub mod ShareLaws
 pub mod TurnLaws
 pub mod LatchLaws

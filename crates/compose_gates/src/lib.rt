@@ -1,11 +1,11 @@
 // The gates and latches of all witnesses, which stand side by side in lent words, become those of the composition.
 #![tactic(auto)]
 
-ghost use Rattle.std.specs.Prelude.{◌≡◌, ◌+◌, ◌<◌, length, drop};
+ghost use Rattle.std.specs.Prelude.{◌≡◌, ◌+◌, ◌<◌, length};
 ghost use Rattle.compose_spec.specs.Sharing.{translate, unordered};
 ghost use Rattle.compose_spec.specs.Inner.Keys.{key_of};
-ghost use Rattle.compose_gates.specs.Inner.Linked.{Translatable, TwoLiterals, key_at, Findable, FindsIn, Sharable, Shares};
-ghost use Rattle.compose_gates.specs.Inner.Latches.{Slot, SlotIs, same_pair, Storable, DefinesLatch, Definable, Defines};
+ghost use Rattle.compose_gates.specs.Inner.Linked.{Translatable, Sharable, Shares};
+ghost use Rattle.compose_gates.specs.Inner.Latches.{DefinesLatch, Definable, Defines};
 
 // The composed literal of a joint one, by the composed variables of the joint ones.
 pub fn translate(vars: &[u64], literal: u64) -> u64
@@ -27,105 +27,74 @@ fn key_of(x: u64, y: u64) -> u64
     }
 }
 
-// The key of the composed gate for the gate whose operands stand at a place.
-fn gate_key(work: &[u64], at: usize, vars: usize) -> u64
-    requires { TwoLiterals at vars work.now }
-    ensures { result ≡ key_at at vars work.now }
+// The key of the composed gate for a gate with these operands.
+fn gate_key(vars: &[u64], left: u64, right: u64) -> u64
+    requires { Translatable vars.now left × Translatable vars.now right }
+    ensures { result ≡ key_of (unordered (translate vars.now left) (translate vars.now right)) }
 {
-    let left = translate(&work[vars..], work[at]);
-    let right = translate(&work[vars..], work[at + 1]);
-    key_of(left, right)
-}
-
-// The number of a key in the table at a place, where a new one is added.
-// Kept (buffer): this is where the table is cut out of the words.
-fn number_of(work: &mut [u64], table: usize, count: usize, shared: usize, key: u64) -> usize
-    requires { Findable table count shared key work.old }
-    ensures { FindsIn table count shared key work.old work.new result }
-{
-    let end = table + (4 * count + 1);
-    key_table::find_or_add(&mut work[table..end], count + 1, shared, key)
+    let x = translate(vars, left);
+    let y = translate(vars, right);
+    key_of(x, y)
 }
 
 // How many gates the composition has, or none (R9.17): equal unordered operand pairs share a gate. The composed variables of the gates are stored behind
-// those of the `known` joint variables.
-// Kept (travel): this call and `define_latches` name different places of the one lent slice, and each is called once: a struct would be made for one call.
-// Kept (buffer): operands, variables and table are parts of that slice, which the laws of `compose_merge` follow as one list through all passes.
+// the `known` ones; the table has room for the key of each gate.
 pub fn share_gates(
-    work: &mut [u64],
-    operands: usize,
-    count: usize,
-    vars: usize,
+    operands: &[u64],
+    vars: &mut [u64],
     known: usize,
-    table: usize,
+    table: &mut [u64],
     leaves: usize,
 ) -> Option<usize>
-    requires { Sharable operands count vars known table leaves work.old }
-    ensures { Shares operands count vars known table leaves work.old work.new result }
+    requires { Sharable operands.now vars.old known table.old leaves }
+    ensures { Shares operands.now vars.old known leaves vars.new table.new result }
 {
+    let count = operands.len() / 2;
     let mut shared = 0;
     for i in 0..count {
-        let key = gate_key(work, operands + 2 * i, vars);
-        let k = number_of(work, table, count, shared, key);
+        let key = gate_key(vars, operands[2 * i], operands[2 * i + 1]);
+        let k = key_table::find_or_add(table, count + 1, shared, key);
         shared = shared.max(k + 1);
         if leaves + shared > 2000000 {
             return None;
         }
-        work[vars + known + i] = (leaves + 1 + k) as u64;
+        vars[known + i] = (leaves + 1 + k) as u64;
     }
     Some(shared)
 }
 
-// The number of the composed latch whose variable is at a place: the first one has the variable `first`, and `seen` of them were met.
-fn slot_of(work: &[u64], at: usize, first: usize, seen: usize) -> usize
-    requires { Slot at first seen work.now }
-    ensures { SlotIs at first seen work.now result }
+// Whether a latch with this next literal and reset is as its first definition, which stands at a place; where there is none yet, it is stored there.
+// Kept (switch): the loop says which latch was met before, and the definition branches on it.
+fn define_latch(definitions: &mut [u64], place: usize, next: u64, reset: u64, known: bool) -> bool
+    requires { place + 1 < length definitions.old }
+    ensures { DefinesLatch place next reset definitions.old definitions.new known result }
 {
-    work[at] as usize - first
-}
-
-fn same_pair(work: &[u64], at: usize, x: u64, y: u64) -> bool
-    requires { at + 1 < length work.now }
-    ensures { result ≡ same_pair at x y work.now }
-{
-    work[at] == x && work[at + 1] == y
-}
-
-// Whether the latch whose words stand at `at` is as its first definition, which stands at `place`; where there is none yet, it is stored there.
-// Kept (switch): both ways begin with the same two translated words, and the loop says which latch was met before.
-fn define_latch(work: &mut [u64], at: usize, vars: usize, place: usize, known: bool) -> bool
-    requires { Storable at vars place work.old }
-    ensures { DefinesLatch at vars place work.old work.new known result }
-{
-    let next = translate(&work[vars..], work[at]);
-    let reset = translate(&work[vars..], work[at + 1]);
     if known {
-        return same_pair(work, place, next, reset);
+        return definitions[place] == next && definitions[place + 1] == reset;
     }
-    work[place] = next;
-    work[place + 1] = reset;
+    definitions[place] = next;
+    definitions[place + 1] = reset;
     true
 }
 
-// How many latches the composition has where all definitions of each agree, or none (R9.18). The first definition of each composed latch is stored from the place `definitions` on.
-// Kept (buffer): as in `share_gates`.
+// How many latches the composition has where all definitions of each agree, or none (R9.18). The latches' own composed variables stand among
+// all from the place `own` on, and the first is the number `first`. The first definition of each composed latch is stored.
 pub fn define_latches(
-    work: &mut [u64],
-    words: usize,
-    count: usize,
-    vars: usize,
+    latches: &[u64],
+    vars: &[u64],
     own: usize,
-    definitions: usize,
+    definitions: &mut [u64],
     first: usize,
 ) -> Option<usize>
-    requires { Definable words count vars own definitions first work.old }
-    ensures { Defines words count vars own definitions first work.old work.new result }
+    requires { Definable latches.now vars.now own definitions.old first }
+    ensures { Defines latches.now vars.now own first definitions.old definitions.new result }
 {
     let mut seen = 0;
-    for j in 0..count {
-        let slot = slot_of(work, own + j, first, seen);
-        let place = definitions + 2 * slot;
-        if !define_latch(work, words + 2 * j, vars, place, slot < seen) {
+    for j in 0..latches.len() / 2 {
+        let slot = vars[own + j] as usize - first;
+        let next = translate(vars, latches[2 * j]);
+        let reset = translate(vars, latches[2 * j + 1]);
+        if !define_latch(definitions, 2 * slot, next, reset, slot < seen) {
             return None;
         }
         seen = seen.max(slot + 1);

@@ -9,7 +9,6 @@ use Rattle.lists.specs.Parts.{part, zeros}
 use Rattle.lists.specs.Tests.{Each}
 use Rattle.lists.specs.Sets.{set_of}
 use Rattle.lists.proofs.KeptLaws.{take-kept}
-use Rattle.lists.proofs.PartLaws.{part_length, part_at}
 use Rattle.lists.proofs.ZeroLaws.{zeros-length}
 use Rattle.lists.proofs.TestLaws.{each-so, each_at}
 use Rattle.aiger.specs.Gates.{variable}
@@ -36,7 +35,7 @@ use Rattle.compose_merge.specs.Inner.Merged.{Base, Goes, ResultWords, Counted, S
 use Rattle.compose_merge.specs.Inner.Stages.{Shared, CanCollect, Collects}
 use Rattle.compose_merge.proofs.WordLaws.{clean-part}
 use Rattle.compose_merge.proofs.DefineLaws.{definitions_long, LatchesDefined}
-use Rattle.compose_merge.proofs.JointLaws.{Joint, var_low, literals_in, literals-translated, shared_kept}
+use Rattle.compose_merge.proofs.JointLaws.{Joint, translatable, literals_in, literals-translated, shared_kept}
 
 -- ---- literals in general
 
@@ -48,18 +47,8 @@ module _ (at : Layout) (work : List ℕ) (m : Sections) (ws : List Sections) (b 
   -- a joint literal can be added by the words up to a place behind the composed variables
   addable : (l : ℕ) → Joint ws l → Addable (part work at.vars e) at.bits l
   addable l j =
-      let r : Regions m ws at = b.plan.regions in
-      let inside : variable l < suc (variable_total ws) = omega arith in
-      let low : get_or work (at.vars + variable l) 0 ≤ variable_total ws = var_low at work m ws b s (variable l) inside in
-      let here : get_or (part work at.vars e) (variable l) 0 ≡ get_or work (at.vars + variable l) 0 = part_at work at.vars e (variable l) 0 (omega (arith, behind, r.gates)) in
-      record {
-        literal =
-            record {
-              within = omega (arith, part_length work at.vars e within, inside, behind, r.gates);
-              small = omega (arith, here, low, b.plan.few);
-            };
-        below = bit-there (get_or (part work at.vars e) (variable l) 0) l (variable_total ws) at.bits (omega (arith, here, low)) r.bits;
-      }
+      let k = translatable at work m ws b s e behind within l j in
+      record { literal = k.0; below = bit-there (get_or (part work at.vars e) (variable l) 0) l (variable_total ws) at.bits k.1 b.plan.regions.bits }
 
   module _ (kind : Literals) (from count : ℕ) (h : Has work from (joint (list_of kind) ws)) (n : count ≡ length (joint (list_of kind) ws)) where
     -- a joint list can be added to an empty set

@@ -1,13 +1,14 @@
 -- Laws of the work words once gates are shared: composed variables are small, joint literals name them, and their composed literals are those of the composition.
 use Prim.Native.Nat.{ℕ, suc, ◌+◌, ◌*◌, ◌≤◌, ◌<◌}
 use mathlib.Core.List.{List, map}
-use mathlib.Core.Path.{◌≡◌, sym, ap, ap₂, subst, ◌∙◌}
+use mathlib.Core.Path.{◌≡◌, sym, ap₂, subst, ◌∙◌}
 use native.Mathlib.Omega.{arith}
-use lib.ListN.{length, get_or, take, drop}
+use lib.ListN.{length, get_or, take}
 use Rattle.lists.specs.Parts.{part}
 use Rattle.lists.specs.Tests.{Each}
 use Rattle.lists.proofs.KeptLaws.{part-kept}
-use Rattle.lists.proofs.PartLaws.{tail-lent}
+use Rattle.lists.proofs.PartLaws.{part_at, part_length}
+use Rattle.compose_gates.specs.Inner.Linked.{Translatable}
 use Rattle.lists.proofs.TestLaws.{each-so, each_at}
 use Rattle.aiger.specs.Gates.{variable}
 use Rattle.witness_read.specs.Sections.{Sections}
@@ -70,12 +71,20 @@ module _ (at : Layout) (work : List ℕ) (m : Sections) (ws : List Sections) (b 
         (each-so (Joint ws) (λ l. variable l < suc (variable_total ws)) (λ l k. omega arith) (part work from (from + count)) literals_in)
         ∙ ap₂ (λ (vs ls : List ℕ). map (translate vs) ls) vars-are (part-has work from (joint (list_of kind) ws) h count n)
 
-    -- the same, by all words from the composed variables on
-    pub literals_rest : composed_in (part work from (from + count)) (drop at.vars work) ≡ map (translate (joint_shared m ws).vars) (joint (list_of kind) ws)
-    literals_rest =
-        let g = b.plan.regions in
-        ap (composed_in (part work from (from + count))) (sym (tail-lent work at.vars))
-        ∙ literals-translated (length work) (omega (arith, b.fits, g.definitions, g.bad_bits, g.constraint_bits, g.end))
+  -- a joint literal can be translated by the words up to a place behind the composed variables
+  pub translatable : (e : ℕ) → at.gates ≤ e → e ≤ length work → (l : ℕ) → Joint ws l
+      → Translatable (part work at.vars e) l × (get_or (part work at.vars e) (variable l) 0 ≤ variable_total ws)
+  translatable e behind within l j =
+      let r : Regions m ws at = b.plan.regions in
+      let inside : variable l < suc (variable_total ws) = omega arith in
+      let low : get_or work (at.vars + variable l) 0 ≤ variable_total ws = var_low (variable l) inside in
+      let here : get_or (part work at.vars e) (variable l) 0 ≡ get_or work (at.vars + variable l) 0 = part_at work at.vars e (variable l) 0 (omega (arith, behind, r.gates)) in (
+        record {
+          within = omega (arith, part_length work at.vars e within, inside, behind, r.gates);
+          small = omega (arith, here, low, b.plan.few);
+        },
+        omega (arith, here, low),
+      )
 
 -- what is shared stays where nothing in front of the definitions is written
 pub shared_kept : (at : Layout) (work work' : List ℕ) (m : Sections) (ws : List Sections) → Regions m ws at → take at.definitions work' ≡ take at.definitions work → length work' ≡ length work

@@ -8,6 +8,7 @@ pub mod LatchLaws
 pub mod GateLaws
 pub mod JointLaws
 pub mod DefineLaws
+pub mod LentLaws
 pub mod CollectLaws
 pub mod AddLaws
 pub mod CallLaws

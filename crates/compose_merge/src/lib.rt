@@ -3,7 +3,7 @@
 
 ghost use Rattle.compose_layout.specs.Inner.Laid.{OfSome};
 ghost use Rattle.compose_merge.specs.Inner.Merged.{Mergeable, Goes};
-ghost use Rattle.compose_merge.specs.Inner.Stages.{Clearable, Clears, CanCollect, Collects, GatesShared};
+ghost use Rattle.compose_merge.specs.Inner.Stages.{Clearable, Clears, CanShare, SharesAll, CanDefine, DefinesAll, CanCollect, Collects, GatesShared};
 
 use aiger::Refusal;
 use compose_gather::Totals;
@@ -38,6 +38,37 @@ fn clear_regions(work: &mut [u64], at: Layout, gates: usize)
     compose_numbers::regions_clear(work, at.bad_bits, at.end);
 }
 
+// Shares the gates, where they are not too many (R9.17), and counts those of the composition.
+fn share(work: &mut [u64], at: Layout, totals: Totals, leaves: usize) -> Option<usize>
+    requires { CanShare at totals leaves work.old }
+    ensures { SharesAll at totals leaves work.old work.new result }
+{
+    let (front, rest) = work.split_at_mut(at.gates);
+    let (lists, vars) = front.split_at_mut(at.vars);
+    compose_gates::share_gates(
+        &lists[at.operands..at.safety],
+        vars,
+        1 + totals.inputs + totals.latches,
+        &mut rest[..at.definitions - at.gates],
+        leaves,
+    )
+}
+
+// Stores the definitions of the latches, where those of each agree (R9.18), and counts them.
+fn define(work: &mut [u64], at: Layout, totals: Totals, first: usize) -> Option<usize>
+    requires { CanDefine at totals first work.old }
+    ensures { DefinesAll at totals first work.old work.new result }
+{
+    let (front, rest) = work.split_at_mut(at.definitions);
+    compose_gates::define_latches(
+        &front[at.latches..at.operands],
+        &front[at.vars..at.gates],
+        1 + totals.inputs,
+        &mut rest[..at.bad_bits - at.definitions],
+        first,
+    )
+}
+
 // Collects the bads and the constraints, each in its set of bits.
 fn collect(work: &mut [u64], at: Layout) -> Found
     requires { CanCollect at work.old }
@@ -68,16 +99,7 @@ fn define_and_collect(
     requires { OfSome (GatesShared totals at first next gates work.old) }
     ensures { Goes (GatesShared totals at first next gates work.old) at work.old work.new result }
 {
-    let own = at.vars + 1 + totals.inputs;
-    let Some(_) = compose_gates::define_latches(
-        work,
-        at.latches,
-        totals.latches,
-        at.vars,
-        own,
-        at.definitions,
-        first,
-    ) else {
+    let Some(_) = define(work, at, totals, first) else {
         return Err(Refusal::LatchConflict);
     };
     let found = collect(work, at);
@@ -124,16 +146,7 @@ pub fn merge(
         own_latches,
         first_latch,
     );
-    let known = 1 + totals.inputs + totals.latches;
-    let Some(gates) = compose_gates::share_gates(
-        work,
-        at.operands,
-        totals.gates,
-        at.vars,
-        known,
-        at.gates,
-        next - 1,
-    ) else {
+    let Some(gates) = share(work, at, totals, next - 1) else {
         return Err(Refusal::GateLimit);
     };
     define_and_collect(work, at, totals, first_latch, next, gates)

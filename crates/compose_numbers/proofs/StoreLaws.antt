@@ -1,13 +1,12 @@
--- Words stored inside a part that was written, and a part of lent words given back.
-use Prim.Native.Nat.{ℕ, ◌+◌, ◌-◌, ◌≤◌, ◌<◌}
-use mathlib.Core.List.{List, ◌++◌, append-nil}
+-- Words stored inside a part that was written, and a part in its own place.
+use Prim.Native.Nat.{ℕ, ◌+◌, ◌≤◌, ◌<◌}
+use mathlib.Core.List.{List, ◌++◌}
 use mathlib.Core.Path.{◌≡◌, sym, ap, ◌∙◌}
 use native.Mathlib.Omega.{arith}
-use borrow.Rule.Slice.PartMut.{put_mid}
-use lib.ListN.{length, take, drop, set, length-set, take-append-drop, drop_of_length-le}
+use lib.ListN.{length, take, drop, set, length-set, take-append-drop}
 use lib.Seq.{length-take-le, set-append_left, take-set-lt, drop-set-lt}
-use Rattle.lists.specs.Parts.{part, put, front}
-use Rattle.lists.proofs.PartLaws.{set_append_right, part_length, part-rest, put_back}
+use Rattle.lists.specs.Parts.{part, put}
+use Rattle.lists.proofs.PartLaws.{set_append_right, part_length, part-rest}
 
 module _ (o : List ℕ) (at : ℕ) (c : List ℕ) (h : at ≤ length o) where
   -- a word of the part
@@ -29,9 +28,3 @@ module _ (o : List ℕ) (at e : ℕ) (h : at ≤ e) (k : e ≤ length o) where
   put_own =
       let n : at + length (part o at e) ≡ e = omega (arith, part_length o at e k) in
       ap (λ (i : ℕ). take at o ++ (part o at e ++ drop i o)) n ∙ ap (λ (l : List ℕ). take at o ++ l) (sym (part-rest o at e h)) ∙ take-append-drop at o
-
-  -- the part `&mut o[at..e]`, given back with other words
-  pub given_back : (c : List ℕ) → length c ≡ length (part o at e) → put_mid at (e - at) o c ≡ put o at c
-  given_back c same =
-      let whole : c ≡ front (part o at e) c = sym (rw (drop_of_length-le (part o at e) {i = length c} (omega (arith, same))) (append-nil c)) in
-      ap (put_mid at (e - at) o) whole ∙ put_back o at c (omega arith) e (omega (arith, same, part_length o at e k)) k

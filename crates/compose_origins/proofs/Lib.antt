@@ -1,6 +1,5 @@
 -- Laws of mapping.
 pub mod MappingLaws
-pub mod NameLaws
 pub mod LoopLaws
 pub mod WitnessLaws
 pub mod AllLaws

@@ -54,6 +54,7 @@ impl<'a> Composition<'a> {
     }
 
     // The whole text.
+    #[tactic(auto, using(crate::proofs::WriteLaws::region_ends))]
     fn print_to(&self, to: &mut Printer)
         requires { OfSome (PrintableOf self.now) }
         ensures { PrintsText (PrintableOf self.now) from_header to.old to.new }

@@ -1,6 +1,5 @@
-use Rattle.lists.proofs.PartLaws.{tail-lent}
 use Rattle.compose_gates.proofs.LatchLaws.{latch_new}
 use Rattle.compose_gates.proofs.define_latch.Goals as goal
 
 pub returns : goal.returns
-returns c = search (latch_new, simp tail-lent at c.translate-next.ensures, simp tail-lent at c.translate-reset.ensures)
+returns c = search latch_new

@@ -29,12 +29,6 @@ number_leaves-next-requires c =
     let numbered = step-some (inputs-step _ _ _ _ c.number_leaves-first_latch.auto.work c.number_leaves-first_latch.ensures) cleared in
     latches-can _ _ _ _ _ numbered
 
-pub overflow_add-known : goal.overflow_add-known
-overflow_add-known c = omega (arith, sums_small c.requires)
-
-pub overflow_add-known-2 : goal.overflow_add-known-2
-overflow_add-known-2 c = omega (arith, sums_small c.requires)
-
 pub overflow_sub-next : goal.overflow_sub-next
 overflow_sub-next c =
     let cleared = step-some (clear_step c.clear_regions.auto.work c.clear_regions.ensures) c.requires in
@@ -42,15 +36,15 @@ overflow_sub-next c =
     let leaves = step-some (latches-step _ _ _ _ _ c.number_leaves-next.auto.work c.number_leaves-next.ensures) numbered in
     omega (arith, leaves.holds.next)
 
-pub share_gates-requires : goal.share_gates-requires
-share_gates-requires c =
+pub share-requires : goal.share-requires
+share-requires c =
     let cleared = step-some (clear_step c.clear_regions.auto.work c.clear_regions.ensures) c.requires in
     let numbered = step-some (inputs-step _ _ _ _ c.number_leaves-first_latch.auto.work c.number_leaves-first_latch.ensures) cleared in
     let leaves = step-some (latches-step _ _ _ _ _ c.number_leaves-next.auto.work c.number_leaves-next.ensures) numbered in
     gates-can _ _ _ _ _ leaves
 
 pub shape_of-work-in_default : goal.shape_of-work-in_default
-shape_of-work-in_default c = omega (arith, c.share_gates.auto.work, c.number_leaves-next.auto.work, c.number_leaves-first_latch.auto.work, c.clear_regions.auto.work)
+shape_of-work-in_default c = omega (arith, c.share.auto.work, c.number_leaves-next.auto.work, c.number_leaves-first_latch.auto.work, c.clear_regions.auto.work)
 
 -- 17
 pub returns-in_default : goal.returns-in_default
@@ -58,22 +52,22 @@ returns-in_default c =
     step-goes (clear_step c.clear_regions.auto.work c.clear_regions.ensures)
     (step-goes (inputs-step _ _ _ _ c.number_leaves-first_latch.auto.work c.number_leaves-first_latch.ensures)
     (step-goes (latches-step _ _ _ _ _ c.number_leaves-next.auto.work c.number_leaves-next.ensures)
-    (gates_many _ _ _ _ _ c.share_gates.ensures c.in_default.is _)))
+    (gates_many _ _ _ _ _ c.share.ensures c.in_default.is _)))
 
 pub define_and_collect-requires : goal.define_and_collect-requires
 define_and_collect-requires c =
     let cleared = step-some (clear_step c.clear_regions.auto.work c.clear_regions.ensures) c.requires in
     let numbered = step-some (inputs-step _ _ _ _ c.number_leaves-first_latch.auto.work c.number_leaves-first_latch.ensures) cleared in
     let leaves = step-some (latches-step _ _ _ _ _ c.number_leaves-next.auto.work c.number_leaves-next.ensures) numbered in
-    step-some (gates-step _ _ _ _ _ c.share_gates.ensures c.share_gates.auto.work c.in-Some.is) leaves
+    step-some (gates-step _ _ _ _ _ c.share.ensures c.share.auto.work c.in-Some.is) leaves
 
 pub shape_of-work : goal.shape_of-work
-shape_of-work c = omega (arith, c.define_and_collect.auto.work, c.share_gates.auto.work, c.number_leaves-next.auto.work, c.number_leaves-first_latch.auto.work, c.clear_regions.auto.work)
+shape_of-work c = omega (arith, c.define_and_collect.auto.work, c.share.auto.work, c.number_leaves-next.auto.work, c.number_leaves-first_latch.auto.work, c.clear_regions.auto.work)
 
 pub returns : goal.returns
 returns c =
     step-goes (clear_step c.clear_regions.auto.work c.clear_regions.ensures)
     (step-goes (inputs-step _ _ _ _ c.number_leaves-first_latch.auto.work c.number_leaves-first_latch.ensures)
     (step-goes (latches-step _ _ _ _ _ c.number_leaves-next.auto.work c.number_leaves-next.ensures)
-    (step-goes (gates-step _ _ _ _ _ c.share_gates.ensures c.share_gates.auto.work c.in-Some.is)
+    (step-goes (gates-step _ _ _ _ _ c.share.ensures c.share.auto.work c.in-Some.is)
     c.define_and_collect.ensures)))

@@ -1,5 +1,5 @@
 -- For the contracts of the composer's inner functions: what stands in the work words after each pass.
-use Rattle.std.specs.Prelude.{ℕ, suc, ◌+◌, ◌-◌, ◌*◌, ◌≤◌, true, List, map, ◌≡◌, length, take}
+use Rattle.std.specs.Prelude.{ℕ, suc, ◌+◌, ◌-◌, ◌*◌, ◌≤◌, true, List, map, ◌≡◌, length, take, drop, Option}
 use Rattle.lists.specs.Parts.{part, zeros}
 use Rattle.witness_read.specs.Sections.{Sections}
 use Rattle.compose_spec.specs.Numbering.{input_firsts, leaf_count}
@@ -11,6 +11,8 @@ use Rattle.key_table.specs.Inner.Table.{Held}
 use Rattle.compose_gather.specs.declared.Totals.{Totals}
 use Rattle.compose_layout.specs.declared.Layout.{Layout}
 use Rattle.compose_layout.specs.Inner.Laid.{Has, Summed}
+use Rattle.compose_gates.specs.Inner.Latches.{Definable, Defines}
+use Rattle.compose_gates.specs.Inner.Linked.{Sharable, Shares}
 use Rattle.compose_numbers.specs.Inner.Marked.{CanAdd, Added}
 use Rattle.compose_merge.specs.Inner.Merged.{Base, input_numbers, latch_numbers}
 
@@ -55,6 +57,40 @@ pub record GatesShared (t : Totals) (at : Layout) (n k g : ℕ) (work : List ℕ
   pub fits : gates_fit (leaf_count m ws) (composed_gates m ws) ≡ true
   pub shared : Shared at work m ws
   pub bits : Clean work at.bad_bits at.end
+
+-- the operands, the composed variables and the table of gates stand one behind the other within the words
+pub record CanShare (at : Layout) (t : Totals) (leaves : ℕ) (work : List ℕ) : Type 0 where
+  pub operands : at.operands ≤ at.safety
+  pub lists : at.safety ≤ at.vars
+  pub vars : at.vars ≤ at.gates
+  pub table : at.gates ≤ at.definitions
+  pub fits : at.definitions ≤ length work
+  pub known : 1 + t.inputs + t.latches ≤ length work
+  pub can : Sharable (part work at.operands at.safety) (part work at.vars at.gates) (1 + t.inputs + t.latches) (part work at.gates at.definitions) leaves
+
+-- the gates are shared in the last two of them, and no other words are written
+pub record SharesAll (at : Layout) (t : Totals) (leaves : ℕ) (work work' : List ℕ) (r : Option ℕ) : Type 0 where
+  pub shares :
+      Shares (part work at.operands at.safety) (part work at.vars at.gates) (1 + t.inputs + t.latches) leaves (part work' at.vars at.gates) (part work' at.gates at.definitions) r
+  pub before : take at.vars work' ≡ take at.vars work
+  pub behind : drop at.definitions work' ≡ drop at.definitions work
+
+-- the words of the latches, the composed variables and room for definitions stand one behind the other within the words
+pub record CanDefine (at : Layout) (t : Totals) (first : ℕ) (work : List ℕ) : Type 0 where
+  pub latches : at.latches ≤ at.operands
+  pub ahead : at.operands ≤ at.definitions
+  pub vars : at.vars ≤ at.gates
+  pub gates : at.gates ≤ at.definitions
+  pub definitions : at.definitions ≤ at.bad_bits
+  pub fits : at.bad_bits ≤ length work
+  pub can : Definable (part work at.latches at.operands) (part work at.vars at.gates) (1 + t.inputs) (part work at.definitions at.bad_bits) first
+
+-- they are defined in that room, and no other words are written
+pub record DefinesAll (at : Layout) (t : Totals) (first : ℕ) (work work' : List ℕ) (r : Option ℕ) : Type 0 where
+  pub defines :
+      Defines (part work at.latches at.operands) (part work at.vars at.gates) (1 + t.inputs) first (part work at.definitions at.bad_bits) (part work' at.definitions at.bad_bits) r
+  pub before : take at.definitions work' ≡ take at.definitions work
+  pub behind : drop at.bad_bits work' ≡ drop at.bad_bits work
 
 -- the joint lists, the composed variables and both sets of bits, which are empty, stand one behind the other within the words
 pub record CanCollect (at : Layout) (work : List ℕ) : Type 0 where
