@@ -25,6 +25,7 @@ use Rattle.obligation_claims.specs.Inner.Filling.{InOrder}
 use Rattle.obligation_claims.proofs.ClaimLaws.{state-clauses, outcome-clauses}
 use Rattle.obligation_claims.proofs.KeyLaws.{picked_low}
 use Rattle.cnf.specs.declared.ClauseCounts.{ClauseCounts}
+use Rattle.cnf.specs.declared.Clauses.{Clauses}
 use Rattle.aiger.specs.declared.Refusal.{Refusal}
 use Rattle.obligation.specs.Inner.Appended.{parts_of, claimed_of, all_lists, Ready, Asks, MakesAll}
 use Rattle.obligation.proofs.ListLaws.{relation_is, transducer_is, terminal_is}
@@ -81,11 +82,11 @@ module _ (q : Asked) (a : Asks q) (sized : Sized q.model) where
           ∙ ap (λ (ls : List ℕ). map simplified (map (λ s. differing ls (bits (length ls) s)) targets)) ne
           ∙ ap (λ (n : ℕ). map simplified (map (λ s. differing (nexts_of (circuit q)) (bits n s)) targets)) (length-map (circuit q).latches next_of))
 
-      pub relation_made : (pairs literals : List ℕ) (r : Result ClauseCounts Refusal) (pairs' literals' : List ℕ)
-          → MakesAll (words_of simplified (all_lists (parts_of currents source inputs q.relevant q.pairs q.words q.gates q.model.and_count) (claimed_of keys targets false) 1)) pairs literals r pairs' literals'
-          → MakesAll (relation_clauses (circuit q) q.relevant (predicate q) source targets) pairs literals r pairs' literals'
-      relation_made pairs literals r pairs' literals' m =
-          subst (λ (cs : List Clause). MakesAll cs pairs literals r pairs' literals') (relation_is q currents inputs ce ie source targets (state_claims keys targets) same_targets) m
+      pub relation_made : (p : Clauses) (r : Result ClauseCounts Refusal) (p' : Clauses)
+          → MakesAll (words_of simplified (all_lists (parts_of currents source inputs q.relevant q.pairs q.words q.gates q.model.and_count) (claimed_of keys targets false) 1)) p r p'
+          → MakesAll (relation_clauses (circuit q) q.relevant (predicate q) source targets) p r p'
+      relation_made p r p' m =
+          subst (λ (cs : List Clause). MakesAll cs p r p') (relation_is q currents inputs ce ie source targets (state_claims keys targets) same_targets) m
 
     -- ---- a row with claimed outcomes
 
@@ -113,11 +114,11 @@ module _ (q : Asked) (a : Asks q) (sized : Sized q.model) where
           ∙ ap (λ (n : ℕ). map simplified (map (λ o. differing (nexts_of (circuit q)) (bits n o.target) ++ differing seen (output_bits o)) (outcomes_of outcomes))) (length-map (circuit q).latches next_of)
           ∙ ap (λ (os : List ℕ). map simplified (map (λ o. target_list (circuit q) o.target ++ differing (map (λ i. get_or os i 0) observed) (output_bits o)) (outcomes_of outcomes))) oe)
 
-      pub transducer_made : (pairs literals : List ℕ) (r : Result ClauseCounts Refusal) (pairs' literals' : List ℕ)
-          → MakesAll (words_of simplified (all_lists (parts_of currents source inputs q.relevant q.pairs q.words q.gates q.model.and_count) (claimed_of keys outcomes true) 1)) pairs literals r pairs' literals'
-          → MakesAll (transducer_clauses (circuit q) q.relevant (predicate q) source observed (outcomes_of outcomes)) pairs literals r pairs' literals'
-      transducer_made pairs literals r pairs' literals' m =
-          subst (λ (cs : List Clause). MakesAll cs pairs literals r pairs' literals') (transducer_is q currents inputs ce ie source observed outcomes (outcome_claims keys outcomes) same_outcomes) m
+      pub transducer_made : (p : Clauses) (r : Result ClauseCounts Refusal) (p' : Clauses)
+          → MakesAll (words_of simplified (all_lists (parts_of currents source inputs q.relevant q.pairs q.words q.gates q.model.and_count) (claimed_of keys outcomes true) 1)) p r p'
+          → MakesAll (transducer_clauses (circuit q) q.relevant (predicate q) source observed (outcomes_of outcomes)) p r p'
+      transducer_made p r p' m =
+          subst (λ (cs : List Clause). MakesAll cs p r p') (transducer_is q currents inputs ce ie source observed outcomes (outcome_claims keys outcomes) same_outcomes) m
 
   -- ---- a terminal list
 
@@ -141,10 +142,10 @@ module _ (q : Asked) (a : Asks q) (sized : Sized q.model) where
         ∙ ap (λ (ls : List ℕ). map simplified (map (λ s. differing ls (bits (length ls) s)) states)) ce
         ∙ ap (λ (n : ℕ). map simplified (map (λ s. differing (currents_of (circuit q)) (bits n s)) states)) (length-map (circuit q).latches current_of))
 
-    pub terminal_made : (pairs literals : List ℕ) (r : Result ClauseCounts Refusal) (pairs' literals' : List ℕ)
-        → MakesAll (words_of simplified (all_lists (parts_of none 0 inputs q.relevant q.pairs q.words q.gates q.model.and_count) (claimed_of keys states false) last)) pairs literals r pairs' literals'
-        → MakesAll (terminal_clauses (circuit q) q.relevant (predicate q) bad states) pairs literals r pairs' literals'
-    terminal_made pairs literals r pairs' literals' m =
-        subst (λ (cs : List Clause). MakesAll cs pairs literals r pairs' literals')
+    pub terminal_made : (p : Clauses) (r : Result ClauseCounts Refusal) (p' : Clauses)
+        → MakesAll (words_of simplified (all_lists (parts_of none 0 inputs q.relevant q.pairs q.words q.gates q.model.and_count) (claimed_of keys states false) last)) p r p'
+        → MakesAll (terminal_clauses (circuit q) q.relevant (predicate q) bad states) p r p'
+    terminal_made p r p' m =
+        subst (λ (cs : List Clause). MakesAll cs p r p')
         (ap (λ (ls : List ℕ). words_of simplified (all_lists (parts_of ls 0 inputs q.relevant q.pairs q.words q.gates q.model.and_count) (claimed_of keys states false) last)) ze
         ∙ terminal_is q currents inputs ce ie bad states (state_claims keys states) last same_states (le ∙ ap opposite oe)) m

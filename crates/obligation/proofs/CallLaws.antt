@@ -23,7 +23,7 @@ use Rattle.obligation_check.specs.Inner.Boundary.{Checks}
 use Rattle.obligation.specs.declared.Claim.{Claim}
 use Rattle.obligation.specs.declared.Claim.TheVariants.{Relation, Transducer, Terminal}
 use Rattle.obligation.specs.Promise.{Buffers, buffers_of, lent_of, Makes, Promised}
-use Rattle.obligation.specs.Inner.Appended.{room_of, Asks, MakesAll}
+use Rattle.obligation.specs.Inner.Appended.{room_of, Asks, Made}
 use Rattle.obligation.specs.Inner.ByClaim.{claim_test, claim_clauses, claim_after}
 use Rattle.obligation.proofs.PromiseLaws.{relation_promise, transducer_promise, terminal_promise, makes-refused, makes-rest}
 
@@ -106,7 +106,7 @@ module _ (q : Asked) (sized : Sized q.model) (claim : Claim) (pairs literals wor
         promise q sized (buffers_of pairs literals work) (Err refusal.Claim) (buffers_of pairs literals work') claim
         (makes-refused (answer_to q claim lent) refusal.Claim pairs literals work work' (left ∙ rw (← k, f) refl) h.clears)
 
-    pub call_made : t ≡ true → (r : Result ClauseCounts Refusal) (pairs' literals' : List ℕ) → MakesAll (claim_clauses q claim) pairs literals r pairs' literals'
+    pub call_made : t ≡ true → (r : Result ClauseCounts Refusal) (pairs' literals' : List ℕ) → Made (claim_clauses q claim) pairs literals r pairs' literals'
         → Promised claim q (buffers_of pairs literals work) r (buffers_of pairs' literals' work')
     call_made f r pairs' literals' m =
         promise q sized (buffers_of pairs literals work) r (buffers_of pairs' literals' work') claim

@@ -14,8 +14,7 @@ use Rattle.aiger.specs.Gates.{gate_from}
 use Rattle.cnf.specs.declared.ClauseCounts.{ClauseCounts}
 use Rattle.cnf.specs.declared.Clauses.{Clauses}
 use Rattle.cnf.specs.Clauses.{clauses_in}
-use Rattle.cnf.specs.Simplified.{simplified}
-use Rattle.cnf.specs.Inner.Appending.{Holding, Appends, Space}
+use Rattle.cnf.specs.Inner.Appending.{Appends, Space}
 use Rattle.cnf.proofs.AppendLaws.{empty, appends_then, appends-start, space-empty, space-less, space-left}
 use Rattle.obligation_spec.specs.Lists.{source_lists, predicate_literal, gate_lists}
 use Rattle.obligation_gates.proofs.SourceLaws.{count}
@@ -24,7 +23,7 @@ use Rattle.obligation_claims.specs.declared.Claims.{Claims}
 use Rattle.obligation_claims.specs.declared.Claims.TheVariants.{States, Outcomes}
 use Rattle.obligation_claims.specs.Inner.Kinds.{count_in, words_in, wide_in, lists_of}
 use Rattle.obligation_gates.specs.Inner.Encoding.{LowGate, BoundedBy}
-use Rattle.obligation.specs.Inner.Appended.{Parts, Claimed, claimed_of, front_lists, claim_lists, all_lists, claim_count, FrontReady, ClaimsReady}
+use Rattle.obligation.specs.Inner.Appended.{Parts, Claimed, claimed_of, front_lists, claim_lists, all_lists, claim_count, FrontReady, ClaimsReady, AppendsAll}
 
 module _ (p : Parts) (f : FrontReady p) where
   abbrev sources : List (List ℕ)
@@ -83,12 +82,18 @@ module _ (p : Parts) (f : FrontReady p) where
       pub last_space : length (claim_lists c) ≤ 1000000 → Space s₂.counts 1
       last_space few = space-left (claim_lists c) s₁ s₂ h 1 1000001 (omega (arith, few)) (space 1000001 (omega arith))
 
-      pub all-holding : (last : ℕ) (s₃ : Clauses) → Appends ((last ∷ []) ∷ []) s₂ s₃
-          → Holding s₀.pairs.now s₀.literals.now (words_of simplified (all_lists p c last)) s₃.counts s₃.pairs.now s₃.literals.now
-      all-holding last s₃ k =
-          appends-start (all_lists p c last) s₀ s₃ none
-          (appends_then (front_lists p) (claim_lists c ++ (last ∷ []) ∷ []) s₀ s₁ s₃ g
-          (appends_then (claim_lists c) ((last ∷ []) ∷ []) s₁ s₂ s₃ h k))
+      pub all-appends : (last : ℕ) (s₃ : Clauses) → Appends ((last ∷ []) ∷ []) s₂ s₃ → Appends (all_lists p c last) s₀ s₃
+      all-appends last s₃ k =
+          appends_then (front_lists p) (claim_lists c ++ (last ∷ []) ∷ []) s₀ s₁ s₃ g
+          (appends_then (claim_lists c) ((last ∷ []) ∷ []) s₁ s₂ s₃ h k)
+
+-- whatever was appended before, when the counts began anew
+pub all-from-start : (lists : List (List ℕ)) (p p' : Clauses) → Appends lists (record p { counts = empty }) p' → AppendsAll lists p p'
+all-from-start lists p p' a =
+    record {
+      same = record { pairs_name = a.same.pairs_name; literals_name = a.same.literals_name; pairs_room = a.same.pairs_room; literals_room = a.same.literals_room };
+      holding = appends-start lists (record p { counts = empty }) p' refl a;
+    }
 
 -- ---- claims of either width
 

@@ -20,7 +20,7 @@ use Rattle.aiger.specs.declared.Refusal.{Refusal}
 use Rattle.aiger.specs.declared.Refusal.TheVariants.{ResultRoom}
 use Rattle.aiger.specs.Refusals.{refusal_number, answered}
 use Rattle.obligation.specs.Promise.{sizes, pairs_after, literals_after, Buffers, lent_of, Makes, clauses_after, MakesRelation, MakesTransducer, MakesTerminal}
-use Rattle.obligation.specs.Inner.Appended.{room_of, Continues, MakesAll}
+use Rattle.obligation.specs.Inner.Appended.{room_of, Continues, Made}
 
 -- ---- an accepted answer: its clauses are those in the buffers at exit
 
@@ -88,14 +88,14 @@ module _ (cs : List Clause) (pairs literals : List ℕ) (p w p' w' : List ℕ) (
   within_no_pairs : length pairs / 2 < size.clauses → within (room_of pairs literals) cs ≡ refused 20
   within_no_pairs k = rw (lt-leb (2 * length cs) (length pairs) (omega (arith, h.clauses))) refl
 
-  pub no_pairs : length pairs / 2 < size.clauses → MakesAll cs pairs literals (Err ResultRoom) pairs literals
+  pub no_pairs : length pairs / 2 < size.clauses → Made cs pairs literals (Err ResultRoom) pairs literals
   no_pairs k = let e = within_no_pairs k in record { answers = rw e refl; pairs_are = rw e refl; literals_are = rw e refl }
 
   module _ (k : size.clauses ≤ length pairs / 2) where
     within_no_words : length literals < size.literals → within (room_of pairs literals) cs ≡ refused 20
     within_no_words j = rw (le-leb (2 * length cs) (length pairs) (omega (arith, h.clauses)), lt-leb (length (literals_of cs)) (length literals) (omega (arith, h.literals))) refl
 
-    pub no_words : length literals < size.literals → MakesAll cs pairs literals (Err ResultRoom) pairs literals
+    pub no_words : length literals < size.literals → Made cs pairs literals (Err ResultRoom) pairs literals
     no_words j = let e = within_no_words j in record { answers = rw e refl; pairs_are = rw e refl; literals_are = rw e refl }
 
     module _ (j : size.literals ≤ length literals) (at : ClauseCounts) (pairs' literals' : List ℕ) (g : Holding pairs literals cs at pairs' literals') where
@@ -108,7 +108,7 @@ module _ (cs : List Clause) (pairs literals : List ℕ) (p w p' w' : List ℕ) (
           counts-are : (t : ClauseCounts) (a b : ℕ) → t.clauses ≡ a → t.literals ≡ b → t ≡ record { clauses = a; literals = b }
           counts-are t a b e f = rw (← e, ← f) refl
 
-      pub made_all : MakesAll cs pairs literals (Ok at) pairs' literals'
+      pub made_all : Made cs pairs literals (Ok at) pairs' literals'
       made_all =
           let room : 2 * at.clauses ≤ length pairs = omega (arith, h.clauses, g.clauses) in
           let words : at.literals ≤ length literals = omega (arith, h.literals, g.literals) in

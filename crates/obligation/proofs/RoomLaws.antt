@@ -19,7 +19,7 @@ use Rattle.cnf.specs.Inner.Appending.{Holding}
 use Rattle.cnf.proofs.SizeLaws.{total, total_append, total_more, clauses-few, kept-few}
 use Rattle.obligation_spec.specs.Lists.{valued, source_lists, predicate_literal, gate_lists}
 use Rattle.obligation_claims.specs.Inner.Claims.{claim_list, state_claims, outcome_claims}
-use Rattle.obligation.specs.Inner.Appended.{Parts, Claimed, front_lists, claim_lists, all_lists, claim_count, Ready, Roomy, MakesAll}
+use Rattle.obligation.specs.Inner.Appended.{Parts, Claimed, front_lists, claim_lists, all_lists, claim_count, Ready, Roomy, Made}
 use Rattle.obligation.proofs.PromiseLaws.{made_all}
 use Rattle.obligation.proofs.MakingLaws.{front-most, claims_many, claims-few}
 
@@ -95,7 +95,7 @@ module _ (p : Parts) (c : Claimed) (last : ℕ) (r : Ready p c last) where
   pub made_roomy : (pairs literals : List ℕ) (n : ℕ) → n ≡ claim_count (length c.words) c.wide
       → Roomy (length p.currents) (length p.pairs / 2) p.ands (length c.keys) n (length pairs) (length literals)
       → (at : ClauseCounts) (pairs' literals' : List ℕ) → Holding pairs literals (words_of simplified (all_lists p c last)) at pairs' literals'
-      → MakesAll (words_of simplified (all_lists p c last)) pairs literals (Ok at) pairs' literals'
+      → Made (words_of simplified (all_lists p c last)) pairs literals (Ok at) pairs' literals'
   made_roomy pairs literals n e room at pairs' literals' h =
       let literals-fit : length p.currents + 7 * p.ands + length c.keys * claim_count (length c.words) c.wide + 1025 ≤ length literals = rw (← e) room.literals_suffice in
       made_all (words_of simplified (all_lists p c last)) pairs literals pairs literals pairs' literals' at h

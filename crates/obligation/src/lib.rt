@@ -11,7 +11,7 @@ ghost use Rattle.obligation.specs.Inner.Appended.{Asks, ClaimsOf, MakesAll};
 ghost use Rattle.obligation.specs.Inner.ByClaim.{claim_test, claim_clauses};
 
 use aiger::Refusal;
-use cnf::ClauseCounts;
+use cnf::{ClauseCounts, Clauses};
 use making::Plan;
 use model::{AigerTransition, LentModel};
 use obligation_check::{Predicate, Question};
@@ -78,11 +78,10 @@ fn make_relation(
     accepted: &Accepted,
     source: u64,
     targets: &[u64],
-    pairs: &mut [u64],
-    literals: &mut [u32],
+    clauses: &mut Clauses,
 ) -> Result<ClauseCounts, Refusal>
     requires { ClaimsOf (states_claimed (circuit (asked_in accepted.now.question.now)) targets.now) }
-    ensures { let q = asked_in accepted.now.question.now in MakesAll (relation_clauses (circuit q) q.relevant (predicate q) source targets.now) pairs.old literals.old result pairs.new literals.new }
+    ensures { let q = asked_in accepted.now.question.now in MakesAll (relation_clauses (circuit q) q.relevant (predicate q) source targets.now) clauses.old result clauses.new }
 {
     let question = accepted.question;
     let latches = question.model.counts.latches;
@@ -97,7 +96,7 @@ fn make_relation(
         claims: Claims::States(targets),
         last: 1,
     };
-    making::make(question, plan, pairs, literals)
+    making::make(question, plan, clauses)
 }
 
 // The same for a row with claimed outcomes.
@@ -106,11 +105,10 @@ fn make_transducer(
     source: u64,
     observed: &[u64],
     outcomes: &[u64],
-    pairs: &mut [u64],
-    literals: &mut [u32],
+    clauses: &mut Clauses,
 ) -> Result<ClauseCounts, Refusal>
     requires { ClaimsOf (outcomes_claimed (circuit (asked_in accepted.now.question.now)) observed.now (outcomes_of outcomes.now)) }
-    ensures { let q = asked_in accepted.now.question.now in MakesAll (transducer_clauses (circuit q) q.relevant (predicate q) source observed.now (outcomes_of outcomes.now)) pairs.old literals.old result pairs.new literals.new }
+    ensures { let q = asked_in accepted.now.question.now in MakesAll (transducer_clauses (circuit q) q.relevant (predicate q) source observed.now (outcomes_of outcomes.now)) clauses.old result clauses.new }
 {
     let question = accepted.question;
     let counts = question.model.counts;
@@ -127,7 +125,7 @@ fn make_transducer(
         claims: Claims::Outcomes(outcomes),
         last: 1,
     };
-    making::make(question, plan, pairs, literals)
+    making::make(question, plan, clauses)
 }
 
 // The same for a terminal list, which has no source, and ends with the bad output at 0.
@@ -135,11 +133,10 @@ fn make_terminal(
     accepted: &Accepted,
     bad: usize,
     states: &[u64],
-    pairs: &mut [u64],
-    literals: &mut [u32],
+    clauses: &mut Clauses,
 ) -> Result<ClauseCounts, Refusal>
     requires { ClaimsOf (states_claimed (circuit (asked_in accepted.now.question.now)) states.now) }
-    ensures { let q = asked_in accepted.now.question.now in MakesAll (terminal_clauses (circuit q) q.relevant (predicate q) bad states.now) pairs.old literals.old result pairs.new literals.new }
+    ensures { let q = asked_in accepted.now.question.now in MakesAll (terminal_clauses (circuit q) q.relevant (predicate q) bad states.now) clauses.old result clauses.new }
 {
     let question = accepted.question;
     let counts = question.model.counts;
@@ -154,30 +151,27 @@ fn make_terminal(
         claims: Claims::States(states),
         last: cnf::opposite_of(lists::word(outputs, bad)),
     };
-    making::make(question, plan, pairs, literals)
+    making::make(question, plan, clauses)
 }
 
 // Makes the clauses of a claim, once all arguments are accepted.
 fn make_accepted(
     accepted: &Accepted,
     claim: Claim,
-    pairs: &mut [u64],
-    literals: &mut [u32],
+    clauses: &mut Clauses,
 ) -> Result<ClauseCounts, Refusal>
     requires { ClaimsOf (claim_test (circuit (asked_in accepted.now.question.now)) claim) }
-    ensures { MakesAll (claim_clauses (asked_in accepted.now.question.now) claim.entry) pairs.old literals.old result pairs.new literals.new }
+    ensures { MakesAll (claim_clauses (asked_in accepted.now.question.now) claim.entry) clauses.old result clauses.new }
 {
     match claim {
-        Claim::Relation { source, targets } => {
-            make_relation(accepted, source, targets, pairs, literals)
-        }
+        Claim::Relation { source, targets } => { make_relation(accepted, source, targets, clauses) }
         Claim::Transducer {
             source,
             observed,
             outcomes,
-        } => make_transducer(accepted, source, observed, outcomes, pairs, literals),
+        } => make_transducer(accepted, source, observed, outcomes, clauses),
         Claim::Terminal { bad, states } => {
-            make_terminal(accepted, bad as usize, states, pairs, literals)
+            make_terminal(accepted, bad as usize, states, clauses)
         }
     }
 }
@@ -197,7 +191,16 @@ pub fn make(
     if !claim_holds(&accepted, claim) {
         return Err(Refusal::Claim);
     }
-    make_accepted(&accepted, claim, pairs, literals)
+    let counts = ClauseCounts {
+        clauses: 0,
+        literals: 0,
+    };
+    let mut clauses = Clauses {
+        pairs,
+        literals,
+        counts,
+    };
+    make_accepted(&accepted, claim, &mut clauses)
 }
 
 // The clauses of a row: every input that meets the predicate leads from the source to a claimed target.

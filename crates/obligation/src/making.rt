@@ -2,8 +2,7 @@
 ghost use Rattle.std.specs.Prelude.{true, ◌≡◌, ◌*◌, ◌≤◌};
 ghost use Rattle.lists.specs.Words.{words_of};
 ghost use Rattle.cnf.specs.Simplified.{simplified};
-ghost use Rattle.cnf.specs.Inner.Appending.{Holding};
-ghost use Rattle.obligation.specs.Inner.Appended.{all_lists, Ready, Roomy, MakesAll};
+ghost use Rattle.obligation.specs.Inner.Appended.{all_lists, Ready, Roomy, MakesAll, AppendsAll};
 ghost use Rattle.obligation.specs.Inner.Planned.{parts_in, claimed_in};
 
 use aiger::Refusal;
@@ -22,34 +21,24 @@ pub struct Plan<'a> {
     pub last: u64,
 }
 
-// Appends all clauses of an obligation: source latches, predicate and gates, then the claims and a clause of one literal.
-fn append_all(
-    question: &Question,
-    plan: &Plan,
-    pairs: &mut [u64],
-    literals: &mut [u32],
-) -> ClauseCounts
+// Appends all clauses of an obligation from the buffers' start on: source latches, predicate and gates, then the claims and a clause of one
+// literal.
+fn append_all(question: &Question, plan: &Plan, clauses: &mut Clauses)
     requires { Ready (parts_in question.now plan.now) (claimed_in plan.now) plan.now.last }
-    ensures { Holding pairs.old literals.old (words_of simplified (all_lists (parts_in question.now plan.now) (claimed_in plan.now) plan.now.last)) result pairs.new literals.new }
+    ensures { AppendsAll (all_lists (parts_in question.now plan.now) (claimed_in plan.now) plan.now.last) clauses.old clauses.new }
 {
-    let counts = ClauseCounts {
+    clauses.counts = ClauseCounts {
         clauses: 0,
         literals: 0,
-    };
-    let mut clauses = Clauses {
-        pairs,
-        literals,
-        counts,
     };
     let model = question.model;
     let inputs = lists::first(model.inputs, model.counts.inputs);
     let gates = lists::first(question.gates, 3 * model.counts.ands);
-    obligation_gates::append_sources(plan.currents, plan.source, &mut clauses);
-    obligation_gates::append_predicate(inputs, &question.predicate, &mut clauses);
-    obligation_gates::append_ands(gates, &mut clauses);
-    obligation_claims::append_claims(plan.keys, plan.claims, &mut clauses);
+    obligation_gates::append_sources(plan.currents, plan.source, clauses);
+    obligation_gates::append_predicate(inputs, &question.predicate, clauses);
+    obligation_gates::append_ands(gates, clauses);
+    obligation_claims::append_claims(plan.keys, plan.claims, clauses);
     clauses.push_single(plan.last);
-    clauses.counts
 }
 
 // Whether the room suffices for every obligation of so many parts. A predicate has at most 1,024 literals, a gate's clauses have seven.
@@ -75,33 +64,34 @@ fn roomy(
 fn make_measured(
     question: &Question,
     plan: &Plan,
-    pairs: &mut [u64],
-    literals: &mut [u32],
+    clauses: &mut Clauses,
 ) -> Result<ClauseCounts, Refusal>
     requires { Ready (parts_in question.now plan.now) (claimed_in plan.now) plan.now.last }
-    ensures { MakesAll (words_of simplified (all_lists (parts_in question.now plan.now) (claimed_in plan.now) plan.now.last)) pairs.old literals.old result pairs.new literals.new }
+    ensures { MakesAll (words_of simplified (all_lists (parts_in question.now plan.now) (claimed_in plan.now) plan.now.last)) clauses.old result clauses.new }
 {
     let mut no_pairs = [0; 1];
     let mut no_literals = [0; 1];
-    let size = append_all(question, plan, &mut no_pairs, &mut no_literals);
-    if pairs.len() / 2 < size.clauses {
+    let mut measured = Clauses {
+        pairs: &mut no_pairs,
+        literals: &mut no_literals,
+        counts: clauses.counts,
+    };
+    append_all(question, plan, &mut measured);
+    let size = measured.counts;
+    if clauses.pairs.len() / 2 < size.clauses {
         return Err(Refusal::ResultRoom);
     }
-    if literals.len() < size.literals {
+    if clauses.literals.len() < size.literals {
         return Err(Refusal::ResultRoom);
     }
-    Ok(append_all(question, plan, pairs, literals))
+    append_all(question, plan, clauses);
+    Ok(clauses.counts)
 }
 
 // Makes the clauses: at once where there is room for any such obligation, else measured first.
-pub fn make(
-    question: &Question,
-    plan: Plan,
-    pairs: &mut [u64],
-    literals: &mut [u32],
-) -> Result<ClauseCounts, Refusal>
+pub fn make(question: &Question, plan: Plan, clauses: &mut Clauses) -> Result<ClauseCounts, Refusal>
     requires { Ready (parts_in question.now plan) (claimed_in plan) plan.last }
-    ensures { MakesAll (words_of simplified (all_lists (parts_in question.now plan.entry) (claimed_in plan.entry) plan.entry.last)) pairs.old literals.old result pairs.new literals.new }
+    ensures { MakesAll (words_of simplified (all_lists (parts_in question.now plan.entry) (claimed_in plan.entry) plan.entry.last)) clauses.old result clauses.new }
 {
     if roomy(
         plan.currents.len(),
@@ -109,10 +99,11 @@ pub fn make(
         question.model.counts.ands,
         plan.keys.len(),
         plan.claims.count(),
-        pairs.len(),
-        literals.len(),
+        clauses.pairs.len(),
+        clauses.literals.len(),
     ) {
-        return Ok(append_all(question, &plan, pairs, literals));
+        append_all(question, &plan, clauses);
+        return Ok(clauses.counts);
     }
-    make_measured(question, &plan, pairs, literals)
+    make_measured(question, &plan, clauses)
 }

@@ -20,4 +20,5 @@ returns-then-not-claim_holds c =
 
 pub returns : goal.returns
 returns c =
-    call_made (asked_in c.args.question.now) (sized_in c.args.question.now) c.args.claim c.args.pairs.now c.args.literals.now c.args.work.now _ _ c.check.ensures _ c.in_ok-check.was _ c.claim_holds.ensures (search rules) _ _ _ c.make_accepted.ensures
+    let a = call_made (asked_in c.args.question.now) (sized_in c.args.question.now) c.args.claim c.args.pairs.now c.args.literals.now c.args.work.now _ _ c.check.ensures _ c.in_ok-check.was _ c.claim_holds.ensures (search rules) _ _ _ c.make_accepted.ensures.made in
+    search rules

@@ -26,4 +26,4 @@ returns c =
     let q = asked_in c.args.accepted.now.question.now in
     let ne = nexts_list q _ _ c.nexts-next.ensures c.first.ensures in
     let ce = currents_list q _ _ c.currents-now.ensures c.first-2.ensures in
-    relation_made q c.args.accepted.now.asks (sized_in c.args.accepted.now.question.now) c.args.source _ (circuit q).inputs _ _ ce refl ne (in_order_lem _ _ _ _ c.state_keys-count.ensures c.first-3.ensures) c.args.targets.now _ _ _ _ _ c.make.ensures
+    relation_made q c.args.accepted.now.asks (sized_in c.args.accepted.now.question.now) c.args.source _ (circuit q).inputs _ _ ce refl ne (in_order_lem _ _ _ _ c.state_keys-count.ensures c.first-3.ensures) c.args.targets.now _ _ _ c.make.ensures

@@ -29,4 +29,4 @@ pub returns : goal.returns
 returns c =
     let q = asked_in c.args.accepted.now.question.now in
     let ce = currents_list q _ _ c.currents-now.ensures c.first.ensures in
-    terminal_made q c.args.accepted.now.asks (sized_in c.args.accepted.now.question.now) _ _ (circuit q).inputs _ ce c.first-2.ensures refl (in_order_lem _ _ _ _ c.state_keys-count.ensures c.first-3.ensures) c.args.bad _ _ (bad_output q c.args.bad _ _ c.first-outputs.ensures c.word.ensures) c.opposite_of.ensures c.args.states.now _ _ _ _ _ c.make.ensures
+    terminal_made q c.args.accepted.now.asks (sized_in c.args.accepted.now.question.now) _ _ (circuit q).inputs _ ce c.first-2.ensures refl (in_order_lem _ _ _ _ c.state_keys-count.ensures c.first-3.ensures) c.args.bad _ _ (bad_output q c.args.bad _ _ c.first-outputs.ensures c.word.ensures) c.opposite_of.ensures c.args.states.now _ _ _ c.make.ensures

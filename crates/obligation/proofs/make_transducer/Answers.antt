@@ -25,4 +25,4 @@ returns c =
     let q = asked_in c.args.accepted.now.question.now in
     let ne = nexts_list q _ _ c.nexts-next.ensures c.first-nexts.ensures in
     let ce = currents_list q _ _ c.currents-now.ensures c.first.ensures in
-    transducer_made q c.args.accepted.now.asks (sized_in c.args.accepted.now.question.now) c.args.source _ (circuit q).inputs _ _ ce refl ne _ c.args.observed.now c.args.outcomes.now c.first-outputs.ensures c.requires (in_order_lem _ _ _ _ c.outcome_keys-count.ensures c.first-2.ensures) _ _ _ _ _ c.make.ensures
+    transducer_made q c.args.accepted.now.asks (sized_in c.args.accepted.now.question.now) c.args.source _ (circuit q).inputs _ _ ce refl ne _ c.args.observed.now c.args.outcomes.now c.first-outputs.ensures c.requires (in_order_lem _ _ _ _ c.outcome_keys-count.ensures c.first-2.ensures) _ _ _ c.make.ensures

@@ -10,7 +10,10 @@ use Rattle.aiger.specs.Refusals.{answered}
 use Rattle.model.specs.Checked.{counts_of}
 use Rattle.model.specs.Limits.{counted, well_defined}
 use Rattle.cnf.specs.declared.ClauseCounts.{ClauseCounts}
+use Rattle.cnf.specs.declared.Clauses.{Clauses}
 use Rattle.cnf.specs.Clauses.{Clause, clauses_in}
+use Rattle.cnf.specs.Simplified.{simplified}
+use Rattle.cnf.specs.Inner.Appending.{Holding, SameBuffers}
 use Rattle.obligation_spec.specs.Lists.{source_lists, predicate_literal, gate_lists}
 use Rattle.obligation_spec.specs.Limits.{bounded}
 use Rattle.obligation_spec.specs.Calls.{Asked, circuit, Lent, within}
@@ -110,5 +113,15 @@ pub record Continues (answer : Answer (List Clause)) (pairs literals : List ℕ)
   pub literals_are : literals' ≡ literals_after answer literals
 
 -- the same for clauses, where R9.20 is all that is left
-abbrev pub MakesAll : List Clause → List ℕ → List ℕ → Result ClauseCounts Refusal → List ℕ → List ℕ → Type 0
-MakesAll cs pairs literals r pairs' literals' = Continues (within (room_of pairs literals) cs) pairs literals r pairs' literals'
+abbrev pub Made : List Clause → List ℕ → List ℕ → Result ClauseCounts Refusal → List ℕ → List ℕ → Type 0
+Made cs pairs literals r pairs' literals' = Continues (within (room_of pairs literals) cs) pairs literals r pairs' literals'
+
+-- .. in the lent buffers, however many were appended there before
+pub record MakesAll (cs : List Clause) (p : Clauses) (r : Result ClauseCounts Refusal) (p' : Clauses) : Type 0 where
+  pub same : SameBuffers p p'
+  pub made : Made cs p.pairs.now p.literals.now r p'.pairs.now p'.literals.now
+
+-- the clauses of these lists were appended from the buffers' start on
+pub record AppendsAll (lists : List (List ℕ)) (p p' : Clauses) : Type 0 where
+  pub same : SameBuffers p p'
+  pub holding : Holding p.pairs.now p.literals.now (words_of simplified lists) p'.counts p'.pairs.now p'.literals.now

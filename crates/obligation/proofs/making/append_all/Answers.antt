@@ -1,11 +1,10 @@
 use mathlib.Core.List.{List}
 use mathlib.Core.Path.{refl, subst}
 use Prim.Native.Nat.{ℕ}
-use borrow.Author.Rules.{rules}
 use Rattle.cnf.specs.Inner.Appending.{Appends}
 use Rattle.obligation.specs.Inner.Appended.{claim_lists}
 use Rattle.obligation.specs.Inner.Planned.{parts_in, claimed_in}
-use Rattle.obligation.proofs.MakingLaws.{lists_same, clauses-space, gates-space, front-appends, cut_asked, cut-appends, bounded_inputs, limited_inputs, claims-asked, claims-space, last_space, claims-few, all-holding}
+use Rattle.obligation.proofs.MakingLaws.{lists_same, clauses-space, gates-space, front-appends, cut_asked, cut-appends, bounded_inputs, limited_inputs, claims-asked, claims-space, last_space, claims-few, all-appends, all-from-start}
 use Rattle.obligation.proofs.making.append_all.Goals as goal
 use Rattle.obligation.proofs.making.append_all.Goals.{After-append_claims}
 
@@ -42,5 +41,5 @@ returns c =
     let g = cut-appends (parts_in c.args.question.now c.args.plan.now) c.requires.front _ c.first-gates.ensures _ _ c.append_ands.ensures in
     let f = front-appends _ c.requires.front _ _ refl c.append_sources.ensures _ h _ g in
     let k = claimed (goal.at.returns c).After-append_claims in
-    let a = all-holding _ c.requires.front _ _ refl f (claimed_in c.args.plan.now) _ k c.args.plan.now.last _ c.push_single.ensures in
-    search rules
+    let a = all-appends _ c.requires.front _ _ refl f (claimed_in c.args.plan.now) _ k c.args.plan.now.last _ c.push_single.ensures in
+    all-from-start _ _ _ a
