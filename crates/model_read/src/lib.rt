@@ -18,6 +18,7 @@ use model_text::LatchLine;
 use text::{Parsed, Reader};
 
 // One more gate is checked and marked, where those before hold.
+// Kept (switch): a bad line counts more than a definition that fails, so the gates behind one are still taken, and `fine` goes along.
 fn define_next(work: &mut [u64], most: usize, fine: bool, gate: Gate) -> bool
     ensures { AddsNext most work.old fine gate work.new result }
 {

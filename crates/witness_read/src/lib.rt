@@ -69,6 +69,7 @@ fn read_body(
     read_sections(s, counts, witness)
 }
 
+// Kept (switch): C hands `witness` over as a flag, and only the comments ask it; an enum would be made of the flag and end in one test.
 // Reads a text as a witness, or as the model where `witness` is false: the counts of its sections, or the number of the first reason.
 pub fn parse_aag(s: &[u8], witness: bool) -> Result<AagCounts, Refusal>
     ensures { answered result ≡ counts_read (read_aag limited witness s.now) }

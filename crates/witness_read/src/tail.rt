@@ -19,6 +19,7 @@ struct Order {
 }
 
 // Whether an input or a latch is named for the first time, which is marked; outputs, bads and constraints may be named again.
+// Kept (switch): each kind has its place among the marks.
 fn name_first(counts: AagCounts, kind: Kind, index: usize, marks: &mut [u64]) -> bool
     requires { (counts.inputs + counts.latches ≤ 2000000) × (index < count_of counts kind) }
     ensures { MarksName counts kind index marks.old marks.new result }
