@@ -31,11 +31,7 @@ pub struct NextSymbol<'a> {
 }
 
 // The sections of a text. All lines are looked at before R9.11, since a bad line, symbol or comment counts more.
-fn read_sections(
-    s: &[u8],
-    counts: AagCounts,
-    witness: bool,
-) -> Result<AagCounts, Refusal>
+fn read_sections(s: &[u8], counts: AagCounts, witness: bool) -> Result<AagCounts, Refusal>
     requires { (counted limited counts ≡ true) × (without_liveness counts ≡ true) }
     ensures { answered result ≡ counts_read (sections_of witness counts (lines_of s.now)) }
 {
@@ -53,11 +49,7 @@ fn read_sections(
 }
 
 // What follows a header.
-fn read_body(
-    s: &[u8],
-    counts: AagCounts,
-    witness: bool,
-) -> Result<AagCounts, Refusal>
+fn read_body(s: &[u8], counts: AagCounts, witness: bool) -> Result<AagCounts, Refusal>
     ensures { answered result ≡ counts_read (after_header limited witness (lines_of s.now) counts) }
 {
     if !witness_text::counts_hold(counts) {

@@ -57,11 +57,7 @@ fn next_symbol(s: &[u8], counts: AagCounts) -> Result<NextSymbol<'_>, Refusal>
 }
 
 // The symbols of a text, up to the line `c` or the end, and the comments behind them. An input or latch that is named is marked: input k at k, latch k at I + k.
-fn check_symbols<'a>(
-    s: &'a [u8],
-    counts: AagCounts,
-    marks: &mut [u64],
-) -> Result<&'a [u8], Refusal>
+fn check_symbols<'a>(s: &'a [u8], counts: AagCounts, marks: &mut [u64]) -> Result<&'a [u8], Refusal>
     requires { (counts.inputs + counts.latches ≤ 2000000) × Unmarked counts marks.old }
     ensures { ChecksSymbols s.now counts result }
 {
