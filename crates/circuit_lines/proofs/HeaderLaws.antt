@@ -1,10 +1,9 @@
 -- Laws for the functions that take the header's numbers.
 use Rattle.std.specs.Prelude.{Option, Some, None}
-use Rattle.std.specs.Borrow.{Bor}
 use Prim.Native.Nat.{ℕ}
 use mathlib.Core.Bool.{Bool, true, false, cond}
 use mathlib.Core.List.{List, []}
-use mathlib.Core.Path.{◌≡◌, ap, sym, ◌∙◌}
+use mathlib.Core.Path.{◌≡◌, ap, ◌∙◌}
 use lib.ListN.{length, drop}
 use Rattle.lists.specs.Parts.{Bytes}
 use Rattle.text.specs.declared.Reader.{Reader}
@@ -12,12 +11,12 @@ use Rattle.text.specs.Lines.{lines_of}
 use Rattle.text.specs.Fields.{head_of, is_header_word}
 use Rattle.text.specs.Literals.{numbers_of}
 use Rattle.text.specs.Inner.Fronts.{LineTaken, from_field, FieldTaken}
-use Rattle.text.proofs.LineLaws.{lines_none, lines-some, line-behind}
+use Rattle.text.proofs.LineLaws.{lines-some, line-behind}
 use Rattle.text.proofs.FieldLaws.{fields_none, fields_some}
 use Rattle.text.proofs.LiteralLaws.{numbers_in}
 use Rattle.circuit_lines.specs.SectionLines.{header_numbers, first_numbers}
 use Rattle.circuit_lines.specs.Inner.OneLine.{at_most, Stores}
-use Rattle.circuit_lines.specs.Inner.Takes.{Headed, TakesHeaderNumbers}
+use Rattle.circuit_lines.specs.Inner.Takes.{Headed}
 
 -- ---- header_line
 
@@ -41,9 +40,6 @@ module _ (reader : Reader) (l : Bytes) (o₀ : List ℕ) where
 -- ---- take_header_numbers
 
 module _ (reader : Reader) (s : Bytes) (o₀ : List ℕ) where
-  pub header_missing : s ≡ [] → at_most (length o₀) (first_numbers reader (lines_of s)) ≡ None
-  header_missing e = ap (λ (ls : List Bytes). at_most (length o₀) (first_numbers reader ls)) (lines_none s e)
-
   module _ (l : Bytes) (r : Bytes) (k : LineTaken s l r) (o : List ℕ) where
     first : first_numbers reader (lines_of s) ≡ header_numbers reader l
     first = ap (first_numbers reader) (lines-some s l r k)

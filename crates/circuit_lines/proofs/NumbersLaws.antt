@@ -2,7 +2,7 @@
 use Rattle.std.specs.Prelude.{Option, Some, None, is_some}
 use Rattle.std.specs.Borrow.{Bor}
 use Prim.Native.Nat.{ℕ, ◌+◌, ◌≤◌, ◌<◌}
-use mathlib.Core.Bool.{Bool, true, false}
+use mathlib.Core.Bool.{true, false}
 use mathlib.Core.List.{List, [], ◌∷◌, ◌++◌, append_assoc, append-nil}
 use mathlib.Core.Path.{◌≡◌, refl, sym, ap, ◌∙◌}
 use native.Mathlib.Omega.{arith}
@@ -17,7 +17,7 @@ use Rattle.text.specs.Numbers.{number_of}
 use Rattle.text.specs.Literals.{with_number, numbers_of}
 use Rattle.text.proofs.FieldLaws.{fields_none, fields_some}
 use Rattle.text.proofs.LiteralLaws.{numbers_in, numbers_missing, numbers_unreadable, numbers-got}
-use Rattle.circuit_lines.specs.Inner.OneLine.{at_most, Stored, Stores}
+use Rattle.circuit_lines.specs.Inner.OneLine.{at_most, Stored}
 use Rattle.text.specs.declared.Taken.TheVariants as taken
 
 -- numbers in front of the others

@@ -10,9 +10,6 @@ use Rattle.aiger.specs.Sections.{section}
 use Rattle.circuit_lines.specs.Inner.Takes.{SectionTaken}
 
 module _ {A : Type 0} (item : Bytes → Answer A) (s : Bytes) where
-  pub one_none : s ≡ [] → section item 1 (lines_of s) ≡ refused 8
-  one_none e = ap (λ (t : Bytes). section item 1 (lines_of t)) e
-
   module _ (l r : Bytes) (k : LineTaken s l r) where
     pub one_bad : refused 8 ≡ item l → section item 1 (lines_of s) ≡ refused 8
     one_bad p = ap (section item 1) (lines-some s l r k) ∙ rw (← p)

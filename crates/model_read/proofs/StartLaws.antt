@@ -12,7 +12,7 @@ use Rattle.aiger.specs.Sections.{section}
 use Rattle.aiger.proofs.SectionLaws.{section-length}
 use Rattle.model.specs.declared.Counts.{Counts}
 use Rattle.model.specs.declared.AigerLatch.{AigerLatch}
-use Rattle.model.specs.Circuit.{record_from, Circuit, no_latch}
+use Rattle.model.specs.Circuit.{record_from, no_latch}
 use Rattle.model.specs.Limits.{counted}
 use Rattle.model.proofs.CountLaws.{counted_facts}
 use Rattle.circuit_lines.specs.SectionLines.{literal_line}

@@ -18,6 +18,7 @@ use model_text::LatchLine;
 use text::{Parsed, Reader};
 
 // One more gate is checked and marked, where those before hold.
+// Kept (switch): a bad line counts more than a definition that fails, so the gates behind one are still taken, and `fine` goes along.
 fn define_next(work: &mut [u64], most: usize, fine: bool, gate: Gate) -> bool
     ensures { AddsNext most work.old fine gate work.new result }
 {
@@ -29,13 +30,7 @@ fn define_next(work: &mut [u64], most: usize, fine: bool, gate: Gate) -> bool
 
 // Checks the gates of the first n lines, and answers whether the definitions hold; none where a line is missing or bad. All
 // lines are looked at, since a bad one counts more than a definition that fails.
-fn check_gates(
-    s: &[u8],
-    n: usize,
-    most: usize,
-    fine: bool,
-    work: &mut [u64],
-) -> Option<bool>
+fn check_gates(s: &[u8], n: usize, most: usize, fine: bool, work: &mut [u64]) -> Option<bool>
     ensures { ChecksGates s.now n most fine work.old result }
 {
     let mut good = fine;
@@ -117,11 +112,7 @@ fn take_head(s: &[u8], counts: Counts) -> Option<Parsed<'_, AigerTransition>>
 }
 
 // Whether a model is well defined with the gates of the first lines. The work words are all 0 at first.
-fn check_model(
-    s: &[u8],
-    model: AigerTransition,
-    work: &mut [u64],
-) -> Result<(), Refusal>
+fn check_model(s: &[u8], model: AigerTransition, work: &mut [u64]) -> Result<(), Refusal>
     requires { (model.max_variable < length work.old) × (work.old ≡ zeros (length work.old)) }
     ensures { answered result ≡ verdict_of (gates_of (circuit_of model []) model.and_count (lines_of s.now)) }
 {

@@ -4,7 +4,7 @@ use Prim.Native.Nat.{ℕ}
 use mathlib.Core.List.{List, [], ◌∷◌}
 use mathlib.Core.Path.{◌≡◌, refl, ap, sym, ◌∙◌}
 use native.Mathlib.Omega.{arith}
-use lib.ListN.{length, get_or}
+use lib.ListN.{length}
 use borrow.Author.Tests.{eq-eqb, ne_eqb, le-leb}
 use Rattle.lists.specs.Answer.{got, refused}
 use Rattle.lists.specs.Parts.{Bytes}
@@ -17,12 +17,6 @@ use Rattle.circuit_lines.specs.Inner.Takes.{Headed}
 use Rattle.circuit_lines.proofs.NumbersLaws.{stored-all, stored-length}
 use Rattle.model_text.specs.Header.{counts_from, five_counts, header_of}
 use Rattle.model_text.specs.Inner.Takes as takes
-
--- ---- counts_of_lem
-
-pub counts-are : (ns : List ℕ) (m i l o a : ℕ) → m ≡ get_or ns 0 0 → i ≡ get_or ns 1 0 → l ≡ get_or ns 2 0 → o ≡ get_or ns 3 0 → a ≡ get_or ns 4 0
-    → record { max_variable = m; inputs = i; latches = l; outputs = o; ands = a } ≡ counts_from ns
-counts-are ns m i l o a p q r s t = rw (p, q, r, s, t)
 
 -- ---- take_model_header
 

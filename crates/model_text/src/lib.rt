@@ -27,6 +27,7 @@ fn counts_of(ns: [u64; 5]) -> Counts
 }
 
 // The counts of a text's header, its first line, and the text behind it.
+// Kept (twin): `take_witness_header` takes five to nine numbers and this exactly five; the reading itself is `take_header_numbers`.
 pub fn take_model_header(s: &[u8]) -> Option<Parsed<'_, Counts>>
     ensures { TakesCounts s.now result }
 {

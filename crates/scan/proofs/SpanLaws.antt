@@ -1,13 +1,13 @@
--- `span` at a position of a list: one step of a loop that runs while a byte satisfies p.
+-- `span` at a position of a list: one step of a loop that runs while a byte passes a test; and where it ends.
 use Prim.Native.Nat.{ℕ, suc, ◌+◌, ◌≤◌, ◌<◌}
-use mathlib.Core.Path.{◌≡◌, refl, ap, sym, ◌∙◌}
+use mathlib.Core.Path.{◌≡◌, refl, ap}
 use mathlib.Core.List.{List, [], ◌∷◌, ◌++◌}
 use mathlib.Core.Bool.{Bool, true, false, cond}
 use native.Mathlib.Numerals.{add-one}
 use native.Mathlib.Omega.{arith}
-use borrow.Author.Tests.{eq-eqb, ne_eqb}
+use borrow.Author.Tests.{ne_eqb}
 use lib.ListN.{take, length, get_or, drop, drop_of_length-le, length-drop}
-use lib.Seq.{drop-cons, get_or-drop}
+use lib.Seq.{drop-cons}
 use Rattle.lists.specs.Tests.{all}
 use Rattle.lists.proofs.BoolLaws.{and_left, and_right}
 use Rattle.scan.specs.Spans.{span, in_line}
@@ -30,23 +30,9 @@ module _ (p : ℕ → Bool) (s : List ℕ) (i : ℕ) where
   pub span-end : length s ≤ i → i + span p (drop i s) ≡ i
   span-end h = rw (drop_of_length-le s h) (omega arith)
 
--- the same for a loop: n is what its invariant says of i
-module _ (p : ℕ → Bool) (s : List ℕ) (i n : ℕ) where
-  pub span-again : n ≡ i + span p (drop i s) → i < length s → p (get_or s i 0) ≡ true → n ≡ i + 1 + span p (drop (i + 1) s)
-  span-again k h e = k ∙ span_in p s i h e
-
-  pub span-stop : n ≡ i + span p (drop i s) → i < length s → p (get_or s i 0) ≡ false → i ≡ n
-  span-stop k h e = sym (k ∙ span_out p s i h e)
-
-  pub span-over : n ≡ i + span p (drop i s) → length s ≤ i → i ≡ n
-  span-over k h = sym (k ∙ span-end p s i h)
-
 -- what a test of the code says of `in_line`
 pub line-goes : (b : ℕ) → (b ≡ 10 → ⊥) → in_line b ≡ true
 line-goes b h = simp (ne_eqb b 10 h)
-
-pub line-stops : (b : ℕ) → b ≡ 10 → in_line b ≡ false
-line-stops b h = simp (eq-eqb b 10 h)
 
 -- the byte at which a span ends does not satisfy p
 stop-at : (p : ℕ → Bool) (b : ℕ) (bs : List ℕ) → (span p bs < length bs → p (get_or bs (span p bs) 0) ≡ false)
@@ -61,9 +47,6 @@ span_outside p (b ∷ bs) h = stop-at p b bs (span_outside p bs) (p b) refl h
 module _ (p : ℕ → Bool) (s : List ℕ) (at : ℕ) where
   pub span-within : at ≤ length s → at + span p (drop at s) ≤ length s
   span-within h = omega (arith, span_le p (drop at s), length-drop at s)
-
-  pub span-ends : at + span p (drop at s) < length s → p (get_or s (at + span p (drop at s)) 0) ≡ false
-  span-ends h = rw get_or-drop at (span_outside p (drop at s) (omega (arith, length-drop at s)))
 
 -- all bytes of a span pass
 all-at : (p : ℕ → Bool) (b : ℕ) (bs : List ℕ) → all p (take (span p bs) bs) ≡ true → (q : Bool) → p b ≡ q → all p (take (cond q (suc (span p bs)) 0) (b ∷ bs)) ≡ true

@@ -120,6 +120,7 @@ pub fn first_field(l: &[u8]) -> &[u8]
 }
 
 // Whether a field is the header word.
+// Kept (twin): like `ends_symbols` of `witness_text` it compares with one word, each where its rule stands.
 pub fn is_header_word(f: &[u8]) -> bool
     ensures { result ≡ is_header_word f.now }
 {
@@ -245,6 +246,7 @@ pub fn take_literal(reader: Reader, s: &[u8]) -> Parsed<'_, Option<u64>>
 }
 
 // Whether every byte is one that the reader takes.
+// Kept (switch): the two rules share nothing, and this is where a reader names its own.
 fn good_bytes(reader: Reader, s: &[u8]) -> bool
     ensures { result ≡ good_bytes reader s.now }
 {
@@ -255,6 +257,7 @@ fn good_bytes(reader: Reader, s: &[u8]) -> bool
 }
 
 // Whether the text ends as the reader asks.
+// Kept (switch): as in `good_bytes`.
 fn good_end(reader: Reader, s: &[u8]) -> bool
     ensures { result ≡ good_end reader s.now }
 {

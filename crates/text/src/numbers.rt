@@ -84,6 +84,7 @@ pub fn parse_number(f: &[u8]) -> Option<u64>
 }
 
 // The number that a field writes for a reader.
+// Kept (switch): the two rules are functions of their own, which callers that know their reader use directly.
 pub fn parse_for(reader: Reader, f: &[u8]) -> Option<u64>
     ensures { result ≡ number_of reader f.now }
 {

@@ -1,12 +1,12 @@
 -- Lines passed one at a time, and where a line stands in a text.
 use Prim.Native.Nat.{ℕ, suc, ◌+◌, ◌-◌, ◌≤◌, ◌<◌, min}
 use mathlib.Core.List.{[], ◌∷◌}
-use mathlib.Core.Path.{◌≡◌, refl, sym, ap, ◌∙◌}
+use mathlib.Core.Path.{◌≡◌, sym, ap, ◌∙◌}
 use native.Mathlib.Nat.{add-sub_cancel_left}
 use native.Mathlib.Omega.{arith}
-use lib.ListN.{length, take, drop, length-take, length-drop}
+use lib.ListN.{length, drop, length-take, length-drop}
 use lib.Seq.{drop-nil}
-use Rattle.lists.specs.Parts.{Bytes, part}
+use Rattle.lists.specs.Parts.{Bytes}
 use Rattle.lists.proofs.PartLaws.{drop_min}
 use Rattle.scan.specs.Spans.{span, in_line}
 use Rattle.scan.proofs.SpanLaws.{span_le}

@@ -1,7 +1,6 @@
 -- The two words of an input or a latch stored among those of all, and what they say of its name.
 use Rattle.std.proofs.Common.{◌⊎◌, inl, inr}
 use Prim.Native.Nat.{ℕ, suc, ◌+◌, ◌-◌, ◌*◌, ◌≤◌, ◌<◌, min}
-use mathlib.Core.Bool.{true, false}
 use mathlib.Core.List.{List, [], ◌∷◌}
 use mathlib.Core.Option.{Option, some}
 use mathlib.Core.Path.{◌≡◌, refl, sym, ap, ◌∙◌}
@@ -98,7 +97,7 @@ module _ (l : Bytes) (n : AagCounts) (y : SymbolLine) (named : got (record { kin
         let place : b ≡ min (a + name) (a + length l) = omega (arith, size) in
         let rest : a + length l - b ≡ length y.name.now = omega (arith, size) in
         let at : name_from s b (a + length l - b) ≡ some (some (drop name (part s a (a + length l)))) =
-            said s a (a + length l) t.past (omega arith) t.fits name b place in
+        said s a (a + length l) t.past (omega arith) t.fits name b place in
         let told : name_from s b (length y.name.now) ≡ some (some y.name.now) = rw (rest, t.is, ← is) at at in
         record {
           symbol = symbol;

@@ -119,7 +119,7 @@ module _ (s : Bytes) (n : AagCounts) (w₀ : List ℕ) where
       load_past a =
           let k = text_taken s n w₀ a.sections a.accepted in
           let fewer : length (lines_of c) ≤ length (drop 1 (lines_of s)) =
-              omega (arith, ap length (loaded a.sections k).1, body_shorter n (drop 1 (lines_of s)) k.1.body (body-parts n (drop 1 (lines_of s)) k.1.body k.1.takes)) in
+          omega (arith, ap length (loaded a.sections k).1, body_shorter n (drop 1 (lines_of s)) k.1.body (body-parts n (drop 1 (lines_of s)) k.1.body k.1.takes)) in
           rw load-behind.is (past s load-behind.size (lines_of s) refl n k.1.heads (rw load-behind.is at fewer))
 
       pub load-done : (v : List ℕ) → length v ≡ length (take (leaf_words n) w₁) → length w₁ ≡ length w₀ → LoadsNames s c n v → LoadsText s n w₀ (v ++ drop (leaf_words n) w₁)

@@ -140,6 +140,7 @@ fn load_body<'a>(s: &'a [u8], counts: AagCounts, out: &mut [u64], at: usize) -> 
 }
 
 // Two words of an input or a latch; the other kinds have none.
+// Kept (switch): each kind has its place among the words.
 fn store_leaf(counts: AagCounts, kind: Kind, index: usize, x: u64, y: u64, out: &mut [u64])
     requires { (index < count_of counts kind) × (length out.old ≡ leaf_words counts) }
     ensures { out.new ≡ with_words counts kind index (x ∷ y ∷ []) out.old }
@@ -231,6 +232,7 @@ fn has_room(counts: AagCounts, size: usize) -> bool
     counts.constraints <= after_outputs - counts.bads
 }
 
+// Kept (switch): as in `parse_aag`.
 // Reads a text as a witness, or as the model where `witness` is false, and loads its sections in front of the words.
 pub fn load_aag(s: &[u8], witness: bool, words: &mut [u64]) -> Result<AagCounts, Refusal>
     ensures { Loads s.now (read_aag limited witness s.now) words.old words.new result }

@@ -31,11 +31,7 @@ pub struct NextSymbol<'a> {
 }
 
 // The sections of a text. All lines are looked at before R9.11, since a bad line, symbol or comment counts more.
-fn read_sections(
-    s: &[u8],
-    counts: AagCounts,
-    witness: bool,
-) -> Result<AagCounts, Refusal>
+fn read_sections(s: &[u8], counts: AagCounts, witness: bool) -> Result<AagCounts, Refusal>
     requires { (counted limited counts ≡ true) × (without_liveness counts ≡ true) }
     ensures { answered result ≡ counts_read (sections_of witness counts (lines_of s.now)) }
 {
@@ -53,11 +49,7 @@ fn read_sections(
 }
 
 // What follows a header.
-fn read_body(
-    s: &[u8],
-    counts: AagCounts,
-    witness: bool,
-) -> Result<AagCounts, Refusal>
+fn read_body(s: &[u8], counts: AagCounts, witness: bool) -> Result<AagCounts, Refusal>
     ensures { answered result ≡ counts_read (after_header limited witness (lines_of s.now) counts) }
 {
     if !witness_text::counts_hold(counts) {
@@ -69,6 +61,7 @@ fn read_body(
     read_sections(s, counts, witness)
 }
 
+// Kept (switch): C hands `witness` over as a flag, and only the comments ask it; an enum would be made of the flag and end in one test.
 // Reads a text as a witness, or as the model where `witness` is false: the counts of its sections, or the number of the first reason.
 pub fn parse_aag(s: &[u8], witness: bool) -> Result<AagCounts, Refusal>
     ensures { answered result ≡ counts_read (read_aag limited witness s.now) }

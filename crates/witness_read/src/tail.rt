@@ -19,6 +19,7 @@ struct Order {
 }
 
 // Whether an input or a latch is named for the first time, which is marked; outputs, bads and constraints may be named again.
+// Kept (switch): each kind has its place among the marks.
 fn name_first(counts: AagCounts, kind: Kind, index: usize, marks: &mut [u64]) -> bool
     requires { (counts.inputs + counts.latches ≤ 2000000) × (index < count_of counts kind) }
     ensures { MarksName counts kind index marks.old marks.new result }
@@ -56,11 +57,7 @@ fn next_symbol(s: &[u8], counts: AagCounts) -> Result<NextSymbol<'_>, Refusal>
 }
 
 // The symbols of a text, up to the line `c` or the end, and the comments behind them. An input or latch that is named is marked: input k at k, latch k at I + k.
-fn check_symbols<'a>(
-    s: &'a [u8],
-    counts: AagCounts,
-    marks: &mut [u64],
-) -> Result<&'a [u8], Refusal>
+fn check_symbols<'a>(s: &'a [u8], counts: AagCounts, marks: &mut [u64]) -> Result<&'a [u8], Refusal>
     requires { (counts.inputs + counts.latches ≤ 2000000) × Unmarked counts marks.old }
     ensures { ChecksSymbols s.now counts result }
 {

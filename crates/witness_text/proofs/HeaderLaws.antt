@@ -5,7 +5,7 @@ use mathlib.Core.Bool.{Bool, true, false}
 use mathlib.Core.List.{List}
 use mathlib.Core.Path.{◌≡◌, refl, ap, sym, ◌∙◌}
 use native.Mathlib.Omega.{arith}
-use lib.ListN.{length, get_or}
+use lib.ListN.{length}
 use lib.Dec.{leb}
 use borrow.Author.Tests.{le-leb, lt-leb}
 use Rattle.lists.specs.Answer.{got, refused, unless}
@@ -19,13 +19,6 @@ use Rattle.circuit_lines.specs.Inner.Takes.{Headed}
 use Rattle.witness_text.specs.declared.AagCounts.{AagCounts}
 use Rattle.witness_text.specs.Header.{counts_from, five_to_nine, header_of}
 use Rattle.witness_text.specs.Inner.Takes as takes
-
--- ---- counts_of_lem
-
-pub counts-are : (ns : List ℕ) (m i l o a b c j f : ℕ) → m ≡ get_or ns 0 0 → i ≡ get_or ns 1 0 → l ≡ get_or ns 2 0 → o ≡ get_or ns 3 0 → a ≡ get_or ns 4 0
-    → b ≡ get_or ns 5 0 → c ≡ get_or ns 6 0 → j ≡ get_or ns 7 0 → f ≡ get_or ns 8 0
-    → record { max_variable = m; inputs = i; latches = l; outputs = o; gates = a; bads = b; constraints = c; justice = j; fairness = f } ≡ counts_from ns
-counts-are ns m i l o a b c j f p q r s t u v w x = rw (p, q, r, s, t, u, v, w, x)
 
 -- ---- take_witness_header
 

@@ -1,28 +1,24 @@
 -- Laws of `kind_of`, `before_space` and `symbol_of`, for the code that takes a symbol line apart, and for its callers.
-use Rattle.std.proofs.Common.{◌⊎◌, inl, inr}
 use Rattle.std.specs.Prelude.{Option, Some, None}
-use Prim.Native.Nat.{ℕ, zero, suc, ◌+◌, ◌-◌, ◌≤◌, ◌<◌}
+use Prim.Native.Nat.{ℕ, suc, ◌+◌, ◌-◌, ◌≤◌, ◌<◌}
 use mathlib.Core.Bool.{Bool, true, false}
 use mathlib.Core.List.{[], ◌∷◌}
 use mathlib.Core.Path.{◌≡◌, refl, ap, sym, ◌∙◌}
-use native.Mathlib.Numerals.{add-one}
 use native.Mathlib.Omega.{arith}
 use lib.Dec.{ltb}
 use lib.ListN.{length, get_or, take, drop, length-drop}
 use lib.Seq.{drop-drop}
-use borrow.Author.Tests.{eq-eqb, ne_eqb, lt-ltb, le-ltb, ltb-true}
+use borrow.Author.Tests.{ne_eqb, lt-ltb, le-ltb, ltb-true}
 use Rattle.lists.specs.Answer.{Answer, got, refused, unless, and_then}
 use Rattle.lists.proofs.PartLaws.{tail-lent}
 use Rattle.lists.proofs.RestLaws.{rest_more}
-use Rattle.lists.specs.Parts.{Bytes, part}
+use Rattle.lists.specs.Parts.{Bytes}
 use Rattle.lists.proofs.AnswerLaws.{and_then-got, unless_test, unless-got, got_same, got-refused}
 use Rattle.text.specs.declared.Reader.TheVariants.{Witness}
 use Rattle.text.specs.Numbers.{number_of}
-use Rattle.circuit_lines.specs.Inner.OneLine.{answer_or}
 use Rattle.witness_text.specs.declared.AagCounts.{AagCounts}
 use Rattle.witness_text.specs.declared.Kind.{Kind}
-use Rattle.witness_text.specs.Symbols.{Symbol, kind_of, count_of, readable_index, indexed, symbol_from, not_space, before_space, symbol_of}
-use Rattle.witness_text.specs.Inner.Takes.{symbol_answer}
+use Rattle.witness_text.specs.Symbols.{Symbol, kind_of, count_of, readable_index, indexed, symbol_from, before_space, symbol_of}
 use Rattle.witness_text.specs.declared.Kind.TheVariants as kind
 
 -- ---- kind_of

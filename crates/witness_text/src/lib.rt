@@ -52,19 +52,21 @@ pub struct SymbolLine<'a> {
     pub name: &'a [u8],
 }
 
-fn counts_of(ns: [u64; 9]) -> AagCounts
-    ensures { result ≡ counts_from ns }
-{
-    AagCounts {
-        max_variable: ns[0] as usize,
-        inputs: ns[1] as usize,
-        latches: ns[2] as usize,
-        outputs: ns[3] as usize,
-        gates: ns[4] as usize,
-        bads: ns[5] as usize,
-        constraints: ns[6] as usize,
-        justice: ns[7] as usize,
-        fairness: ns[8] as usize,
+impl From<[u64; 9]> for AagCounts {
+    ghost from_gives = { λ ns counts. counts ≡ counts_from ns };
+
+    fn from(ns: [u64; 9]) -> AagCounts {
+        AagCounts {
+            max_variable: ns[0] as usize,
+            inputs: ns[1] as usize,
+            latches: ns[2] as usize,
+            outputs: ns[3] as usize,
+            gates: ns[4] as usize,
+            bads: ns[5] as usize,
+            constraints: ns[6] as usize,
+            justice: ns[7] as usize,
+            fairness: ns[8] as usize,
+        }
     }
 }
 
@@ -78,7 +80,7 @@ pub fn take_witness_header(s: &[u8]) -> Option<Parsed<'_, AagCounts>>
         return None;
     }
     Some(Parsed {
-        value: counts_of(ns),
+        value: AagCounts::from(ns),
         rest: numbers.rest,
     })
 }
@@ -146,6 +148,7 @@ pub fn ends_symbols(l: &[u8]) -> bool
 }
 
 // How many of a kind there are.
+// Kept (switch): each kind has its count, which is a field of the header's.
 fn count_of(counts: AagCounts, kind: Kind) -> usize
     ensures { result ≡ count_of counts kind }
 {
@@ -158,6 +161,8 @@ fn count_of(counts: AagCounts, kind: Kind) -> usize
     }
 }
 
+// The kind of a letter.
+// Kept (hand): a letter of no kind has nothing to say, and `TryFrom` would ask for the type of an error.
 fn kind_of(b: u8) -> Option<Kind>
     ensures { answer_or 9 result ≡ kind_of b }
 {

@@ -1,4 +1,3 @@
-use Prim.Native.Nat.{◌-◌}
 use lib.ListN.{length}
 use Rattle.witness_read.proofs.RisingLaws.{InOrder}
 use Rattle.witness_read.proofs.tail.check_tail.Given as goal
