@@ -5,11 +5,14 @@ use Rattle.lists.specs.Answer.{Answer, got, refused}
 use Rattle.lists.specs.Parts.{Bytes}
 use Rattle.text.specs.Lines.{lines_of}
 use Rattle.text.specs.Inner.Fronts.{LineTaken}
-use Rattle.text.proofs.LineLaws.{lines-some, line-behind}
+use Rattle.text.proofs.LineLaws.{lines_none, lines-some, line-behind}
 use Rattle.aiger.specs.Sections.{section}
 use Rattle.circuit_lines.specs.Inner.Takes.{SectionTaken}
 
 module _ {A : Type 0} (item : Bytes → Answer A) (s : Bytes) where
+  pub one_none : s ≡ [] → section item 1 (lines_of s) ≡ refused 8
+  one_none e = ap (section item 1) (lines_none s e)
+
   module _ (l r : Bytes) (k : LineTaken s l r) where
     pub one_bad : refused 8 ≡ item l → section item 1 (lines_of s) ≡ refused 8
     one_bad p = ap (section item 1) (lines-some s l r k) ∙ rw (← p)

@@ -10,6 +10,7 @@ use aiger::Refusal;
 use witness_text::AagCounts;
 
 // The number of an answer: 0 where there are counts.
+// Kept (by hand): neither type is this crate's, so it has no `From`.
 fn reason_of(read: Result<AagCounts, Refusal>) -> u64
     ensures { result ≡ reason_read (answered read) }
 {

@@ -18,170 +18,146 @@ fn copy_literals(words: &[u64], to: &mut [u32]) {
     }
 }
 
+// What is lent to a call.
+#[derive(Drop)]
+struct Lent<'a> {
+    work: &'a mut [u64],
+    pairs: &'a mut [u64],
+    literals: &'a mut [u32],
+}
+
+// The numbers of a case, and the literals of its predicate.
+#[derive(Clone, Copy)]
+struct Case<'a> {
+    numbers: &'a [u64],
+    predicate_literals: &'a [u32],
+}
+
 // List k of a case.
 fn part(numbers: &[u64], k: usize) -> &[u64] {
     form::list(numbers, LENGTHS, LISTS, k)
 }
 
-// A row with claimed targets.
-fn relation(
-    numbers: &[u64],
-    predicate_pairs: &[u32],
-    work: &mut [u64],
-    pairs: &mut [u64],
-    literals: &mut [u32],
-) -> NitMade {
-    obligations::nit_relation_row(
-        part(numbers, 0),
-        part(numbers, 1),
-        part(numbers, 2),
-        lists::word(numbers, 5),
-        part(numbers, 3),
-        predicate_pairs,
-        part(numbers, 5),
-        work,
-        pairs,
-        literals,
-    )
-}
+impl<'a> Case<'a> {
+    // A row with claimed targets.
+    fn relation(&self, lent: &mut Lent) -> NitMade {
+        obligations::nit_relation_row(
+            part(self.numbers, 0),
+            part(self.numbers, 1),
+            part(self.numbers, 2),
+            lists::word(self.numbers, 5),
+            part(self.numbers, 3),
+            self.predicate_literals,
+            part(self.numbers, 5),
+            lent.work,
+            lent.pairs,
+            lent.literals,
+        )
+    }
 
-// A row with claimed outcomes.
-fn transducer(
-    numbers: &[u64],
-    predicate_pairs: &[u32],
-    work: &mut [u64],
-    pairs: &mut [u64],
-    literals: &mut [u32],
-) -> NitMade {
-    obligations::nit_transducer_row(
-        part(numbers, 0),
-        part(numbers, 1),
-        part(numbers, 2),
-        lists::word(numbers, 5),
-        part(numbers, 3),
-        predicate_pairs,
-        part(numbers, 5),
-        part(numbers, 6),
-        work,
-        pairs,
-        literals,
-    )
-}
+    // A row with claimed outcomes.
+    fn transducer(&self, lent: &mut Lent) -> NitMade {
+        obligations::nit_transducer_row(
+            part(self.numbers, 0),
+            part(self.numbers, 1),
+            part(self.numbers, 2),
+            lists::word(self.numbers, 5),
+            part(self.numbers, 3),
+            self.predicate_literals,
+            part(self.numbers, 5),
+            part(self.numbers, 6),
+            lent.work,
+            lent.pairs,
+            lent.literals,
+        )
+    }
 
-// A terminal list.
-fn terminal(
-    numbers: &[u64],
-    predicate_pairs: &[u32],
-    work: &mut [u64],
-    pairs: &mut [u64],
-    literals: &mut [u32],
-) -> NitMade {
-    obligations::nit_terminal(
-        part(numbers, 0),
-        part(numbers, 1),
-        part(numbers, 2),
-        part(numbers, 3),
-        predicate_pairs,
-        lists::word(numbers, 5),
-        part(numbers, 5),
-        work,
-        pairs,
-        literals,
-    )
-}
+    // A terminal list.
+    fn terminal(&self, lent: &mut Lent) -> NitMade {
+        obligations::nit_terminal(
+            part(self.numbers, 0),
+            part(self.numbers, 1),
+            part(self.numbers, 2),
+            part(self.numbers, 3),
+            self.predicate_literals,
+            lists::word(self.numbers, 5),
+            part(self.numbers, 5),
+            lent.work,
+            lent.pairs,
+            lent.literals,
+        )
+    }
 
-// Prints the name of the call that a case names, and makes it.
-// Kept (switch): a case says which, and each takes other lists.
-fn make(
-    call: Call,
-    numbers: &[u64],
-    predicate_pairs: &[u32],
-    work: &mut [u64],
-    pairs: &mut [u64],
-    literals: &mut [u32],
-    to: &mut Printer,
-) -> NitMade {
-    match call {
-        Call::RelationRow => {
-            to.bytes(b"relation");
-            relation(numbers, predicate_pairs, work, pairs, literals)
-        }
-        Call::TransducerRow => {
-            to.bytes(b"transducer");
-            transducer(numbers, predicate_pairs, work, pairs, literals)
-        }
-        _ => {
-            to.bytes(b"terminal");
-            terminal(numbers, predicate_pairs, work, pairs, literals)
+    // Prints the name of the call that a case names, and makes it.
+    // Kept (switch): a case says which, and each takes other lists.
+    fn make(&self, call: Call, lent: &mut Lent, to: &mut Printer) -> NitMade {
+        match call {
+            Call::RelationRow => {
+                to.bytes(b"relation");
+                self.relation(lent)
+            }
+            Call::TransducerRow => {
+                to.bytes(b"transducer");
+                self.transducer(lent)
+            }
+            _ => {
+                to.bytes(b"terminal");
+                self.terminal(lent)
+            }
         }
     }
 }
 
 // Makes the call with exactly these words lent, and prints the answer: the counts, the pairs and the literals.
-fn made_lent(
-    call: Call,
-    numbers: &[u64],
-    predicate_pairs: &[u32],
-    work: &mut [u64],
-    pairs: &mut [u64],
-    literals: &mut [u32],
-    to: &mut Printer,
-) {
-    let made = make(call, numbers, predicate_pairs, work, pairs, literals, to);
+fn made_lent(call: Call, case: Case, lent: &mut Lent, to: &mut Printer) {
+    let made = case.make(call, lent, to);
     to.fields(&[made.reason, made.clauses as u64, made.literals as u64]);
-    show::kept(to, pairs, made.clauses.saturating_mul(2));
-    show::kept_literals(to, literals, made.literals);
-    show::zero(to, work, 0);
+    show::kept(to, lent.pairs, made.clauses.saturating_mul(2));
+    show::kept_literals(to, lent.literals, made.literals);
+    show::zero(to, lent.work, 0);
 }
 
 // Makes the call with so many words lent.
-fn made_with(
-    call: Call,
-    numbers: &[u64],
-    predicate_pairs: &[u32],
-    work: &mut [u64],
-    pairs: &mut [u64],
-    literals: &mut [u32],
-    to: &mut Printer,
-) -> Option<()> {
-    let work = work.get_mut(..form::size(numbers, 2))?;
-    let pairs = pairs.get_mut(..form::size(numbers, 3))?;
-    let literals = literals.get_mut(..form::size(numbers, 4))?;
-    made_lent(call, numbers, predicate_pairs, work, pairs, literals, to);
+fn made_with(call: Call, case: Case, room: &mut Lent, to: &mut Printer) -> Option<()> {
+    let mut lent = Lent {
+        work: room.work.get_mut(..form::size(case.numbers, 2))?,
+        pairs: room.pairs.get_mut(..form::size(case.numbers, 3))?,
+        literals: room.literals.get_mut(..form::size(case.numbers, 4))?,
+    };
+    made_lent(call, case, &mut lent, to);
     Some(())
 }
 
-// Makes the call with the predicate's literals in front of the room that is lent for them.
+// Makes the call with the predicate's literals in front of the room for them.
 fn made_for(
     call: Call,
     numbers: &[u64],
-    predicate_pairs: &mut [u32],
-    work: &mut [u64],
-    pairs: &mut [u64],
-    literals: &mut [u32],
+    predicate: &mut [u32],
+    room: &mut Lent,
     to: &mut Printer,
 ) -> Option<()> {
     if form::list_start(numbers, LENGTHS, LISTS, 7) != numbers.len() {
         return None;
     }
-    let predicate = predicate_pairs.get_mut(..form::size(numbers, 10))?;
-    copy_literals(part(numbers, 4), predicate);
-    made_with(call, numbers, predicate, work, pairs, literals, to)
+    let predicate_literals = predicate.get_mut(..form::size(numbers, 10))?;
+    copy_literals(part(numbers, 4), predicate_literals);
+    let case = Case {
+        numbers,
+        predicate_literals,
+    };
+    made_with(call, case, room, to)
 }
 
 // A case of one of the three calls.
 pub fn made_case(call: Call, numbers: &[u64], to: &mut Printer) -> Option<()> {
-    let mut predicate_pairs = [0u32; 2048];
+    let mut predicate = [0u32; 2048];
     let mut work = [show::WORD; 4096];
     let mut pairs = [show::WORD; 8192];
     let mut literals = [show::LITERAL; 8192];
-    made_for(
-        call,
-        numbers,
-        &mut predicate_pairs,
-        &mut work,
-        &mut pairs,
-        &mut literals,
-        to,
-    )
+    let mut room = Lent {
+        work: &mut work,
+        pairs: &mut pairs,
+        literals: &mut literals,
+    };
+    made_for(call, numbers, &mut predicate, &mut room, to)
 }

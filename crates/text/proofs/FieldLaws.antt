@@ -10,7 +10,7 @@ use lib.ListN.{length, get_or, take, drop, length-drop}
 use lib.Seq.{get_or-drop}
 use lib.Dec.{leb}
 use Rattle.scan.specs.Spans.{span}
-use Rattle.scan.proofs.SpanLaws.{span_outside}
+use Rattle.scan.proofs.SpanLaws.{span_outside, span-passes}
 use Rattle.text.specs.Lines.{cons_head}
 use Rattle.lists.specs.Parts.{Bytes}
 use Rattle.lists.specs.Tests.{all}
@@ -86,12 +86,23 @@ first (b ∷ bs) h e = simp e (simp e at (word b bs e))
 pub front-in_field : (l : Bytes) → 0 < length (from_field l) → is_blank (get_or (from_field l) 0 0) ≡ false
 front-in_field l h = rw (get_or-drop, add-zero) (span_outside is_blank l (omega (arith, length-drop (span is_blank l) l)))
 
+one_byte : (t : List ℕ) → 0 < length t → is_blank (get_or t 0 0) ≡ false → 0 < length (take (span in_field t) t)
+one_byte [] h e = absurd (omega arith)
+one_byte (b ∷ bs) h e = simp e (omega arith)
+
 pub fields_none : (l : Bytes) → from_field l ≡ [] → fields_of l ≡ []
 fields_none l e = skip l ∙ ap fields_of e
 
 module _ (l f r : Bytes) (k : FieldTaken l f r) where
   pub fields_some : fields_of l ≡ f ∷ fields_of r
   fields_some = skip l ∙ rw (k.stands.field, k.stands.rest) (first (from_field l) k.some_byte (front-in_field l k.some_byte))
+
+  -- a field has at least one byte, and no blank
+  pub field-some_byte : 0 < length f
+  field-some_byte = rw k.stands.field (one_byte (from_field l) k.some_byte (front-in_field l k.some_byte))
+
+  pub field_unblank : all in_field f ≡ true
+  field_unblank = rw k.stands.field (span-passes in_field (from_field l))
 
   pub first_some : f ≡ first_field l
   first_some = sym (ap head_of fields_some)

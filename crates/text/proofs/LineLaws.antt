@@ -9,6 +9,7 @@ use lib.ListN.{length, take, drop, length-drop}
 use lib.Seq.{drop-drop}
 use lib.Dec.{eqb}
 use Rattle.scan.specs.Spans.{span, in_line}
+use Rattle.scan.proofs.SpanLaws.{span-passes}
 use Rattle.text.specs.Lines.{cons_head, lines_of, line_size}
 use Rattle.text.specs.Inner.Fronts.{Behind, LineTaken}
 use Rattle.lists.specs.Parts.{Bytes}
@@ -49,9 +50,17 @@ module _ (s l r : Bytes) (k : LineTaken s l r) where
   lines-some =
       rw (k.line, k.rest, drop_min (suc (span in_line s)) s) (cut s k.some_byte)
 
-  -- less of the text is left, for a loop over lines
+  -- a line has no byte 10
+  pub line_plain : all in_line l ≡ true
+  line_plain = rw k.line (span-passes in_line s)
+
+  -- a line takes up some bytes
+  pub line-moves : 0 < line_size s
+  line-moves = omega (arith, k.some_byte)
+
+  -- so less of the text is left, for a loop over lines
   pub line-less : length r < length s
-  line-less = omega (arith, k.some_byte, ap length k.rest, length-drop (line_size s) s)
+  line-less = omega (arith, k.some_byte, line-moves, ap length k.rest, length-drop (line_size s) s)
 
   pub line-behind : Behind s r
   line-behind = record { size = line_size s; is = k.rest }
