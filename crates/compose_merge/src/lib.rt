@@ -39,12 +39,7 @@ fn clear_regions(work: &mut [u64], at: Layout, gates: usize)
 }
 
 // Numbers the inputs from 1 on, then the latches, by their origin words. Returns the number of the first latch, and the next number.
-fn number(
-    work: &mut [u64],
-    at: Layout,
-    model_counts: AagCounts,
-    totals: Totals,
-) -> (usize, usize)
+fn number(work: &mut [u64], at: Layout, model_counts: AagCounts, totals: Totals) -> (usize, usize)
     requires { CanNumberAll at model_counts totals work.old }
     ensures { NumbersAll at model_counts totals work.old work.new result.0 result.1 }
 {
@@ -118,7 +113,8 @@ fn collect(work: &mut [u64], at: Layout) -> Found
     }
 }
 
-// Defines the latches and collects the bads and the constraints, once the gates are shared. The inputs are numbered from 1 up to `first`, the latches from there up to `next`.
+// Defines the latches and collects the bads and the constraints, once the gates are shared. The inputs are numbered from 1 up to `first`,
+// the latches from there up to `next`.
 fn define_and_collect(
     work: &mut [u64],
     at: Layout,

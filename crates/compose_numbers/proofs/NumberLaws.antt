@@ -64,14 +64,6 @@ module _ (origins assigned₀ : List ℕ) (before : ℕ) (numbers₀ : List ℕ)
       pub turn-slot : HasSlot before (length assigned) x
       turn-slot = rw s.sized (pre.each i more)
 
-      pub turn-few : next < 1073741824
-      turn-few = omega (arith, s.low, pre.few)
-
-      pub turn-room : i < length numbers
-      turn-room =
-          let n : length numbers ≡ length numbers₀ = ap length s.is ∙ put-length numbers₀ 0 s.given (omega (arith, s.counted, pre.room)) in
-          omega (arith, n, pre.room)
-
       -- the leaf gets number n, and the assigned numbers are t
       advanced : (t : List ℕ) (next₁ n : ℕ) → length t ≡ length assigned → next₁ ≤ next + 1
           → number_all before next (x ∷ drop (i + 1) origins) assigned ≡ with_number n (number_all before next₁ (drop (i + 1) origins) t)

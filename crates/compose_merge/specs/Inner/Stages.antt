@@ -70,7 +70,7 @@ pub record CanNumberAll (at : Layout) (mc : AagCounts) (t : Totals) (work : List
   pub latches_can : (first : ℕ)
       → first ≡ (number_all 0 1 (part work at.input_origins at.latch_origins) (part work at.assigned (at.assigned + mc.inputs))).next
       → CanNumber (part work at.latch_origins at.assigned) (part work (at.assigned + mc.inputs) (at.assigned + mc.inputs + mc.latches)) mc.inputs
-        (part work (at.vars + 1 + t.inputs) (at.vars + 1 + t.inputs + t.latches)) first
+      (part work (at.vars + 1 + t.inputs) (at.vars + 1 + t.inputs + t.latches)) first
 
 -- the numbers are there, and only they and the assigned ones are written
 pub record NumbersAll (at : Layout) (mc : AagCounts) (t : Totals) (work work' : List ℕ) (first next : ℕ) : Type 0 where
