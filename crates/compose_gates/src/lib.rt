@@ -37,8 +37,8 @@ fn gate_key(vars: &[u64], left: u64, right: u64) -> u64
     key_of(x, y)
 }
 
-// How many gates the composition has, or none (R9.17): equal unordered operand pairs share a gate. The composed variables of the gates are stored behind
-// the `known` ones; the table has room for the key of each gate.
+// How many gates the composition has, or none (R9.17): equal unordered operand pairs share a gate. The composed variables of the gates are
+// stored behind the `known` ones; the table has room for the key of each gate.
 pub fn share_gates(
     operands: &[u64],
     vars: &mut [u64],
@@ -63,7 +63,8 @@ pub fn share_gates(
     Some(shared)
 }
 
-// Whether a latch with this next literal and reset is as its first definition, which stands at a place; where there is none yet, it is stored there.
+// Whether a latch with this next literal and reset is as its first definition, which stands at a place; where there is none yet, it is
+// stored there.
 // Kept (switch): the loop says which latch was met before, and the definition branches on it.
 fn define_latch(definitions: &mut [u64], place: usize, next: u64, reset: u64, known: bool) -> bool
     requires { place + 1 < length definitions.old }

@@ -75,7 +75,8 @@ fn place_regions(
     }
 }
 
-// Loads the witnesses, and lists their literals behind the words of the texts: of the latches, the operands of the gates, the safety literals, the constraints.
+// Loads the witnesses, and lists their literals behind the words of the texts: of the latches, the operands of the gates, the safety
+// literals, the constraints.
 fn lay_lists(witnesses: &Witnesses, work: &mut [u64], totals: Totals) -> Lists
     requires { CanList totals witnesses.now.texts.bytes.now witnesses.now.texts.pairs.now work.old }
     ensures { ListsLaid totals witnesses.now.texts.bytes.now witnesses.now.texts.pairs.now work.old work.new result }
@@ -122,7 +123,8 @@ fn lay_lists(witnesses: &Witnesses, work: &mut [u64], totals: Totals) -> Lists
     }
 }
 
-// Loads the witnesses and lays out what is read of them: the lists, then the origins of the inputs and of the latches. Nothing where a literal is wrong (R9.16).
+// Loads the witnesses and lays out what is read of them: the lists, then the origins of the inputs and of the latches. Nothing where a
+// literal is wrong (R9.16).
 pub fn lay(
     witnesses: &Witnesses,
     work: &mut [u64],

@@ -1,32 +1,31 @@
--- Laws of the third pass: the latches are numbered.
+-- Laws of the second pass: the inputs are numbered, then the latches.
 use Prim.Native.Nat.{ℕ, suc, ◌+◌, ◌≤◌}
 use mathlib.Core.List.{List, [], ◌∷◌, ◌++◌}
-use mathlib.Core.Path.{◌≡◌, refl, sym, ap, ◌∙◌}
+use mathlib.Core.Path.{◌≡◌, refl, sym, ap, ◌∙◌, ap₂, subst}
 use native.Mathlib.Omega.{arith}
-use lib.ListN.{length, take, drop}
+use lib.ListN.{length}
 use Rattle.lists.specs.Parts.{part, zeros}
-use Rattle.lists.proofs.KeptLaws.{take-kept}
 use Rattle.witness_text.specs.declared.AagCounts.{AagCounts}
 use Rattle.witness_read.specs.Sections.{Sections}
 use Rattle.compose_spec.specs.Numbering.{input_firsts, leaf_count}
 use Rattle.compose_joint.specs.declared.Leaves.TheVariants as leaf
 use Rattle.compose_joint.specs.Inner.Joint.{total_of, input_count, latch_count, gate_count, origins}
 use Rattle.compose_joint.specs.Inner.Numbers.{Numbers, number_all, leaf_vars}
-use Rattle.compose_joint.proofs.AmountLaws.{latch_origins-length, leaf_count-most}
-use Rattle.compose_joint.proofs.NumberLaws.{latch_numbers_lem, latch_next}
-use Rattle.compose_numbers.specs.Inner.Marked.{CanNumber, Numbered, numbers_in}
-use Rattle.compose_numbers.proofs.CallLaws.{numbers-stored, numbered-before, numbered-between, numbered-behind}
+use Rattle.compose_joint.proofs.AmountLaws.{latch_origins-length, leaf_count-most, input-origins-length}
+use Rattle.compose_joint.proofs.NumberLaws.{latch_numbers_lem, latch_next, input-numbers, input-next}
 use Rattle.compose_gather.specs.declared.Totals.{Totals}
 use Rattle.compose_layout.specs.declared.Layout.{Layout}
 use Rattle.compose_layout.specs.Inner.Laid.{Has, Regions, OfSome, Summed}
 use Rattle.compose_merge.specs.Inner.Merged.{Plan, Base, input_numbers, latch_numbers}
-use Rattle.compose_merge.specs.Inner.Stages.{Clean, Leaves}
-use Rattle.compose_merge.proofs.WordLaws.{has_part, has_join, clean-part, clean-behind}
-use Rattle.compose_merge.proofs.InputLaws.{InputsNumbered}
+use Rattle.compose_merge.specs.Inner.Stages.{Clean, Leaves, CanNumberAll, NumbersAll}
+use Rattle.compose_merge.proofs.WordLaws.{has_part, has_join, clean-part, clean-behind, part-has}
 use Rattle.compose_merge.proofs.BaseLaws.{base_kept, Step}
-use Rattle.compose_merge.proofs.LeafLaws.{inputs_long, latches_long, leaves-known, leaves-numbers}
+use Rattle.compose_merge.proofs.LeafLaws.{inputs_long, latches_long, leaves-known}
+use Rattle.compose_merge.proofs.ClearLaws.{Cleared}
+use Rattle.lists.proofs.PartLaws.{part_length}
+use Rattle.lists.proofs.ZeroLaws.{zeros-length}
 
--- the latches, too, and the next number is k; the first latch has the number n
+-- inputs and latches have their numbers, and the next number is k; the first latch has the number n
 pub record LeavesNumbered (t : Totals) (at : Layout) (n k : ℕ) (work : List ℕ) (m : Sections) (ws : List Sections) : Type 0 where
   pub totals : Summed t ws
   pub base : Base at work m ws
@@ -37,12 +36,21 @@ pub record LeavesNumbered (t : Totals) (at : Layout) (n k : ℕ) (work : List �
   pub heads : Clean work at.gates (at.gates + (total_of gate_count ws + 1))
   pub bits : Clean work at.bad_bits at.end
 
-module _ (mc : AagCounts) (t : Totals) (at : Layout) (first : ℕ) (work : List ℕ) where
-  -- what is asked for
-  abbrev Can : Type 0
-  Can = CanNumber at.latch_origins t.latches (at.assigned + mc.inputs) mc.latches mc.inputs (at.vars + 1 + t.inputs) first work
+module _ (mc : AagCounts) (t : Totals) (at : Layout) (work : List ℕ) where
+  -- the origin words of inputs and of latches, and their assigned numbers
+  abbrev input_words : List ℕ
+  input_words = part work at.input_origins at.latch_origins
 
-  module _ (m : Sections) (ws : List Sections) (k : InputsNumbered mc t at first work m ws) where
+  abbrev latch_words : List ℕ
+  latch_words = part work at.latch_origins at.assigned
+
+  abbrev input_slots : List ℕ
+  input_slots = part work at.assigned (at.assigned + mc.inputs)
+
+  abbrev latch_slots : List ℕ
+  latch_slots = part work (at.assigned + mc.inputs) (at.assigned + mc.inputs + mc.latches)
+
+  module _ (m : Sections) (ws : List Sections) (k : Cleared mc t at work m ws) where
     -- what does not change
     abbrev plan : Plan at m ws
     plan = k.base.plan
@@ -51,111 +59,124 @@ module _ (mc : AagCounts) (t : Totals) (at : Layout) (first : ℕ) (work : List 
     abbrev places : Regions m ws at
     places = plan.regions
 
-    -- there is an origin word for each latch
-    counted : t.latches ≡ length (origins leaf.Latches m ws)
-    counted = k.totals.latches ∙ sym (latch_origins-length m ws)
-
     -- the words up to the end of the numbers
-    room : at.vars + 1 + total_of input_count ws + total_of latch_count ws ≤ at.end
-    room = omega (arith, places.gates, places.definitions, places.bad_bits, places.constraint_bits, places.end)
+    room : at.vars + 1 + t.inputs + t.latches ≤ length work
+    room =
+        omega (arith, k.totals.inputs, k.totals.latches, places.gates, places.definitions, places.bad_bits, places.constraint_bits, places.end, k.base.fits)
+
+    inputs-are : input_words ≡ origins leaf.Inputs m ws
+    inputs-are =
+        ap (part work at.input_origins) places.latch_origins
+        ∙ part-has work at.input_origins (origins leaf.Inputs m ws) k.base.stands.input_origins (total_of input_count ws) (sym (input-origins-length m ws))
+
+    latches-are : latch_words ≡ origins leaf.Latches m ws
+    latches-are =
+        ap (part work at.latch_origins) places.assigned
+        ∙ part-has work at.latch_origins (origins leaf.Latches m ws) k.base.stands.latch_origins (total_of latch_count ws) (sym (latch_origins-length m ws))
+
+    input-zeros : input_slots ≡ zeros (length m.inputs)
+    input-zeros =
+        clean-part work at.assigned (at.vars + 1) k.leaves at.assigned mc.inputs (omega arith) (omega (arith, k.model.inputs, places.vars)) ∙ ap zeros k.model.inputs
+
+    latch-zeros : latch_slots ≡ zeros (length m.latches)
+    latch-zeros =
+        clean-part work at.assigned (at.vars + 1) k.leaves (at.assigned + mc.inputs) mc.latches (omega arith) (omega (arith, k.model.inputs, k.model.latches, places.vars))
+        ∙ ap zeros k.model.latches
+
+    -- the numbers that inputs get
+    given-inputs : number_all 0 1 input_words input_slots ≡ number_all 0 1 (origins leaf.Inputs m ws) (zeros (length m.inputs))
+    given-inputs = ap₂ (λ (xs tb : List ℕ). number_all 0 1 xs tb) inputs-are input-zeros
+
+    first-is : (number_all 0 1 input_words input_slots).next ≡ suc (length (input_firsts m ws))
+    first-is = ap (λ (x : Numbers). x.next) given-inputs ∙ input-next m ws
+
+    -- and those of latches
+    given-latches : (first : ℕ) → first ≡ suc (length (input_firsts m ws))
+        → number_all mc.inputs first latch_words latch_slots ≡ number_all (length m.inputs) (suc (length (input_firsts m ws))) (origins leaf.Latches m ws) (zeros (length m.latches))
+    given-latches first e =
+        ap₂ (λ (b n : ℕ). number_all b n latch_words latch_slots) k.model.inputs e
+        ∙ ap₂ (λ (xs tb : List ℕ). number_all (length m.inputs) (suc (length (input_firsts m ws))) xs tb) latches-are latch-zeros
+
+    input-count : length input_words ≡ t.inputs
+    input-count = ap length inputs-are ∙ (input-origins-length m ws ∙ sym k.totals.inputs)
+
+    latch-count : length latch_words ≡ t.latches
+    latch-count = ap length latches-are ∙ (latch_origins-length m ws ∙ sym k.totals.latches)
 
     -- it holds of the stage
-    can : Can
+    can : CanNumberAll at mc t work
     can =
         record {
-          first = omega (arith, k.totals.latches, places.assigned);
-          second = omega (arith, k.model.inputs, k.model.latches, places.vars);
-          third = omega (arith, k.totals.inputs, k.totals.latches, room, k.base.fits);
-          few = omega (arith, k.totals.latches, plan.few, k.next, leaf_count-most m ws);
-          known =
-              leaves-known leaf.Latches m ws work at.latch_origins t.latches mc.inputs mc.latches
-              k.base.stands.latch_origins counted k.model.inputs k.model.latches;
+          inputs = omega (arith, places.latch_origins);
+          latches = omega (arith, places.assigned);
+          vars = omega (arith, k.model.inputs, k.model.latches, places.vars);
+          fits = room;
+          inputs_can =
+              record {
+                room = omega (arith, input-count, part_length work (at.vars + 1) (at.vars + 1 + t.inputs) (omega (arith, room)));
+                few = omega (arith, input-count, k.totals.inputs, plan.few);
+                each = leaves-known leaf.Inputs m ws 0 (length input_slots) refl (ap length input-zeros ∙ zeros-length (length m.inputs)) input_words inputs-are;
+              };
+          latches_can = λ first e.
+              record {
+                room = omega (arith, latch-count, part_length work (at.vars + 1 + t.inputs) (at.vars + 1 + t.inputs + t.latches) room);
+                few = omega (arith, latch-count, k.totals.latches, plan.few, e, first-is, leaf_count-most m ws);
+                each = leaves-known leaf.Latches m ws mc.inputs (length latch_slots) k.model.inputs (ap length latch-zeros ∙ zeros-length (length m.latches)) latch_words latches-are;
+              };
         }
 
-    -- the assigned numbers are all 0
-    empty : part work (at.assigned + mc.inputs) (at.assigned + mc.inputs + mc.latches) ≡ zeros mc.latches
-    empty =
-        clean-part work (at.assigned + length m.inputs) (at.vars + 1) k.between (at.assigned + mc.inputs) mc.latches
-        (omega (arith, k.model.inputs)) (omega (arith, k.model.inputs, k.model.latches, places.vars))
-
-    -- the numbers that are given
-    given : numbers_in at.latch_origins t.latches (at.assigned + mc.inputs) mc.latches mc.inputs first work
-        ≡ number_all (length m.inputs) (suc (length (input_firsts m ws))) (origins leaf.Latches m ws) (zeros (length m.latches))
-    given =
-        leaves-numbers leaf.Latches m ws work at.latch_origins t.latches mc.inputs mc.latches k.base.stands.latch_origins counted k.model.inputs k.model.latches
-        (at.assigned + mc.inputs) first empty
-        ∙ ap (λ (n : ℕ). number_all (length m.inputs) n (origins leaf.Latches m ws) (zeros (length m.latches))) k.next
-
   -- as the code asks for it
-  pub latches-can : OfSome (InputsNumbered mc t at first work) → Can
-  latches-can s = can s.m s.ws s.holds
+  pub numbers-can : OfSome (Cleared mc t at work) → CanNumberAll at mc t work
+  numbers-can s = can s.m s.ws s.holds
 
-  module _ {work' : List ℕ} {next : ℕ} (same : length work' ≡ length work) (post : Numbered at.latch_origins t.latches (at.assigned + mc.inputs) mc.latches mc.inputs (at.vars + 1 + t.inputs) first work work' next) where
-    module _ (m : Sections) (ws : List Sections) (k : InputsNumbered mc t at first work m ws) where
-      -- nothing in front of the assigned numbers is written
-      front : take at.assigned work' ≡ take at.assigned work
-      front =
-          take-kept work' work (at.assigned + mc.inputs)
-          (numbered-before at.latch_origins t.latches (at.assigned + mc.inputs) mc.latches mc.inputs (at.vars + 1 + t.inputs) first work work' next (can m ws k) post)
-          at.assigned (omega arith)
+  module _ {work' : List ℕ} {first next : ℕ} (same : length work' ≡ length work) (post : NumbersAll at mc t work work' first next) where
+    module _ (m : Sections) (ws : List Sections) (k : Cleared mc t at work m ws) where
+      first-number : first ≡ suc (length (input_firsts m ws))
+      first-number = post.inputs.returns ∙ first-is m ws k
 
-      -- what stands between the assigned numbers and the numbers
-      between : (a e : ℕ) → at.vars ≤ a → e ≤ at.vars + 1 + t.inputs → part work' a e ≡ part work a e
-      between a e h i =
-          numbered-between at.latch_origins t.latches (at.assigned + mc.inputs) mc.latches mc.inputs (at.vars + 1 + t.inputs) first work work' next (can m ws k) post
-          a e (omega (arith, k.model.inputs, k.model.latches, (places m ws k).vars)) i
-
-      -- nothing behind the numbers is written
-      rest : drop (at.vars + 1 + t.inputs + t.latches) work' ≡ drop (at.vars + 1 + t.inputs + t.latches) work
-      rest =
-          numbered-behind at.latch_origins t.latches (at.assigned + mc.inputs) mc.latches mc.inputs (at.vars + 1 + t.inputs) first work work' next (can m ws k) post
-
-      -- there is room for the numbers
       size : at.vars + 1 + t.inputs + t.latches ≤ length work'
-      size = omega (arith, same, (can m ws k).third)
+      size = omega (arith, same, room m ws k)
 
       -- the constant
       constant : Has work' at.vars (0 ∷ [])
       constant =
+          let e : at.assigned + mc.inputs + mc.latches ≡ at.vars = omega (arith, k.model.inputs, k.model.latches, (places m ws k).vars) in
           has_part work' at.vars 1 (0 ∷ []) refl (omega (arith, size))
-          (between at.vars (at.vars + 1) (omega arith) (omega arith)
-          ∙ clean-part work (at.assigned + length m.inputs) (at.vars + 1) k.between at.vars 1 (omega (arith, (places m ws k).vars)) (omega arith))
+          (subst (λ (a : ℕ). part work' a (at.vars + 1) ≡ part work a (at.vars + 1)) e post.between
+          ∙ clean-part work at.assigned (at.vars + 1) k.leaves at.vars 1 (omega (arith, (places m ws k).vars)) (omega arith))
 
-      -- the numbers of inputs stay
+      -- the numbers stand in their places
       inputs : Has work' (at.vars + 1) (input_numbers m ws)
       inputs =
-          has_part work' (at.vars + 1) (length (input_numbers m ws)) (input_numbers m ws) refl (omega (arith, size, inputs_long m ws, k.totals.inputs))
-          (between (at.vars + 1) (at.vars + 1 + length (input_numbers m ws)) (omega arith) (omega (arith, inputs_long m ws, k.totals.inputs)) ∙ k.inputs.is)
+          has_part work' (at.vars + 1) t.inputs (input_numbers m ws) (k.totals.inputs ∙ sym (inputs_long m ws)) (omega (arith, size))
+          (post.inputs.numbered ∙ (ap (λ (x : Numbers). x.numbers) (given-inputs m ws k) ∙ input-numbers m ws))
 
-      -- the numbers of latches stand in their place
       latches : Has work' (at.vars + 1 + t.inputs) (latch_numbers m ws)
       latches =
           has_part work' (at.vars + 1 + t.inputs) t.latches (latch_numbers m ws) (k.totals.latches ∙ sym (latches_long m ws)) size
-          (numbers-stored at.latch_origins t.latches (at.assigned + mc.inputs) mc.latches mc.inputs (at.vars + 1 + t.inputs) first work work' next (can m ws k) post
-          ∙ ap (λ (x : Numbers). x.numbers) (given m ws k)
-          ∙ latch_numbers_lem m ws)
+          (post.latches.numbered ∙ (ap (λ (x : Numbers). x.numbers) (given-latches m ws k first first-number) ∙ latch_numbers_lem m ws))
 
       -- the next stage
       numbered : LeavesNumbered t at first next work' m ws
       numbered =
           record {
             totals = k.totals;
-            base = base_kept at work work' m ws front same k.base;
-            first = k.next;
-            next = post.returns ∙ ap (λ (x : Numbers). x.next) (given m ws k) ∙ latch_next m ws;
+            base = base_kept at work work' m ws post.before same k.base;
+            first = first-number;
+            next = post.latches.returns ∙ ap (λ (x : Numbers). x.next) (given-latches m ws k first first-number) ∙ latch_next m ws;
             leaves = record { inputs = inputs; latches = rw (← k.totals.inputs) latches };
             vars =
                 has_join work' at.vars (0 ∷ []) constant (at.vars + 1) (input_numbers m ws ++ latch_numbers m ws) refl
                 (has_join work' (at.vars + 1) (input_numbers m ws) inputs (at.vars + 1 + t.inputs) (latch_numbers m ws) (omega (arith, inputs_long m ws, k.totals.inputs)) latches);
             heads =
-                clean-behind work at.gates (at.gates + (total_of gate_count ws + 1)) k.heads work' (at.vars + 1 + t.inputs + t.latches) at.gates rest
+                clean-behind work at.gates (at.gates + (total_of gate_count ws + 1)) k.heads work' (at.vars + 1 + t.inputs + t.latches) at.gates post.behind
                 (omega (arith, k.totals.inputs, k.totals.latches, (places m ws k).gates)) (omega arith) (omega arith);
             bits =
-                clean-behind work at.bad_bits at.end k.bits work' (at.vars + 1 + t.inputs + t.latches) at.bad_bits rest
+                clean-behind work at.bad_bits at.end k.bits work' (at.vars + 1 + t.inputs + t.latches) at.bad_bits post.behind
                 (omega (arith, k.totals.inputs, k.totals.latches, (places m ws k).gates, (places m ws k).definitions, (places m ws k).bad_bits)) (omega arith)
                 (omega (arith, (places m ws k).constraint_bits, (places m ws k).end));
           }
 
     -- the pass as a step
-    pub latches-step : Step (InputsNumbered mc t at first work) (LeavesNumbered t at first next work') at work work'
-    latches-step = record { next = numbered; kept = front }
+    pub numbers-step : Step (Cleared mc t at work) (LeavesNumbered t at first next work') at work work'
+    numbers-step = record { next = numbered; kept = λ m ws k. post.before }

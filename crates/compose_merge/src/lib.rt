@@ -3,7 +3,7 @@
 
 ghost use Rattle.compose_layout.specs.Inner.Laid.{OfSome};
 ghost use Rattle.compose_merge.specs.Inner.Merged.{Mergeable, Goes};
-ghost use Rattle.compose_merge.specs.Inner.Stages.{Clearable, Clears, CanShare, SharesAll, CanDefine, DefinesAll, CanCollect, Collects, GatesShared};
+ghost use Rattle.compose_merge.specs.Inner.Stages.{Clearable, Clears, CanNumberAll, NumbersAll, CanShare, SharesAll, CanDefine, DefinesAll, CanCollect, Collects, GatesShared};
 
 use aiger::Refusal;
 use compose_gather::Totals;
@@ -36,6 +36,32 @@ fn clear_regions(work: &mut [u64], at: Layout, gates: usize)
     compose_numbers::regions_clear(work, at.assigned, at.vars + 1);
     compose_numbers::regions_clear(work, at.gates, at.gates + (gates + 1));
     compose_numbers::regions_clear(work, at.bad_bits, at.end);
+}
+
+// Numbers the inputs from 1 on, then the latches, by their origin words. Returns the number of the first latch, and the next number.
+fn number(work: &mut [u64], at: Layout, model_counts: AagCounts, totals: Totals) -> (usize, usize)
+    requires { CanNumberAll at model_counts totals work.old }
+    ensures { NumbersAll at model_counts totals work.old work.new result.0 result.1 }
+{
+    let (front, numbers) = work.split_at_mut(at.vars + 1);
+    let (lists, assigned) = front.split_at_mut(at.assigned);
+    let (inputs, latches) = assigned.split_at_mut(model_counts.inputs);
+    let (of_inputs, rest) = numbers.split_at_mut(totals.inputs);
+    let first_latch = compose_numbers::number_leaves(
+        &lists[at.input_origins..at.latch_origins],
+        inputs,
+        0,
+        of_inputs,
+        1,
+    );
+    let next = compose_numbers::number_leaves(
+        &lists[at.latch_origins..],
+        &mut latches[..model_counts.latches],
+        model_counts.inputs,
+        &mut rest[..totals.latches],
+        first_latch,
+    );
+    (first_latch, next)
 }
 
 // Shares the gates, where they are not too many (R9.17), and counts those of the composition.
@@ -87,7 +113,8 @@ fn collect(work: &mut [u64], at: Layout) -> Found
     }
 }
 
-// Defines the latches and collects the bads and the constraints, once the gates are shared. The inputs are numbered from 1 up to `first`, the latches from there up to `next`.
+// Defines the latches and collects the bads and the constraints, once the gates are shared. The inputs are numbered from 1 up to `first`,
+// the latches from there up to `next`.
 fn define_and_collect(
     work: &mut [u64],
     at: Layout,
@@ -123,29 +150,7 @@ pub fn merge(
     ensures { Goes (Mergeable model_counts totals at work.old) at work.old work.new result }
 {
     clear_regions(work, at, totals.gates);
-    let own_inputs = at.vars + 1;
-    let first_latch = compose_numbers::number_leaves(
-        work,
-        at.input_origins,
-        totals.inputs,
-        at.assigned,
-        model_counts.inputs,
-        0,
-        own_inputs,
-        1,
-    );
-    let own_latches = own_inputs + totals.inputs;
-    let assigned = at.assigned + model_counts.inputs;
-    let next = compose_numbers::number_leaves(
-        work,
-        at.latch_origins,
-        totals.latches,
-        assigned,
-        model_counts.latches,
-        model_counts.inputs,
-        own_latches,
-        first_latch,
-    );
+    let (first_latch, next) = number(work, at, model_counts, totals);
     let Some(gates) = share(work, at, totals, next - 1) else {
         return Err(Refusal::GateLimit);
     };

@@ -124,8 +124,8 @@ fn pass(leaves: Leaves, counts: AagCounts, starts: Starts, size: usize) -> Start
     }
 }
 
-// Prints the symbol lines of the composition's inputs, or latches. The words hold all witnesses in front, their origin words from one place on, and
-// their composed variables from another place on, of which the lowest is `first`.
+// Prints the symbol lines of the composition's inputs, or latches. The words hold all witnesses in front, their origin words from one place
+// on, and their composed variables from another place on, of which the lowest is `first`.
 pub fn print_symbols(
     to: &mut Printer,
     witnesses: &Witnesses,

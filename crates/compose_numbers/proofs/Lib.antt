@@ -1,5 +1,4 @@
 -- What is proved of the functions that number and mark.
-pub mod StoreLaws
 pub mod NumberLaws
 pub mod AddLaws
 pub mod CallLaws

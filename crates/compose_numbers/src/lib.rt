@@ -3,62 +3,46 @@
 
 ghost use Rattle.std.specs.Prelude.{◌≡◌, ◌-◌, ◌≤◌, length};
 ghost use Rattle.lists.specs.Parts.{put, zeros};
-ghost use Rattle.compose_numbers.specs.Inner.Marked.{Listed, ListedAt, CanNumberOne, NumberedOne, CanNumber, Numbered, CanAdd, Added};
+ghost use Rattle.compose_numbers.specs.Inner.Marked.{HasSlot, KnownNumber, CanNumber, Numbered, CanAdd, Added};
 
-// The place of the assigned number for an origin word.
-fn known_place(work: &[u64], assigned: usize, before: usize, x: u64) -> usize
-    requires { Listed assigned before x work.now }
-    ensures { ListedAt assigned before x work.now result }
+// The number that a leaf with this origin word has already, if it has one. A leaf of the model that has none gets the number `next` among the
+// assigned ones, which are those of the model's variables behind the first `before`.
+fn known_number(assigned: &mut [u64], before: usize, origin: u64, next: u64) -> Option<u64>
+    requires { HasSlot before (length assigned.old) origin }
+    ensures { KnownNumber before origin next assigned.old assigned.new result }
 {
-    assigned + ((x / 2) as usize - before - 1)
-}
-
-// Stores the number of the leaf whose origin word is at a place, and gives the next number.
-fn number_leaf(
-    work: &mut [u64],
-    from: usize,
-    assigned: usize,
-    before: usize,
-    to: usize,
-    next: usize,
-) -> usize
-    requires { CanNumberOne from assigned before to next work.old }
-    ensures { NumberedOne from assigned before to next work.old work.new result }
-{
-    let x = work[from];
-    if x % 2 == 1 {
-        work[to] = next as u64;
-        return next + 1;
+    if origin % 2 == 1 {
+        return None;
     }
-    let known = known_place(work, assigned, before, x);
-    let number = work[known];
+    let slot = (origin / 2) as usize - before - 1;
+    let number = assigned[slot];
     if number == 0 {
-        work[known] = next as u64;
-        work[to] = next as u64;
-        return next + 1;
+        assigned[slot] = next;
+        return None;
     }
-    work[to] = number;
-    next
+    Some(number)
 }
 
-// Numbers inputs, or latches, by their origin words. A private one is new each time; one of the model has one number, which is kept in the assigned numbers.
-// Kept (buffer): origins, assigned numbers and variables are parts of the one lent slice, which the laws of `compose_merge` follow through all passes.
+// Numbers inputs, or latches, by their origin words, and returns the next number. A private one is new each time; one of the model has one
+// number, which is kept among the assigned numbers.
 pub fn number_leaves(
-    work: &mut [u64],
-    origins: usize,
-    count: usize,
-    assigned: usize,
-    size: usize,
+    origins: &[u64],
+    assigned: &mut [u64],
     before: usize,
-    vars: usize,
+    numbers: &mut [u64],
     next: usize,
 ) -> usize
-    requires { CanNumber origins count assigned size before vars next work.old }
-    ensures { Numbered origins count assigned size before vars next work.old work.new result }
+    requires { CanNumber origins.now assigned.old before numbers.old next }
+    ensures { Numbered origins.now assigned.old before next assigned.new numbers.new result }
 {
     let mut after = next;
-    for i in 0..count {
-        after = number_leaf(work, origins + i, assigned, before, vars + i, after);
+    for i in 0..origins.len() {
+        let Some(number) = known_number(assigned, before, origins[i], after as u64) else {
+            numbers[i] = after as u64;
+            after += 1;
+            continue;
+        };
+        numbers[i] = number;
     }
     after
 }

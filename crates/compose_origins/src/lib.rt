@@ -179,7 +179,8 @@ fn witness_origins(
     Some(to + count)
 }
 
-// The origins of the inputs, or latches, of all witnesses, from a place on. Returns the place after them, or nothing where a literal is wrong (R9.16).
+// The origins of the inputs, or latches, of all witnesses, from a place on. Returns the place after them, or nothing where a literal is wrong
+// (R9.16).
 pub fn gather_origins(
     witnesses: &Witnesses,
     work: &mut [u64],

@@ -1,19 +1,20 @@
 -- For the contracts of the composer's inner functions: what stands in the work words after each pass.
 use Rattle.std.specs.Prelude.{ℕ, suc, ◌+◌, ◌-◌, ◌*◌, ◌≤◌, true, List, map, ◌≡◌, length, take, drop, Option}
 use Rattle.lists.specs.Parts.{part, zeros}
+use Rattle.witness_text.specs.declared.AagCounts.{AagCounts}
 use Rattle.witness_read.specs.Sections.{Sections}
 use Rattle.compose_spec.specs.Numbering.{input_firsts, leaf_count}
 use Rattle.compose_spec.specs.Inner.Keys.{key_of}
 use Rattle.compose_spec.specs.Composing.{composed_gates, gates_fit}
 use Rattle.compose_joint.specs.Inner.Joint.{total_of, input_count, gate_count}
-use Rattle.compose_joint.specs.Inner.Numbers.{joint_shared}
+use Rattle.compose_joint.specs.Inner.Numbers.{number_all, joint_shared}
 use Rattle.key_table.specs.Inner.Table.{Held}
 use Rattle.compose_gather.specs.declared.Totals.{Totals}
 use Rattle.compose_layout.specs.declared.Layout.{Layout}
 use Rattle.compose_layout.specs.Inner.Laid.{Has, Summed}
 use Rattle.compose_gates.specs.Inner.Latches.{Definable, Defines}
 use Rattle.compose_gates.specs.Inner.Linked.{Sharable, Shares}
-use Rattle.compose_numbers.specs.Inner.Marked.{CanAdd, Added}
+use Rattle.compose_numbers.specs.Inner.Marked.{CanNumber, Numbered, CanAdd, Added}
 use Rattle.compose_merge.specs.Inner.Merged.{Base, input_numbers, latch_numbers}
 
 -- the words from one place up to another are 0
@@ -57,6 +58,31 @@ pub record GatesShared (t : Totals) (at : Layout) (n k g : ℕ) (work : List ℕ
   pub fits : gates_fit (leaf_count m ws) (composed_gates m ws) ≡ true
   pub shared : Shared at work m ws
   pub bits : Clean work at.bad_bits at.end
+
+-- the origin words, the assigned numbers and room for the numbers of inputs and latches stand one behind the other within the words
+pub record CanNumberAll (at : Layout) (mc : AagCounts) (t : Totals) (work : List ℕ) : Type 0 where
+  pub inputs : at.input_origins ≤ at.latch_origins
+  pub latches : at.latch_origins ≤ at.assigned
+  pub vars : at.assigned + mc.inputs + mc.latches ≤ at.vars
+  pub fits : at.vars + 1 + t.inputs + t.latches ≤ length work
+  pub inputs_can :
+      CanNumber (part work at.input_origins at.latch_origins) (part work at.assigned (at.assigned + mc.inputs)) 0 (part work (at.vars + 1) (at.vars + 1 + t.inputs)) 1
+  pub latches_can : (first : ℕ)
+      → first ≡ (number_all 0 1 (part work at.input_origins at.latch_origins) (part work at.assigned (at.assigned + mc.inputs))).next
+      → CanNumber (part work at.latch_origins at.assigned) (part work (at.assigned + mc.inputs) (at.assigned + mc.inputs + mc.latches)) mc.inputs
+      (part work (at.vars + 1 + t.inputs) (at.vars + 1 + t.inputs + t.latches)) first
+
+-- the numbers are there, and only they and the assigned ones are written
+pub record NumbersAll (at : Layout) (mc : AagCounts) (t : Totals) (work work' : List ℕ) (first next : ℕ) : Type 0 where
+  pub inputs :
+      Numbered (part work at.input_origins at.latch_origins) (part work at.assigned (at.assigned + mc.inputs)) 0 1 (part work' at.assigned (at.assigned + mc.inputs))
+      (part work' (at.vars + 1) (at.vars + 1 + t.inputs)) first
+  pub latches :
+      Numbered (part work at.latch_origins at.assigned) (part work (at.assigned + mc.inputs) (at.assigned + mc.inputs + mc.latches)) mc.inputs first
+      (part work' (at.assigned + mc.inputs) (at.assigned + mc.inputs + mc.latches)) (part work' (at.vars + 1 + t.inputs) (at.vars + 1 + t.inputs + t.latches)) next
+  pub before : take at.assigned work' ≡ take at.assigned work
+  pub between : part work' (at.assigned + mc.inputs + mc.latches) (at.vars + 1) ≡ part work (at.assigned + mc.inputs + mc.latches) (at.vars + 1)
+  pub behind : drop (at.vars + 1 + t.inputs + t.latches) work' ≡ drop (at.vars + 1 + t.inputs + t.latches) work
 
 -- the operands, the composed variables and the table of gates stand one behind the other within the words
 pub record CanShare (at : Layout) (t : Totals) (leaves : ℕ) (work : List ℕ) : Type 0 where

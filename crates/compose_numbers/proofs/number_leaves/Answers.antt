@@ -1,13 +1,17 @@
-use mathlib.Core.Path.{refl}
-use borrow.Author.Rules.{rules}
-use Rattle.compose_numbers.proofs.NumberLaws.{numbering-none, turn_numberable, turn_more}
+use Rattle.compose_numbers.proofs.NumberLaws.{numbering-none, numbering-done, turn-slot, turn_old, turn_new}
 use Rattle.compose_numbers.proofs.number_leaves.Goals as goal
 
 pub loop-i-init : goal.loop-i-init
-loop-i-init c = (refl, search numbering-none)
+loop-i-init c = search numbering-none
 
-pub number_leaf-after-requires : goal.number_leaf-after-requires
-number_leaf-after-requires c = search turn_numberable
+pub known_number-requires : goal.known_number-requires
+known_number-requires c = search turn-slot
+
+pub loop-i-preserved-in_default : goal.loop-i-preserved-in_default
+loop-i-preserved-in_default c = search turn_new
 
 pub loop-i-preserved : goal.loop-i-preserved
-loop-i-preserved c = (search rules, search turn_more)
+loop-i-preserved c = search turn_old
+
+pub returns : goal.returns
+returns c = search numbering-done
