@@ -1,6 +1,7 @@
 -- Laws of `line_at` and `field_at`, for the calls that say where a line or a field stands.
 use Prim.Native.Nat.{ℕ, suc, ◌+◌, ◌-◌, ◌≤◌, ◌<◌, min}
 use mathlib.Core.Path.{◌≡◌, ap, sym, ◌∙◌}
+use mathlib.Core.Bool.{true}
 use mathlib.Core.List.{[]}
 use native.Mathlib.Omega.{arith}
 use borrow.Author.Tests.{lt-ltb, le-ltb}
@@ -16,12 +17,6 @@ use Rattle.text.specs.Inner.Fronts.{LineTaken, from_field, FieldTaken}
 use Rattle.probe.specs.Inner.Flat.{no_part, line_at, field_from, field_at}
 
 module _ (s : Bytes) (at : ℕ) where
-  pub no_line : length s ≤ at → no_part ≡ line_at s at
-  no_line h = rw (le-ltb at (length s) h)
-
-  pub no_line_left : at < length s → take (length s - at) (drop at s) ≡ [] → no_part ≡ line_at s at
-  no_line_left h e = absurd (omega (arith, ap length (sym (tail-lent s at) ∙ e), length-drop at s))
-
   pub line-found : at < length s → (l r : Bytes) → LineTaken (take (length s - at) (drop at s)) l r
       → record { found = true; start = at; end = at + length l; next = length s - length r } ≡ line_at s at
   line-found h l r t =
@@ -31,15 +26,11 @@ module _ (s : Bytes) (at : ℕ) where
       rw (lt-ltb at (length s) h, size, next)
 
   -- where the next field begins
-  start : ℕ
+  abbrev start : ℕ
   start = at + span is_blank (drop at s)
 
   from-start : from_field (drop at s) ≡ drop start s
-  unfolding start
   from-start = drop-drop (span is_blank (drop at s)) at s
-
-  pub no_field : length s ≤ at → no_part ≡ field_at s at
-  no_field h = rw (le-ltb start (length s) (omega arith))
 
   pub no_field_left : from_field (take (length s - at) (drop at s)) ≡ [] → no_part ≡ field_at s at
   no_field_left e =
