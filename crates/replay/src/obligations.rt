@@ -39,6 +39,7 @@ fn part(numbers: &[u64], k: usize) -> &[u64] {
     form::list(numbers, LENGTHS, LISTS, k)
 }
 
+// Kept (twin): each of the three calls takes its own arguments.
 impl<'a> Case<'a> {
     // A row with claimed targets.
     fn relation(&self, lent: &mut Lent) -> NitMade {

@@ -1,4 +1,5 @@
 // Prints answers, and what became of the words that were lent.
+// Kept (buffer): what stands behind the first n is looked at too.
 use text_print::{Number, Printer};
 
 // What a word, a literal and a byte hold before they are lent.
@@ -9,7 +10,6 @@ pub const LITERAL: u32 = 2863311530;
 pub const BYTE: u8 = 170;
 
 // Prints the first elements, and one of two words: whether all others have a value.
-// Kept (buffer): the others are looked at too, here and below.
 fn first<T: Number>(to: &mut Printer, list: &[T], n: usize, value: u64, same: &[u8], other: &[u8]) {
     let Some((front, rest)) = list.split_at_checked(n) else {
         return to.bytes(b" more than were lent");
