@@ -71,10 +71,6 @@ module _ (first : ℕ) (table : List ℕ) (heads count : ℕ) where
         small = c.keys.small;
       }
 
-  -- there is a key
-  pub key-some : (k : ℕ) → CanPrintGates first table heads count → k < count → 1 ≤ get_or table (heads + 3 * k) 0
-  key-some k c h = omega (arith, c.keys.held.key k (omega (arith, c.keys.counted, length-map c.gs key_of)))
-
   module _ (p₀ p : Printer) (k : ℕ) (w : GateWalk p₀ p k) where
     -- a turn
     pub walk_more : (p' : Printer) → k < count → PrintsOn p (key_line (first + k) (key_at table heads k) ++ 10 ∷ []) p' → GateWalk p₀ p' (k + 1)

@@ -67,6 +67,7 @@ fn read_with(
 }
 
 // A case of the reader: gate words, work words; the block is the text.
+// Kept (twin): `compose_case` of `texts` lends other buffers to another call.
 pub fn read_case(numbers: &[u64], text: &[u8], to: &mut Printer) -> Option<()> {
     let mut gates = [show::WORD; 4096];
     let mut work = [show::WORD; 4096];

@@ -103,6 +103,7 @@ fn all(rt: &impl Print, out: &mut [u8]) -> io::Result<()> {
     limits(rt, out)
 }
 
+// Kept (twin): `row` is a program of its own, and lends as much.
 fn main(rt: HostRuntime) -> io::Result<()> {
     let mut out = [0u8; 700000];
     all(&rt, &mut out)

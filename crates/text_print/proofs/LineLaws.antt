@@ -4,7 +4,7 @@ use mathlib.Core.Path.{◌≡◌, refl, sym, ap, ◌∙◌}
 use mathlib.Core.List.{List, [], ◌∷◌, ◌++◌, map, append_assoc, append-nil}
 use native.Mathlib.Numerals.{add-one}
 use native.Mathlib.Omega.{arith}
-use lib.ListN.{length, get_or, drop, length-drop, drop_of_length-le}
+use lib.ListN.{length, get_or, drop, length-drop}
 use Rattle.lists.specs.Parts.{Bytes}
 use Rattle.lists.proofs.RestLaws.{rest_more}
 use Rattle.text_decimal.specs.Decimal.{decimal}
@@ -23,9 +23,6 @@ module _ {A : Type 0} (value : A → ℕ) (xs : List A) (i : ℕ) where
   fields-more x n h e k =
       ap (fields_text value) (rest_more xs i x h)
       ∙ ap (λ (m : ℕ). (32 ∷ decimal m) ++ fields_text value (drop (i + 1) xs)) (ap value (sym e) ∙ sym k)
-
-  pub fields-end : length xs ≤ i → fields_text value (drop i xs) ≡ []
-  fields-end h = ap (fields_text value) (drop_of_length-le xs h)
 
 -- ---- lines
 

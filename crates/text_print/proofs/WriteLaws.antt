@@ -1,28 +1,22 @@
 -- Digits, fields and lines written where there is room for them.
 use Prim.Native.Nat.{ℕ, ◌+◌, ◌-◌, ◌*◌, ◌/◌, ◌%◌, ◌≤◌, ◌<◌}
 use mathlib.Core.Path.{◌≡◌, refl, sym, ap, ◌∙◌}
-use mathlib.Core.List.{[], ◌∷◌, ◌++◌, append_assoc, append-nil}
+use mathlib.Core.List.{[], ◌∷◌, ◌++◌, append_assoc}
 use native.Mathlib.Omega.{arith}
 use borrow.Rule.Slice.PartMut.{put_mid}
-use lib.ListN.{length, set, length-append, drop_of_length-le}
+use lib.ListN.{length, set, length-append}
 use Rattle.lists.specs.Parts.{Bytes, put}
 use Rattle.lists.proofs.PartLaws.{put-put, put-length}
 use Rattle.text_decimal.specs.Decimal.{decimal}
 use Rattle.text_decimal.specs.Printed.{number_line}
 use Rattle.text_print.specs.declared.Printer.{Printer}
 use Rattle.text_print.specs.Inner.Prints.{capped, PrintsOn, Passes}
-use Rattle.text_decimal.proofs.WritingLaws.{part-written, Writing, writing-none, writing_more, writing-done}
+use Rattle.text_decimal.proofs.WritingLaws.{part-written, Writing, writing-none, writing_more}
 
 -- ---- digits, two at a time
 
 last_of : (q t : ℕ) → t < 10 → (10 * q + t) % 10 ≡ t
 last_of q t h = omega arith
-
--- digits that fill the whole buffer
-put-whole : (o b : Bytes) → length o ≡ length b → put o 0 b ≡ b
-put-whole o b e =
-    let end : length o ≤ 0 + length b = omega arith in
-    ap (λ (x : Bytes). b ++ x) (drop_of_length-le o end) ∙ append-nil b
 
 pub digits_none : (o : Bytes) (n : ℕ) → length o ≡ length (decimal n) → Writing o 0 n o (length o) n
 digits_none o n e = writing-none o 0 n (length o) e (omega arith)
@@ -39,16 +33,6 @@ module _ (o₀ : Bytes) (n : ℕ) (o : Bytes) (left rest : ℕ) (w : Writing o�
       rw (f, g, e, low, high, less)
       (writing_more o₀ 0 n last (left - 1) (rest / 10) (writing_more o₀ 0 n o left rest w (omega arith) (left - 1) (omega arith) (left - 1) refl) (omega arith)
       (left - 2) (omega arith) (left - 2) (omega arith))
-
-  module _ (whole : length o₀ ≡ length (decimal n)) where
-    pub writing-whole : left ≤ 0 → o ≡ decimal n
-    writing-whole h = writing-done o₀ 0 n o left rest w h ∙ put-whole o₀ (decimal n) whole
-
-    pub writing-first : left ≡ 1 → set o 0 (48 + rest % 10) ≡ decimal n
-    writing-first e =
-        let first : Bytes = set o 0 (48 + rest % 10) in
-        writing-done o₀ 0 n first 0 (rest / 10) (writing_more o₀ 0 n o left rest w (omega arith) 0 (omega arith) 0 (omega arith)) (omega arith)
-        ∙ put-whole o₀ (decimal n) whole
 
 -- ---- fields
 

@@ -10,7 +10,7 @@ ghost use Rattle.text_print.specs.Inner.DigitPairs.{digit_pairs};
 ghost use Rattle.text_print.specs.Inner.Lines.{fields_text, literal_lines, literals_from, gate_lines};
 ghost use Rattle.text_print.specs.Inner.Elements.{elements, elements_in};
 
-// How many digits a number has. Most numbers have few, and comparing is quicker than dividing.
+// How many digits a number has. Most numbers have few, and comparing with these is quicker than `decimal_length`.
 fn digit_count(n: u64) -> usize
     ensures { (result ≡ length (decimal n)) × (result ≤ 20) }
 {

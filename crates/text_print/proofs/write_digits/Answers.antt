@@ -1,6 +1,6 @@
 use native.Mathlib.Omega.{arith}
 use mathlib.Core.Path.{refl}
-use Rattle.text_print.proofs.WriteLaws.{digits_none, writing_two, writing-first, writing-whole}
+use Rattle.text_print.proofs.WriteLaws.{digits_none, writing_two}
 use Rattle.text_print.proofs.DigitPairLaws.{pairs-length, tens_in, ones_in}
 use Rattle.text_print.proofs.write_digits.Goals as goal
 
@@ -18,9 +18,3 @@ loop-left-preserved c =
     writing_two _ _ _ c.loop-left.left c.loop-left.rest c.loop-left.invariant _ _ _ (omega arith) refl
     (ones_in _ c.digit_pairs-pairs.ensures _ (omega arith))
     (tens_in _ c.digit_pairs-pairs.ensures _ (omega arith))
-
-pub returns-then-left-eq1 : goal.returns-then-left-eq1
-returns-then-left-eq1 c = search writing-first
-
-pub returns-else-left-eq1 : goal.returns-else-left-eq1
-returns-else-left-eq1 c = writing-whole _ _ _ _ _ c.loop-left.invariant (omega arith) (omega arith)
