@@ -201,6 +201,7 @@ pub fn take_lines<'a, K: TakeLine>(kind: K, s: &'a [u8], out: &mut [K::Item]) ->
 }
 
 // The items of the first n lines, in front of `out`, and the text behind them; more than `out` is long are refused at once.
+// Kept (buffer): this is where a slice is cut to the number of lines that the header counts.
 pub fn take_front<'a, K: TakeLine>(
     kind: K,
     s: &'a [u8],

@@ -30,6 +30,7 @@ fn define_next(work: &mut [u64], most: usize, fine: bool, gate: Gate) -> bool
 
 // Checks the gates of the first n lines, and answers whether the definitions hold; none where a line is missing or bad. All
 // lines are looked at, since a bad one counts more than a definition that fails.
+// Kept (buffer): n lines are taken, as the header counts them, and no slice has that length.
 fn check_gates(s: &[u8], n: usize, most: usize, fine: bool, work: &mut [u64]) -> Option<bool>
     ensures { ChecksGates s.now n most fine work.old result }
 {
@@ -44,6 +45,7 @@ fn check_gates(s: &[u8], n: usize, most: usize, fine: bool, work: &mut [u64]) ->
 }
 
 // Writes the gates of the first n lines, three words each.
+// Kept (buffer): more words may be lent than the gates take.
 fn write_gates(s: &[u8], n: usize, gates: &mut [u64])
     requires { 3 * n ≤ length gates.old }
     ensures { Writes s.now n gates.old gates.new }
@@ -171,6 +173,7 @@ fn read_body(
 }
 
 // Reads a transition text: the record, and the gates' words in front of the lent ones.
+// Kept (twin): `parse_aag` goes through the same steps, with other limits, without buffers, and to another end.
 pub fn parse_ascii_aiger_transition(
     s: &[u8],
     gates: &mut [u64],

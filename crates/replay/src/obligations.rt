@@ -34,7 +34,6 @@ struct Case<'a> {
 }
 
 // List k of a case.
-// Kept (twin): `push_literal` of `obligation_gates` is alike in form alone, and calls another function.
 fn part(numbers: &[u64], k: usize) -> &[u64] {
     form::list(numbers, LENGTHS, LISTS, k)
 }

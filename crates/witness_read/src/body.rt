@@ -113,6 +113,7 @@ impl Numbered<Gate> for Gates {
 }
 
 // A section of n lines, whose items are numbered from `first` on.
+// Kept (buffer): n lines are taken, as the header counts them, and no slice has that length.
 fn check_section<K: TakeLine, T: Numbered<K::Item> + Copy>(
     kind: K,
     test: T,

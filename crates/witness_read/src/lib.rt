@@ -31,6 +31,7 @@ pub struct NextSymbol<'a> {
 }
 
 // The sections of a text. All lines are looked at before R9.11, since a bad line, symbol or comment counts more.
+// Kept (switch): `witness` as in `parse_aag`.
 fn read_sections(s: &[u8], counts: AagCounts, witness: bool) -> Result<AagCounts, Refusal>
     requires { (counted limited counts ≡ true) × (without_liveness counts ≡ true) }
     ensures { answered result ≡ counts_read (sections_of witness counts (lines_of s.now)) }
@@ -49,6 +50,7 @@ fn read_sections(s: &[u8], counts: AagCounts, witness: bool) -> Result<AagCounts
 }
 
 // What follows a header.
+// Kept (switch): `witness` as in `parse_aag`.
 fn read_body(s: &[u8], counts: AagCounts, witness: bool) -> Result<AagCounts, Refusal>
     ensures { answered result ≡ counts_read (after_header limited witness (lines_of s.now) counts) }
 {

@@ -20,6 +20,7 @@ struct Order {
 
 // Whether an input or a latch is named for the first time, which is marked; outputs, bads and constraints may be named again.
 // Kept (switch): each kind has its place among the marks.
+// Kept (travel): that inputs and latches are few follows from counts that hold; marks need no more of them.
 fn name_first(counts: AagCounts, kind: Kind, index: usize, marks: &mut [u64]) -> bool
     requires { (counts.inputs + counts.latches ≤ 2000000) × (index < count_of counts kind) }
     ensures { MarksName counts kind index marks.old marks.new result }
@@ -144,6 +145,7 @@ fn plain_comment(l: &[u8]) -> bool
 }
 
 // Whether no comment line begins with a word of R9.10; those of a model are not looked at.
+// Kept (switch): `witness` as in `parse_aag`.
 pub fn plain_comments(s: &[u8], witness: bool) -> bool
     ensures { result ≡ plain_comments witness (lines_of s.now) }
 {

@@ -162,7 +162,7 @@ fn count_of(counts: AagCounts, kind: Kind) -> usize
 }
 
 // The kind of a letter.
-// Kept (hand): a letter of no kind has nothing to say, and a conversion that can fail would ask for the type of an error.
+// Kept (by hand): a letter of no kind has nothing to say, and a conversion that can fail would ask for the type of an error.
 fn kind_of(b: u8) -> Option<Kind>
     ensures { answer_or 9 result ≡ kind_of b }
 {
