@@ -141,8 +141,8 @@ gates_cut (suc k) (x ∷ y ∷ []) = rw (thrice k) refl
 gates_cut (suc k) (x ∷ y ∷ z ∷ ws) = rw (thrice k) (ap (λ (gs : List Gate). gate_from x y z ∷ gs) (gates_cut k ws))
 
 module _ (p : Parts) (f : FrontReady p) (gs : List ℕ) (e : gs ≡ take (3 * p.ands) p.gates) where
-  pub cut_asked : (at : ClauseCounts) → Space at (3 * p.ands) → Each LowGate (triples_of gate_from gs) × Space at (length gs)
-  cut_asked at h = (rw (e, gates_cut p.ands p.gates) f.low_gates, space-less at (length gs) (3 * p.ands) (omega (arith, ap length e, length-take (3 * p.ands) p.gates)) h)
+  pub cut_asked : (at : ClauseCounts) → Space at (3 * p.ands) → Each LowGate (triples_of gate_from gs) × Space at (3 * (length gs / 3))
+  cut_asked at h = (rw (e, gates_cut p.ands p.gates) f.low_gates, space-less at (3 * (length gs / 3)) (3 * p.ands) (omega (arith, ap length e, length-take (3 * p.ands) p.gates)) h)
 
   pub cut-appends : (s t : Clauses) → Appends (words_of gate_lists (triples_of gate_from gs)) s t → Appends (words_of gate_lists (take p.ands (triples_of gate_from p.gates))) s t
   cut-appends s t g = rw (e, gates_cut p.ands p.gates) at g

@@ -77,11 +77,11 @@ module _ (ws : List ℕ) (i : ℕ) where
     gate_low e = rw (← gate_is) (each_at LowGate gates i no_gate e inside)
 
     module _ (p q : Clauses) (g : Appends (words_of gate_lists (take i gates)) p q) where
-      pub gate_space : Space p.counts (length ws) → Space q.counts 3
+      pub gate_space : Space p.counts (3 * (length ws / 3)) → Space q.counts 3
       gate_space s =
           let n : length (words_of gate_lists (take i gates)) ≡ 3 * i =
           words-length gate_lists 3 (λ x. refl) (take i gates) ∙ ap (λ (k : ℕ). 3 * k) (length-take-le i gates (omega (arith, inside))) in
-          space-left (words_of gate_lists (take i gates)) p q g 3 (length ws) (omega arith) s
+          space-left (words_of gate_lists (take i gates)) p q g 3 (3 * (length ws / 3)) (omega arith) s
 
       pub gate_next : (r : Clauses) → Appends (gate_lists a) q r → Appends (words_of gate_lists (take (i + 1) gates)) p r
       gate_next r k = appends_item gate_lists gates i p q r no_gate inside g (rw gate_is k)

@@ -136,7 +136,7 @@ fn push_gate(gate: Gate, clauses: &mut Clauses)
 
 // Appends the clauses of gates, three words each.
 pub fn append_ands(gates: &[u64], clauses: &mut Clauses)
-    requires { Each LowGate (triples_of gate_from gates.now) × Space clauses.old.counts (length gates.now) }
+    requires { Each LowGate (triples_of gate_from gates.now) × Space clauses.old.counts (3 * (length gates.now / 3)) }
     ensures { Appends (words_of gate_lists (triples_of gate_from gates.now)) clauses.old clauses.new }
 {
     for i in 0..gates.count() {
