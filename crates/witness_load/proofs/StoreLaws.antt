@@ -6,9 +6,10 @@ use mathlib.Core.Option.{Option, some}
 use mathlib.Core.Path.{◌≡◌, refl, sym, ap, ◌∙◌}
 use native.Mathlib.Omega.{arith}
 use borrow.Author.Tests.{ne_eqb, le-leb}
+use borrow.Rule.Slice.PartMut.{put_mid}
 use lib.ListN.{length, drop, length-drop}
 use Rattle.lists.specs.Answer.{got}
-use Rattle.lists.specs.Parts.{Bytes, part, put}
+use Rattle.lists.specs.Parts.{Bytes, part}
 use Rattle.lists.specs.Words.{pairs_of}
 use Rattle.lists.proofs.PartLaws.{drop_min, part_length, part-drop, part_of_part, put-length}
 use Rattle.lists.proofs.WordLaws.{pairs-put}
@@ -20,24 +21,35 @@ use Rattle.witness_text.specs.declared.SymbolLine.{SymbolLine}
 use Rattle.witness_text.proofs.SymbolLaws.{symbol-below, symbol-name}
 use Rattle.witness_load.specs.Inner.Loaded.{name_from}
 use Rattle.witness_load.specs.Inner.Loading.{leaf_words, with_words, with_name, StandsAt, Named}
+use Rattle.witness_load.proofs.SectionLaws.{pair_back}
 
 -- ---- store_leaf
 
-module _ (n : AagCounts) (x : Kind) (k : ℕ) (o : List ℕ) (h : k < count_of n x) (g : length o ≡ leaf_words n) where
-  pub input-fits : x ≡ kind.Input → 2 * k + 1 < length o
+module _ (n : AagCounts) (z : Kind) (k : ℕ) (o : List ℕ) (h : k < count_of n z) (g : length o ≡ leaf_words n) where
+  input-fits : z ≡ kind.Input → 2 * k + 1 < length o
   input-fits e = let f : k < count_of n kind.Input = rw e at h in omega arith
 
-  pub latch_fits : x ≡ kind.Latch → 2 * (n.inputs + k) + 1 < length o
+  latch_fits : z ≡ kind.Latch → 2 * (n.inputs + k) + 1 < length o
   latch_fits e = let f : k < count_of n kind.Latch = rw e at h in omega arith
 
-module _ (n : AagCounts) (x : Kind) (k : ℕ) (ws o : List ℕ) where
-  pub input-stored : x ≡ kind.Input → (o' : List ℕ) → o' ≡ put o (2 * k) ws → o' ≡ with_words n x k ws o
-  input-stored e o' q = rw e q
+  pub input-lent : z ≡ kind.Input → length (part o (2 * k) (2 * k + 2)) ≡ 2
+  input-lent e = part_length o (2 * k) (2 * k + 2) (omega (arith, input-fits e)) ∙ omega arith
 
-  pub latch_stored : x ≡ kind.Latch → (o' : List ℕ) → o' ≡ put o (2 * (n.inputs + k)) ws → o' ≡ with_words n x k ws o
-  latch_stored e o' q = rw e q
+  pub latch_lent : z ≡ kind.Latch → length (part o (2 * (n.inputs + k)) (2 * (n.inputs + k) + 2)) ≡ 2
+  latch_lent e = part_length o (2 * (n.inputs + k)) (2 * (n.inputs + k) + 2) (omega (arith, latch_fits e)) ∙ omega arith
 
-  pub others-stay : (x ≡ kind.Output) ⊎ ((x ≡ kind.Bad) ⊎ (x ≡ kind.Constraint)) → o ≡ with_words n x k ws o
+module _ (n : AagCounts) (z : Kind) (k x y : ℕ) (o : List ℕ) where
+  abbrev ws : List ℕ
+  ws = x ∷ y ∷ []
+
+  pub input-stored : z ≡ kind.Input → (b : List ℕ) → b ≡ ws → put_mid (2 * k) (2 * k + 2 - 2 * k) o b ≡ with_words n z k ws o
+  input-stored e b q = rw (e, q) (pair_back o (2 * k) ws refl)
+
+  pub latch_stored : z ≡ kind.Latch → (b : List ℕ) → b ≡ ws
+      → put_mid (2 * (n.inputs + k)) (2 * (n.inputs + k) + 2 - 2 * (n.inputs + k)) o b ≡ with_words n z k ws o
+  latch_stored e b q = rw (e, q) (pair_back o (2 * (n.inputs + k)) ws refl)
+
+  pub others-stay : (z ≡ kind.Output) ⊎ ((z ≡ kind.Bad) ⊎ (z ≡ kind.Constraint)) → o ≡ with_words n z k ws o
   others-stay (inl e) = rw e
   others-stay (inr (inl e)) = rw e
   others-stay (inr (inr e)) = rw e

@@ -5,13 +5,12 @@ use mathlib.Core.List.{List, [], ◌∷◌, ◌++◌, map, append_assoc}
 use mathlib.Core.Option.{Option, some}
 use mathlib.Core.Path.{◌≡◌, refl, sym, ap, ◌∙◌}
 use native.Mathlib.Omega.{arith}
-use lib.ListN.{length, take, drop, length-append, length-drop}
-use lib.Seq.{drop-drop, length-take-le}
+use lib.ListN.{length, drop, length-append, length-drop}
+use lib.Seq.{drop-drop}
 use Rattle.lists.specs.Answer.{got, refused}
-use Rattle.lists.specs.Parts.{Bytes, put, front}
+use Rattle.lists.specs.Parts.{Bytes, front}
 use Rattle.lists.specs.Words.{words_of}
 use Rattle.lists.proofs.AnswerLaws.{got-refused}
-use Rattle.lists.proofs.PartLaws.{put-drop}
 use Rattle.lists.proofs.WordLaws.{words-length}
 use Rattle.text.specs.declared.Reader.TheVariants.{Witness}
 use Rattle.text.specs.Lines.{lines_of}
@@ -111,8 +110,8 @@ module _ (s : Bytes) (n : AagCounts) (w₀ : List ℕ) where
     pub load-behind : Behind s c
     load-behind = behind_then s r c headed.behind k
 
-    module _ (w₁ : List ℕ) (b : LoadsBody r n w₀ (leaf_words n) w₁ c) where
-      loaded : (x : Sections) (k : Taken s n x) → (w₁ ≡ put w₀ (leaf_words n) (body_words k.1.body)) × (lines_of c ≡ k.1.body.rest)
+    module _ (d : List ℕ) (b : LoadsBody r n d c) where
+      loaded : (x : Sections) (k : Taken s n x) → (d ≡ body_words k.1.body) × (lines_of c ≡ k.1.body.rest)
       loaded x k = b k.1.body (ap (body_of n) (sym headed.rest) ∙ k.1.takes)
 
       pub load_past : Loadable s n w₀ → length c < length s
@@ -122,20 +121,18 @@ module _ (s : Bytes) (n : AagCounts) (w₀ : List ℕ) where
           omega (arith, ap length (loaded a.sections k).1, body_shorter n (drop 1 (lines_of s)) k.1.body (body-parts n (drop 1 (lines_of s)) k.1.body k.1.takes)) in
           rw load-behind.is (past s load-behind.size (lines_of s) refl n k.1.heads (rw load-behind.is at fewer))
 
-      pub load-done : (v : List ℕ) → length v ≡ length (take (leaf_words n) w₁) → length w₁ ≡ length w₀ → LoadsNames s c n v → LoadsText s n w₀ (v ++ drop (leaf_words n) w₁)
-      load-done v e f g x a =
+      -- the names' words and the body's, and the words behind them as they were
+      pub load-done : (v : List ℕ) → length v ≡ leaf_words n → length d ≡ body_room n → LoadsNames s c n v → (behind : List ℕ) → behind ≡ drop (leaf_words n) w₀
+          → LoadsText s n w₀ (v ++ (d ++ drop (body_room n) behind))
+      load-done v e f g behind q x a =
           let k = text_taken s n w₀ x a in
-          let d : List ℕ = body_words k.1.body in
-          let room : leaf_words n ≤ length w₀ = omega (arith, load-room (record { sections = x; accepted = a })) in
-          let size : length v ≡ leaf_words n = e ∙ length-take-le (leaf_words n) w₁ (omega arith) in
-          let end : length (v ++ d) ≡ leaf_words n + length d = length-append v d ∙ rw size in
+          let end : leaf_words n + body_room n ≡ length (v ++ d) = omega (arith, length-append v d, e, f) in
           record {
             name_words = v;
-            count = size ∙ ap leaf_words a.counts;
+            count = e ∙ ap leaf_words a.counts;
             names = g k.1.tail (ap (symbols_of n) (loaded x k).1 ∙ k.1.names) ∙ ap (map some) (names_same s n x k);
             stand =
-                ap (λ (l : List ℕ). v ++ drop (leaf_words n) l) (loaded x k).0
-                ∙ ap (λ (l : List ℕ). v ++ l) (put-drop w₀ (leaf_words n) d room ∙ ap (λ (l : List ℕ). d ++ l) (drop-drop (length d) (leaf_words n) w₀ ∙ ap (λ (j : ℕ). drop j w₀) (sym end)))
+                ap (λ (l : List ℕ). v ++ (d ++ l)) (ap (drop (body_room n)) q ∙ drop-drop (body_room n) (leaf_words n) w₀ ∙ ap (λ (j : ℕ). drop j w₀) end)
                 ∙ sym (append_assoc v d (drop (length (v ++ d)) w₀))
-                ∙ ap (λ (l : List ℕ). front w₀ (v ++ l)) (sym (literals-same s n x k));
+                ∙ ap (λ (l : List ℕ). front w₀ (v ++ l)) ((loaded x k).0 ∙ sym (literals-same s n x k));
           }

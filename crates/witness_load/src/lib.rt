@@ -6,13 +6,12 @@ ghost use Rattle.lists.specs.Parts.{Bytes, put, zeros};
 ghost use Rattle.text.specs.declared.Reader.TheVariants.{Witness};
 ghost use Rattle.text.specs.Lines.{lines_of};
 ghost use Rattle.text.specs.Inner.Fronts.{Behind};
-ghost use Rattle.circuit_lines.specs.SectionLines.{literal_line};
 ghost use Rattle.text.specs.Texts.{limited};
 ghost use Rattle.witness_text.specs.Header.{counted};
 ghost use Rattle.witness_text.specs.Symbols.{count_of};
 ghost use Rattle.witness_read.specs.Reading.{read_aag};
 ghost use Rattle.witness_load.specs.Inner.Loaded.{operand_words, Loads};
-ghost use Rattle.witness_load.specs.Inner.Loading.{stored_words, literal_word, LoadsSection, rest_room, LoadsRest, body_room, LoadsBody, leaf_words, with_words, StandsAt, NamesLine, LoadsNames, Loadable, LoadsText};
+ghost use Rattle.witness_load.specs.Inner.Loading.{stored_words, LoadsSection, rest_room, LoadsRest, body_room, LoadsBody, leaf_words, with_words, StandsAt, NamesLine, LoadsNames, Loadable, LoadsText};
 
 use aiger::{Gate, Refusal};
 use circuit_lines::{GateLine, LiteralLine, TakeLine};
@@ -20,6 +19,7 @@ use text::Reader;
 use witness_text::{AagCounts, Kind, Latch, LatchLine};
 
 // The text behind the first n lines, or behind all where there are fewer.
+// Kept (buffer): n lines are passed, as the header counts them, and no slice has that length.
 fn pass_lines(s: &[u8], n: usize) -> &[u8]
     ensures lines { lines_of result.now ≡ drop n (lines_of s.now) }
     ensures behind { Behind s.now result.now }
@@ -34,12 +34,13 @@ fn pass_lines(s: &[u8], n: usize) -> &[u8]
     left
 }
 
-fn store_pair(out: &mut [u64], at: usize, x: u64, y: u64)
-    requires { at + 1 < length out.old }
-    ensures { out.new ≡ put out.old at (x ∷ y ∷ []) }
+// Stores the two words of a pair.
+fn store_pair(pair: &mut [u64], x: u64, y: u64)
+    requires { length pair.old ≡ 2 }
+    ensures { pair.new ≡ x ∷ y ∷ [] }
 {
-    out[at] = x;
-    out[at + 1] = y;
+    pair[0] = x;
+    pair[1] = y;
 }
 
 // A kind of line whose item is stored as two words.
@@ -74,69 +75,49 @@ impl PairLine for GateLine {
     }
 }
 
-// The pairs of the first n lines, stored from a place on, and the text behind them.
-fn load_pairs<'a, K: PairLine>(
-    kind: K,
-    s: &'a [u8],
-    n: usize,
-    out: &mut [u64],
-    at: usize,
-) -> Option<&'a [u8]>
-    requires { at + 2 * n ≤ length out.old }
-    ensures { LoadsSection (K.item kind) K.words s.now n out.old at out.new result }
+// The pairs of the first lines, as many as `out` has room for, and the text behind them.
+fn load_pairs<'a, K: PairLine>(kind: K, s: &'a [u8], out: &mut [u64]) -> Option<&'a [u8]>
+    ensures { (n : ℕ) → length out.old ≡ 2 * n → LoadsSection (K.item kind) K.words s.now n out.new result }
 {
     let mut left = s;
-    for i in 0..n {
+    for i in 0..out.len() / 2 {
         let line = kind.take(left)?;
         let (x, y) = K::pair(line.value);
-        store_pair(out, at + 2 * i, x, y);
+        store_pair(&mut out[2 * i..2 * i + 2], x, y);
         left = line.rest;
     }
     Some(left)
 }
 
-// The literals of the first n lines, stored from a place on, and the text behind them.
-fn load_literals<'a>(s: &'a [u8], n: usize, out: &mut [u64], at: usize) -> Option<&'a [u8]>
-    requires { at + n ≤ length out.old }
-    ensures { LoadsSection (literal_line Witness) literal_word s.now n out.old at out.new result }
-{
-    let end = at + n;
-    let kind = LiteralLine {
-        reader: Reader::Witness,
-    };
-    circuit_lines::take_lines(kind, s, &mut out[at..end])
-}
-
-// Outputs, bads, constraints and gates, stored from a place on, and the text behind them.
-fn load_rest<'a>(s: &'a [u8], counts: AagCounts, out: &mut [u64], at: usize) -> &'a [u8]
-    requires { at + rest_room counts ≤ length out.old }
-    ensures words { LoadsRest s.now counts out.old at out.new result.now }
+// Outputs, bads, constraints and gates, and the text behind them.
+fn load_rest<'a>(s: &'a [u8], counts: AagCounts, out: &mut [u64]) -> &'a [u8]
+    requires { length out.old ≡ rest_room counts }
+    ensures words { LoadsRest s.now counts out.new result.now }
     ensures behind { Behind s.now result.now }
 {
-    let count = counts.outputs + counts.bads + counts.constraints;
-    let Some(gates) = load_literals(s, count, out, at) else {
+    let (literals, pairs) = out.split_at_mut(counts.outputs + counts.bads + counts.constraints);
+    let reader = Reader::Witness;
+    let Some(gates) = circuit_lines::take_lines(LiteralLine { reader }, s, literals) else {
         return s;
     };
-    let kind = GateLine {
-        reader: Reader::Witness,
-    };
-    let Some(rest) = load_pairs(kind, gates, counts.gates, out, at + count) else {
+    let Some(rest) = load_pairs(GateLine { reader }, gates, pairs) else {
         return s;
     };
     rest
 }
 
-// The literals of all sections but the inputs, stored from a place on, and the text behind the sections.
-fn load_body<'a>(s: &'a [u8], counts: AagCounts, out: &mut [u64], at: usize) -> &'a [u8]
-    requires { at + body_room counts ≤ length out.old }
-    ensures words { LoadsBody s.now counts out.old at out.new result.now }
+// The literals of all sections but the inputs, and the text behind the sections.
+fn load_body<'a>(s: &'a [u8], counts: AagCounts, out: &mut [u64]) -> &'a [u8]
+    requires { length out.old ≡ body_room counts }
+    ensures words { LoadsBody s.now counts out.new result.now }
     ensures behind { Behind s.now result.now }
 {
+    let (pairs, others) = out.split_at_mut(2 * counts.latches);
     let latches = pass_lines(s, counts.inputs);
-    let Some(rest) = load_pairs(LatchLine {}, latches, counts.latches, out, at) else {
+    let Some(rest) = load_pairs(LatchLine {}, latches, pairs) else {
         return s;
     };
-    load_rest(rest, counts, out, at + 2 * counts.latches)
+    load_rest(rest, counts, others)
 }
 
 // Two words of an input or a latch; the other kinds have none.
@@ -146,8 +127,11 @@ fn store_leaf(counts: AagCounts, kind: Kind, index: usize, x: u64, y: u64, out: 
     ensures { out.new ≡ with_words counts kind index (x ∷ y ∷ []) out.old }
 {
     match kind {
-        Kind::Input => store_pair(out, 2 * index, x, y),
-        Kind::Latch => store_pair(out, 2 * (counts.inputs + index), x, y),
+        Kind::Input => store_pair(&mut out[2 * index..2 * index + 2], x, y),
+        Kind::Latch => {
+            let at = 2 * (counts.inputs + index);
+            store_pair(&mut out[at..at + 2], x, y)
+        }
         Kind::Output | Kind::Bad | Kind::Constraint => {}
     }
 }
@@ -207,9 +191,11 @@ pub fn load(s: &[u8], known: AagCounts, words: &mut [u64])
     let Some(header) = witness_text::take_witness_header(s) else {
         return;
     };
-    let names = 2 * (known.inputs + known.latches);
-    let symbols = load_body(header.rest, known, words, names);
-    load_names(s, symbols, known, &mut words[..names]);
+    let (names, behind) = words.split_at_mut(2 * (known.inputs + known.latches));
+    let others = known.outputs + known.bads + known.constraints + 2 * known.gates;
+    let body = &mut behind[..2 * known.latches + others];
+    let symbols = load_body(header.rest, known, body);
+    load_names(s, symbols, known, names);
 }
 
 // Whether so many words are enough for sections with these counts. The numbers of outputs, bads and constraints are not added, since their sum may pass 2^64.

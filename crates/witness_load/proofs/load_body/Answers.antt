@@ -1,9 +1,11 @@
-use Rattle.text.proofs.LineLaws.{behind-none}
 use Rattle.witness_load.proofs.BodyLaws.{body_no_latches, body-loaded, body-behind}
 use Rattle.witness_load.proofs.load_body.Goals as goal
 
-pub returns-in_default : goal.returns-in_default
-returns-in_default c = record { words = search (body_no_latches, c.in_default.ensures); behind = behind-none _ }
+pub returns-in_default-clause-words : goal.returns-in_default-clause-words
+returns-in_default-clause-words c = search (body_no_latches, c.in_default.ensures c.args.counts.latches c.split_at_mut-pairs.ensures.front_len)
 
-pub returns : goal.returns
-returns c = record { words = search (body-loaded, c.in-Some.ensures); behind = search (body-behind, c.in-Some.ensures) }
+pub returns-clause-words : goal.returns-clause-words
+returns-clause-words c = search (body-loaded, c.in-Some.ensures c.args.counts.latches c.split_at_mut-pairs.ensures.front_len)
+
+pub returns-clause-behind : goal.returns-clause-behind
+returns-clause-behind c = search (body-behind, c.in-Some.ensures c.args.counts.latches c.split_at_mut-pairs.ensures.front_len)

@@ -31,17 +31,13 @@ use Rattle.witness_load.specs.Inner.Loaded.{name_from, operand_words, word_count
 abbrev pub stored_words : Latch → List ℕ
 stored_words q = q.next ∷ q.reset ∷ []
 
--- the word of a line with one literal
-abbrev pub literal_word : ℕ → List ℕ
-literal_word x = x ∷ []
-
-module _ {A : Type 0} (item : Bytes → Answer A) (words : A → List ℕ) (s : Bytes) (n : ℕ) (o₀ : List ℕ) (at : ℕ) (o : List ℕ) where
-  -- the section of the first n lines was taken, the text r stands behind it, and its items' words stand in o₀ from a place on
+module _ {A : Type 0} (item : Bytes → Answer A) (words : A → List ℕ) (s : Bytes) (n : ℕ) (o : List ℕ) where
+  -- the section of the first n lines was taken, the text r stands behind it, and o is its items' words
   pub record Stored (r : Bytes) : Type 0 where
     pub items : List A
     pub takes : section item n (lines_of s) ≡ got (record { items = items; rest = lines_of r })
     pub behind : Behind s r
-    pub stand : o ≡ put o₀ at (words_of words items)
+    pub stand : o ≡ words_of words items
 
   abbrev pub LoadsSection : option.Option (Bor Bytes) → Type 0
   LoadsSection (Some r) = Stored r.now
@@ -54,12 +50,12 @@ literal_count n = n.outputs + n.bads + n.constraints
 abbrev pub rest_room : AagCounts → ℕ
 rest_room n = literal_count n + 2 * n.gates
 
--- where both sections are good, their words stand in o₀ from a place on, and the lines behind them are those of the text r
-abbrev pub LoadsRest : Bytes → AagCounts → List ℕ → ℕ → List ℕ → Bytes → Type 0
-LoadsRest s n o₀ at o r =
+-- where both sections are good, o is their words, and the lines behind them are those of the text r
+abbrev pub LoadsRest : Bytes → AagCounts → List ℕ → Bytes → Type 0
+LoadsRest s n o r =
     (literals : Section ℕ) (gates : Section Gate) → section (literal_line Witness) (literal_count n) (lines_of s) ≡ got literals
     → section (gate_line Witness) n.gates literals.rest ≡ got gates
-    → (o ≡ put o₀ at (literals.items ++ words_of operand_words gates.items)) × (lines_of r ≡ gates.rest)
+    → (o ≡ literals.items ++ words_of operand_words gates.items) × (lines_of r ≡ gates.rest)
 
 -- the literals of all sections but the inputs, and how many there are
 abbrev pub body_words : Body → List ℕ
@@ -68,9 +64,9 @@ body_words d = words_of stored_words d.latches ++ (d.outputs ++ (d.bads ++ (d.co
 abbrev pub body_room : AagCounts → ℕ
 body_room n = 2 * n.latches + rest_room n
 
--- where the sections are good, they stand in o₀ from a place on, and the lines behind them are those of the text r
-abbrev pub LoadsBody : Bytes → AagCounts → List ℕ → ℕ → List ℕ → Bytes → Type 0
-LoadsBody s n o₀ at o r = (d : Body) → body_of n (lines_of s) ≡ got d → (o ≡ put o₀ at (body_words d)) × (lines_of r ≡ d.rest)
+-- where the sections are good, o is their words, and the lines behind them are those of the text r
+abbrev pub LoadsBody : Bytes → AagCounts → List ℕ → Bytes → Type 0
+LoadsBody s n o r = (d : Body) → body_of n (lines_of s) ≡ got d → (o ≡ body_words d) × (lines_of r ≡ d.rest)
 
 -- ---- names
 
