@@ -2,16 +2,15 @@
 #![tactic(auto)]
 
 ghost use Rattle.std.specs.Prelude.{ℕ, List, refl, true, [], ◌∷◌, ◌≡◌, ◌+◌, ◌*◌, ◌≤◌, ◌<◌, leb, length, drop};
-ghost use Rattle.lists.specs.Parts.{Bytes, put, zeros};
+ghost use Rattle.lists.specs.Parts.{Bytes, zeros};
 ghost use Rattle.text.specs.declared.Reader.TheVariants.{Witness};
 ghost use Rattle.text.specs.Lines.{lines_of};
 ghost use Rattle.text.specs.Inner.Fronts.{Behind};
 ghost use Rattle.text.specs.Texts.{limited};
 ghost use Rattle.witness_text.specs.Header.{counted};
-ghost use Rattle.witness_text.specs.Symbols.{count_of};
 ghost use Rattle.witness_read.specs.Reading.{read_aag};
 ghost use Rattle.witness_load.specs.Inner.Loaded.{operand_words, Loads};
-ghost use Rattle.witness_load.specs.Inner.Loading.{stored_words, LoadsSection, rest_room, LoadsRest, body_room, LoadsBody, leaf_words, with_words, StandsAt, NamesLine, LoadsNames, Loadable, LoadsText};
+ghost use Rattle.witness_load.specs.Inner.Loading.{stored_words, LoadsSection, rest_room, LoadsRest, body_room, LoadsBody, leaf_words, StandsAt, NamesLine, LoadsNames, Loadable, LoadsText};
 
 use aiger::{Gate, Refusal};
 use circuit_lines::{GateLine, LiteralLine, TakeLine};
@@ -120,23 +119,8 @@ fn load_body<'a>(s: &'a [u8], counts: AagCounts, out: &mut [u64]) -> &'a [u8]
     load_rest(rest, counts, others)
 }
 
-// Two words of an input or a latch; the other kinds have none.
-// Kept (switch): each kind has its place among the words.
-fn store_leaf(counts: AagCounts, kind: Kind, index: usize, x: u64, y: u64, out: &mut [u64])
-    requires { (index < count_of counts kind) × (length out.old ≡ leaf_words counts) }
-    ensures { out.new ≡ with_words counts kind index (x ∷ y ∷ []) out.old }
-{
-    match kind {
-        Kind::Input => store_pair(&mut out[2 * index..2 * index + 2], x, y),
-        Kind::Latch => {
-            let at = 2 * (counts.inputs + index);
-            store_pair(&mut out[at..at + 2], x, y)
-        }
-        Kind::Output | Kind::Bad | Kind::Constraint => {}
-    }
-}
-
 // Stores where the name of a symbol line stands, which begins at a place of the text. False where it is refused.
+// Kept (switch): inputs and latches have their places among the words, and the other kinds have none.
 fn name_line(start: usize, l: &[u8], counts: AagCounts, out: &mut [u64]) -> bool
     requires { (start + length l.now < 18446744073709551616) × (length out.old ≡ leaf_words counts) }
     ensures { (s : Bytes) → StandsAt s l.now start → NamesLine s l.now counts out.old out.new result }
@@ -146,14 +130,12 @@ fn name_line(start: usize, l: &[u8], counts: AagCounts, out: &mut [u64]) -> bool
     };
     let size = symbol.name.len();
     let place = start + (l.len() - size);
-    store_leaf(
-        counts,
-        symbol.kind,
-        symbol.index,
-        place as u64,
-        size as u64,
-        out,
-    );
+    let leaf = match symbol.kind {
+        Kind::Input => symbol.index,
+        Kind::Latch => counts.inputs + symbol.index,
+        Kind::Output | Kind::Bad | Kind::Constraint => return true,
+    };
+    store_pair(&mut out[2 * leaf..2 * leaf + 2], place as u64, size as u64);
     true
 }
 

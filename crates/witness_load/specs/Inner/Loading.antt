@@ -5,7 +5,7 @@ use Rattle.std.specs.Borrow.{Bor}
 use Rattle.std.specs.declared.option.Option as option
 use Rattle.std.proofs.Math.Option.{Option, some}
 use Rattle.lists.specs.Answer.{Answer, got, refused}
-use Rattle.lists.specs.Parts.{Bytes, part, put}
+use Rattle.lists.specs.Parts.{Bytes, part}
 use Rattle.lists.specs.Words.{pairs_of, words_of}
 use Rattle.text.specs.Texts.{limited}
 use Rattle.text.specs.declared.Reader.TheVariants.{Witness}
@@ -73,14 +73,6 @@ LoadsBody s n o r = (d : Body) → body_of n (lines_of s) ≡ got d → (o ≡ b
 -- two words for each input and each latch
 abbrev pub leaf_words : AagCounts → ℕ
 leaf_words n = 2 * (n.inputs + n.latches)
-
--- the words of one of them stored in o
-abbrev pub with_words : AagCounts → Kind → ℕ → List ℕ → List ℕ → List ℕ
-with_words n kind.Input k ws o = put o (2 * k) ws
-with_words n kind.Latch k ws o = put o (2 * (n.inputs + k)) ws
-with_words n kind.Output k ws o = o
-with_words n kind.Bad k ws o = o
-with_words n kind.Constraint k ws o = o
 
 module _ {A : Type 0} where
   -- the name of one of them among the names of all
