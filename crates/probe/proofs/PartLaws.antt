@@ -47,6 +47,6 @@ module _ (s : Bytes) (at : ℕ) where
       let rest : r ≡ drop n (drop start s) = k.stands.rest ∙ ap (λ (x : Bytes). drop (span in_field x) x) from-start in
       let size : length f ≡ n = omega (arith, ap length field, length-take n (drop start s), span_le in_field (drop start s)) in
       let end : length s - length r ≡ start + n =
-          omega (arith, inside, ap length rest, length-drop n (drop start s), length-drop start s, span_le in_field (drop start s)) in
+      omega (arith, inside, ap length rest, length-drop n (drop start s), length-drop start s, span_le in_field (drop start s)) in
       let begin : length s - length r - length f ≡ start = omega (arith, end, size) in
       rw (lt-ltb start (length s) inside, begin, end)
