@@ -512,7 +512,8 @@ reasons did not convince, or have a plainer form, which is to be tried; places t
 - `leaf` of the counts for the two matches on kinds (`store_leaf`, `name_first`); `Space` away, by counts that saturate (`cnf`).
 - Left over: `block_end` of `scan`, `write_byte`, `write_bytes` and `write_decimal` of `text_decimal` (the probe could use `Printer`), `lists::clear`
   beside `fill`; lines at `compose_cases` (lent by range), at `replay_text/src/form.rt` and at `count` of `Claims`, which need none.
-- Speed: reading a lock of one gate takes some 250 instructions more than before (`read: K`).
+- Speed: reading a lock of one gate takes some 250 instructions more than before (`read: K`, 1.18 of the Rust and 1.08 before); `line_length` of
+  `scan` takes longer for a short line than `line_end` did (`witness read: comments 10000 bytes, empty lines`, 0.10 and 0.04).
 - Answers (point 8): not every one was left out and tried, in the readers and the composer.
 
 '''
