@@ -21,19 +21,19 @@ use Rattle.circuit_lines.specs.Inner.Takes.{SectionTaken}
 -- ---- one literal
 
 module _ (reader : Reader) (s : Bytes) where
-  none_taken : Refuses reader s → section (literal_line reader) 1 (lines_of s) ≡ refused 8
-  none_taken (ended e) = ap (section (literal_line reader) 1) e
-  none_taken (bad l ls e k) = ap (section (literal_line reader) 1) e ∙ rw k
+  none_taken : (r : Bytes) → Refuses reader s r → section (literal_line reader) 1 (lines_of s) ≡ refused 8
+  none_taken r (ended e u) = ap (section (literal_line reader) 1) e
+  none_taken r (bad l k u) = ap (section (literal_line reader) 1) k.lines ∙ rw u
 
   -- what `take_literal` says of the section of one line
   module _ (p : Parsed (Option ℕ)) (q : TakesLiteral reader s p) where
     pub no_line : p.value ≡ None → section (literal_line reader) 1 (lines_of s) ≡ refused 8
-    no_line u = none_taken (literal-refuses reader s p q u)
+    no_line u = none_taken p.rest.now (literal-refuses reader s p q u)
 
     pub line_taken : (v : ℕ) → p.value ≡ Some v → SectionTaken (literal_line reader) s 1 (v ∷ []) p.rest.now
     line_taken v u =
         let g = literal-gets reader s p q v u in
-        record { section = ap (section (literal_line reader) 1) g.lines ∙ rw g.value; behind = literal-behind reader s p q }
+        record { section = ap (section (literal_line reader) 1) g.passed.lines ∙ rw g.value; behind = literal-behind reader s p q }
 
 -- ---- take_lines
 

@@ -8,7 +8,7 @@ use mathlib.Core.Path.{◌≡◌, refl, ap, sym, ◌∙◌}
 use native.Mathlib.Omega.{arith}
 use lib.ListN.{length, take, drop}
 use Rattle.lists.specs.Parts.{Bytes}
-use Rattle.scan.specs.Spans.{span}
+use Rattle.scan.specs.Spans.{span, in_line}
 use Rattle.text.specs.declared.Reader.{Reader}
 use Rattle.text.specs.declared.Parsed.{Parsed}
 use Rattle.text.specs.declared.Taken.{Taken}
@@ -18,7 +18,7 @@ use Rattle.text.specs.Lines.{lines_of, line_size}
 use Rattle.text.specs.Fields.{in_field, fields_of}
 use Rattle.text.specs.Literals.{with_number, numbers_of, one_of, literal_of, first_literal}
 use Rattle.text.specs.Inner.Fronts.{Behind, LineTaken, from_field, TakesField, TakesNumber, TakesLiteral}
-use Rattle.text.proofs.LineLaws.{lines-some, lines-behind}
+use Rattle.text.proofs.LineLaws.{lines-some, line-less, line-behind}
 use Rattle.text.proofs.FieldLaws.{fields_none, fields_some}
 
 -- ---- what a number that was taken says of the fields and the numbers of a line
@@ -107,36 +107,46 @@ literal-line reader s l r k v u = record { value = u ∙ sym (ap (first_literal 
 
 -- ---- what a literal that was taken says of the lines of a text
 
--- the first line is the literal v, and the other lines are those of r
+-- the first line of s is l, and r is what stands behind it
+pub record Passed (s l r : Bytes) : Type 0 where
+  pub lines : lines_of s ≡ l ∷ lines_of r
+  pub moves : length r < length s
+  pub behind : Behind s r
+
+-- no line is left and the text stays, or the first line is refused and passed
+pub data Refuses (reader : Reader) (s r : Bytes) : Type 0 where
+  ended : lines_of s ≡ [] → r ≡ s → Refuses reader s r
+  bad : (l : Bytes) → Passed s l r → literal_of reader l ≡ None → Refuses reader s r
+
+-- the first line is the literal v, and it is passed
 pub record Gets (reader : Reader) (s : Bytes) (v : ℕ) (r : Bytes) : Type 0 where
   pub line : Bytes
-  pub lines : lines_of s ≡ line ∷ lines_of r
+  pub passed : Passed s line r
   pub value : literal_of reader line ≡ Some v
 
--- no line is left, or the first line is refused
-pub data Refuses (reader : Reader) (s : Bytes) : Type 0 where
-  ended : lines_of s ≡ [] → Refuses reader s
-  bad : (l : Bytes) (ls : List Bytes) → lines_of s ≡ l ∷ ls → literal_of reader l ≡ None → Refuses reader s
-
 module _ (reader : Reader) (s : Bytes) (p : Parsed (Option ℕ)) (q : TakesLiteral reader s p) where
-  gets : (ls : List Bytes) → lines_of s ≡ ls → (v : ℕ) → first_literal reader ls ≡ Some v → Gets reader s v p.rest.now
-  gets [] e v u = let z : ◌≡◌ {A = ℕ} 0 1 = cc in absurd (omega arith)
-  gets (l ∷ ls) e v u =
-      record {
-        line = l;
-        lines = e ∙ ap (λ (x : List Bytes). l ∷ x) (sym (ap lines_of q.rest ∙ lines-behind s ∙ ap (drop 1) e));
-        value = u;
-      }
+  first_passed : 0 < length s → Passed s (take (span in_line s) s) p.rest.now
+  first_passed h =
+      let k : LineTaken s (take (span in_line s) s) p.rest.now = record { some_byte = h; line = refl; rest = q.rest } in
+      record { lines = lines-some s _ _ k; moves = line-less s _ _ k; behind = line-behind s _ _ k }
 
-  refuses : (ls : List Bytes) → lines_of s ≡ ls → first_literal reader ls ≡ None → Refuses reader s
-  refuses [] e u = ended e
-  refuses (l ∷ ls) e u = bad l ls e u
+  -- what was taken is what the first line is
+  value-is : (l : Bytes) → Passed s l p.rest.now → (x : Option ℕ) → p.value ≡ x → literal_of reader l ≡ x
+  value-is l k x u = sym (ap (first_literal reader) k.lines) ∙ sym q.value ∙ u
+
+  gets : (t : Bytes) → s ≡ t → (v : ℕ) → p.value ≡ Some v → Gets reader s v p.rest.now
+  gets [] e v u = let n : p.value ≡ None = q.value ∙ rw e in let z : ◌≡◌ {A = ℕ} 0 1 = cc in absurd (omega arith)
+  gets (b ∷ bs) e v u = let k = first_passed (omega (arith, ap length e)) in record { line = take (span in_line s) s; passed = k; value = value-is _ k (Some v) u }
+
+  refuses : (t : Bytes) → s ≡ t → p.value ≡ None → Refuses reader s p.rest.now
+  refuses [] e u = ended (ap lines_of e) (q.rest ∙ rw e)
+  refuses (b ∷ bs) e u = let k = first_passed (omega (arith, ap length e)) in bad (take (span in_line s) s) k (value-is _ k None u)
 
   pub literal-gets : (v : ℕ) → p.value ≡ Some v → Gets reader s v p.rest.now
-  literal-gets v k = gets (lines_of s) refl v (sym q.value ∙ k)
+  literal-gets v k = gets s refl v k
 
-  pub literal-refuses : p.value ≡ None → Refuses reader s
-  literal-refuses k = refuses (lines_of s) refl (sym q.value ∙ k)
+  pub literal-refuses : p.value ≡ None → Refuses reader s p.rest.now
+  literal-refuses k = refuses s refl k
 
   pub literal-behind : Behind s p.rest.now
   literal-behind = record { size = line_size s; is = q.rest }
