@@ -1,6 +1,6 @@
 -- Laws of `lines_of`: the first line of a text and the text behind it, for the code that takes lines.
 use Prim.Native.Nat.{ℕ, suc, ◌+◌, ◌<◌}
-use mathlib.Core.Path.{◌≡◌, refl, ap, ◌∙◌}
+use mathlib.Core.Path.{◌≡◌, refl, ap, sym, ◌∙◌}
 use mathlib.Core.List.{List, [], ◌∷◌, ◌++◌, append-nil}
 use mathlib.Core.Bool.{Bool, true, false}
 use native.Mathlib.Omega.{arith}
@@ -64,6 +64,13 @@ module _ (s l r : Bytes) (k : LineTaken s l r) where
 
   pub line-behind : Behind s r
   line-behind = record { size = line_size s; is = k.rest }
+
+-- what stands behind the first line has the other lines
+pub lines-behind : (s : Bytes) → lines_of (drop (line_size s) s) ≡ drop 1 (lines_of s)
+unfolding Cut
+lines-behind [] = refl
+lines-behind (b ∷ bs) =
+    ap lines_of (drop_min (suc (span in_line (b ∷ bs))) (b ∷ bs)) ∙ sym (ap (drop 1) (cut (b ∷ bs) (omega arith)))
 
 -- ---- bytes of a line in front of others, as lists
 
