@@ -85,6 +85,17 @@ fn write_field(to: &mut [u8], n: u64, end: u8)
     to[size] = end;
 }
 
+// Copies bytes over as many others.
+// Kept (loop): a caller in C need not have `memmove`, for which `copy_from_slice` would ask here; this is `memcpy`.
+fn copy(to: &mut [u8], bytes: &[u8])
+    requires { length to.old ≡ length bytes.now }
+    ensures { to.new ≡ bytes.now }
+{
+    for i in 0..to.len() {
+        to[i] = bytes[i];
+    }
+}
+
 // A number that stands for a word.
 pub trait Number: Copy {
     ghost value: { Self → ℕ };
@@ -144,7 +155,7 @@ impl<'a> Printer<'a> {
         ensures { PrintsOn self.old bytes.now self.new }
     {
         if let Some(at) = self.pass(bytes.len()) {
-            self.out[at..at + bytes.len()].copy_from_slice(bytes);
+            copy(&mut self.out[at..at + bytes.len()], bytes);
         }
     }
 
