@@ -2,15 +2,16 @@
 use Prim.Native.Nat.{ℕ, suc, ◌+◌, ◌≤◌, ◌<◌}
 use mathlib.Core.Path.{◌≡◌, refl, ap}
 use mathlib.Core.List.{List, [], ◌∷◌, ◌++◌}
-use mathlib.Core.Bool.{Bool, true, false, cond}
+use mathlib.Core.Bool.{Bool, true, false, cond, ◌&&◌}
 use native.Mathlib.Numerals.{add-one}
 use native.Mathlib.Omega.{arith}
-use borrow.Author.Tests.{ne_eqb}
+use lib.Dec.{leb}
+use borrow.Author.Tests.{le-leb, lt-leb, ne_eqb}
 use lib.ListN.{take, length, get_or, drop, drop_of_length-le, length-drop}
 use lib.Seq.{drop-cons}
 use Rattle.lists.specs.Tests.{all}
 use Rattle.lists.proofs.BoolLaws.{and_left, and_right}
-use Rattle.scan.specs.Spans.{span, in_line}
+use Rattle.scan.specs.Spans.{span, in_line, between}
 
 le_at : (q : Bool) (m n : ℕ) → m ≤ n → cond q (suc m) 0 ≤ suc n
 le_at true m n h = omega arith
@@ -33,6 +34,21 @@ module _ (p : ℕ → Bool) (s : List ℕ) (i : ℕ) where
 -- what a test of the code says of `in_line`
 pub line-goes : (b : ℕ) → (b ≡ 10 → ⊥) → in_line b ≡ true
 line-goes b h = simp (ne_eqb b 10 h)
+
+-- and of `between`
+module _ (low high b : ℕ) where
+  pub between_in : low ≤ b → b ≤ high → between low high b ≡ true
+  between_in h k = simp (le-leb low b h, le-leb b high k)
+
+  pub between-low : b < low → between low high b ≡ false
+  between-low h = simp (lt-leb low b h)
+
+  pub between_high : high < b → between low high b ≡ false
+  between_high h = high_out (leb low b)
+    where
+      high_out : (q : Bool) → (q && leb b high) ≡ false
+      high_out true = lt-leb b high h
+      high_out false = refl
 
 -- the byte at which a span ends does not satisfy p
 stop-at : (p : ℕ → Bool) (b : ℕ) (bs : List ℕ) → (span p bs < length bs → p (get_or bs (span p bs) 0) ≡ false)

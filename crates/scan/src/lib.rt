@@ -3,7 +3,7 @@
 
 ghost use Rattle.std.specs.Prelude.{ℕ, Bool, ◌≡◌, ◌≤◌, ◌+◌, min, leb, length, drop};
 ghost use Rattle.lists.specs.Tests.{all};
-ghost use Rattle.scan.specs.Spans.{span, in_line};
+ghost use Rattle.scan.specs.Spans.{span, in_line, between};
 ghost use Rattle.scan.specs.Allowed.{is_ascii, is_witness_byte, ends_in10};
 ghost use Rattle.scan.specs.Same.{same_bytes, begins_with};
 
@@ -119,6 +119,22 @@ pub fn passing<T: ByteTest>(s: &[u8]) -> usize
         }
     }
     s.len()
+}
+
+// Where a run of bytes from low to high ends; a place past the end stays.
+// Kept (loop): the bounds are the caller's, and a `ByteTest` has none of its own.
+pub fn run_end(s: &[u8], at: usize, low: u8, high: u8) -> usize
+    ensures { result ≡ at + span (between low high) (drop at s.now) }
+{
+    for i in at..s.len() {
+        if s[i] < low {
+            return i;
+        }
+        if high < s[i] {
+            return i;
+        }
+    }
+    at.max(s.len())
 }
 
 // How long the first line is, by blocks.
