@@ -6,7 +6,7 @@ ghost use Rattle.compose_gather.specs.Inner.Counts.{count_words, counts_at};
 use witness_text::AagCounts;
 
 // Stores the counts of witness w.
-pub(crate) fn store(counts: &mut [u64], w: usize, witness: AagCounts)
+pub fn store(counts: &mut [u64], w: usize, witness: AagCounts)
     requires { 9 * w + 8 < length counts.old }
     ensures { counts.new ≡ put counts.old (9 * w) (count_words witness) }
 {
@@ -26,7 +26,7 @@ pub(crate) fn store(counts: &mut [u64], w: usize, witness: AagCounts)
 }
 
 // The counts of witness w.
-pub(crate) fn counts_at(counts: &[u64], w: usize) -> AagCounts
+pub fn counts_at(counts: &[u64], w: usize) -> AagCounts
     requires { 9 * w + 8 < length counts.now }
     ensures { result ≡ counts_at counts.now w }
 {

@@ -7,7 +7,7 @@ ghost use Rattle.compose_gather.specs.Inner.Checking.{less, room_after, added_co
 ghost use Rattle.compose_gather.specs.Inner.Counts.{CanCheck, ChecksOne, ChecksAll};
 ghost use Rattle.compose_gather.specs.Inner.Gathered.{words_for, LoadableAt, LoadsAt, CanLoad, LoadsAll};
 
-mod counts;
+pub mod counts;
 pub mod literals;
 mod names;
 mod texts;
