@@ -14,7 +14,7 @@ mod texts;
 
 use aiger::Refusal;
 pub use names::name_at;
-pub use texts::{Texts, Witnesses};
+pub use texts::{Texts, Witnesses, text_at};
 use witness_text::AagCounts;
 
 // What is counted of all witnesses, and how much of the room the texts leave, where it is enough for them.

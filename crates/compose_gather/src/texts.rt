@@ -1,10 +1,21 @@
 // The witness texts of a call, and their counts once they are read.
-ghost use Rattle.std.specs.Prelude.{[], ◌≡◌, ◌/◌, ◌<◌, length, get_or};
+ghost use Rattle.std.specs.Prelude.{[], ◌≡◌, ◌/◌, ◌<◌, true, length, get_or};
+ghost use Rattle.lists.specs.Words.{in_order};
 ghost use Rattle.compose_spec.specs.Calling.{texts_in};
 ghost use Rattle.compose_gather.specs.Inner.Checking.{FewInOrder};
 ghost use Rattle.compose_gather.specs.Inner.Counts.{CountsOf, CountsListed};
 
 use witness_text::AagCounts;
+
+// The text of number w among those that the pairs cut out of some bytes.
+pub fn text_at<'a>(witnesses: &'a [u8], pairs: &[u64], w: usize) -> &'a [u8]
+    requires { (in_order 0 (length witnesses.now) pairs.now ≡ true) × (w < length pairs.now / 2) }
+    ensures { result.now ≡ get_or (texts_in witnesses.now pairs.now) w [] }
+{
+    let start = pairs[2 * w] as usize;
+    let size = pairs[2 * w + 1] as usize;
+    crate::piece(witnesses, start, size)
+}
 
 // Texts one after the other in lent bytes, and the pairs that cut them out.
 #[derive(Clone, Copy)]
@@ -27,9 +38,7 @@ impl<'a> Texts<'a> {
         requires { w < length self.now.pairs.now / 2 }
         ensures { result.now ≡ get_or (texts_in self.now.bytes.now self.now.pairs.now) w [] }
     {
-        let start = self.pairs[2 * w] as usize;
-        let size = self.pairs[2 * w + 1] as usize;
-        crate::piece(self.bytes, start, size)
+        text_at(self.bytes, self.pairs, w)
     }
 }
 

@@ -1,5 +1,5 @@
 use Rattle.compose_gather.proofs.TextLaws.{text_ends, text_is_lem}
-use Rattle.compose_gather.proofs.texts.Texts.text.Goals as goal
+use Rattle.compose_gather.proofs.texts.text_at.Goals as goal
 
 pub piece-requires : goal.piece-requires
 piece-requires c = search text_ends
