@@ -86,7 +86,7 @@ fn write_field(to: &mut [u8], n: u64, end: u8)
 }
 
 // Copies bytes over as many others.
-// Kept (loop): a caller in C need not have `memmove`, for which `copy_from_slice` would ask here; this is `memcpy`.
+// Kept (loop): `copy_from_slice` would ask callers in C for one more function, which moves bytes within a buffer; this asks for none.
 fn copy(to: &mut [u8], bytes: &[u8])
     requires { length to.old ≡ length bytes.now }
     ensures { to.new ≡ bytes.now }
