@@ -51,6 +51,9 @@ pub fn write_bytes(out: &mut [u8], at: usize, bytes: &[u8]) -> Option<usize>
     ensures { (result ≡ written_at (length out.old) at bytes.now) × (out.new ≡ written out.old at bytes.now) }
 {
     let end = end_within(out.len(), at, bytes.len())?;
-    out[at..end].copy_from_slice(bytes);
+    // Kept (loop): as in `copy` of `text_print`.
+    for i in 0..bytes.len() {
+        out[at + i] = bytes[i];
+    }
     Some(end)
 }
