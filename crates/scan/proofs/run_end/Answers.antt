@@ -1,5 +1,4 @@
-use mathlib.Core.Path.{refl, sym, ◌∙◌}
-use native.Mathlib.Omega.{arith}
+use mathlib.Core.Path.{refl}
 use Rattle.std.proofs.Common.{rules}
 use Rattle.scan.proofs.SpanLaws.{between_in, between-low, between_high, span_in, span_out, span-end}
 use Rattle.scan.proofs.run_end.Goals as goal
